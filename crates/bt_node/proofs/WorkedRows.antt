@@ -1,4 +1,4 @@
--- Worked trees: what a packet makes of a small tree, computed.
+-- Worked trees: small trees after packets, computed.
 use Rattle.std.specs.Prelude.{◌≡◌, ℕ, true, false, List, [], ◌∷◌, ℤ, pos}
 use Rattle.std.proofs.Common.{refl}
 use Rattle.std.specs.declared.option.Option.{Option}
@@ -61,12 +61,12 @@ all_are_marked = refl
 four_puts : sunk meaning shape empty (puts 1 10 ∷ puts 2 20 ∷ puts 3 30 ∷ puts 4 40 ∷ []) ≡ split_leaf
 four_puts = refl
 
--- of two counts of 2 the left child is flushed, and the right one's messages are pending
+-- with 2 messages each, the left child is flushed, and the right one's stay pending
 tie_flushes_left : sunk meaning shape split_leaf (puts 1 11 ∷ puts 2 21 ∷ puts 3 31 ∷ puts 4 41 ∷ [])
     ≡ inner (node [] (two 1 11 2 21) (node (k 3) (two 3 30 4 40) none)) (puts 3 31 ∷ puts 4 41 ∷ [])
 tie_flushes_left = refl
 
--- of counts 1 and 3 the right child takes its three
+-- with 1 and 3 messages, the right child takes its three
 fullest_is_right : sunk meaning shape (sunk meaning shape split_leaf (puts 5 50 ∷ puts 6 60 ∷ puts 1 11 ∷ [])) (puts 7 70 ∷ []) ≡ four_leaves
 fullest_is_right = refl
 
@@ -86,7 +86,7 @@ buffer_of_one : sunk meaning (record { fanout = 4; buffer = 1; leaf = 2; measure
     ≡ inner (node [] (two 1 11 2 20) (node (k 3) (two 3 30 4 40) none)) (puts 4 41 ∷ [])
 buffer_of_one = refl
 
--- all that comes goes to the right child
+-- all messages go to the right child
 right_takes_all : sunk meaning shape split_leaf (puts 3 31 ∷ puts 4 41 ∷ puts 5 51 ∷ puts 6 61 ∷ [])
     ≡ inner (node [] (two 1 10 2 20) (node (k 3) (two 3 31 4 41) (node (k 5) (two 5 51 6 61) none))) []
 right_takes_all = refl
@@ -111,7 +111,7 @@ upserts_held = refl
 three_go_down : sunk meaning shape upserts_wait (adds 2 7 ∷ []) ≡ inner (node [] (two 1 20 2 27) (node (k 3) (two 3 30 4 40) none)) (puts 4 0 ∷ [])
 three_go_down = refl
 
--- what an upsert adds to, where a put and a del come before it
+-- upserts after a put and a del
 after_others : rows_after effect (puts 1 10 ∷ dels 1 ∷ adds 1 5 ∷ adds 1 6 ∷ []) (entry 1 1 ∷ []) ≡ entry 1 11 ∷ []
 after_others = refl
 
@@ -148,7 +148,7 @@ row_changes_held : holds (effect_of ops.merged) (inner row_leaves (row_change 1 
     ≡ row_at 1 20 ∷ row_at 2 20 ∷ row_at 3 30 ∷ row_at 4 0 ∷ []
 row_changes_held = refl
 
--- the default row, changed, where there is none
+-- if there is no row, the default row is changed
 row_begun : tree_value (effect_of ops.merged) (k 9) (inner row_leaves (row_change 9 7 ∷ [])) ≡ Some (quantity 9 7)
 row_begun = refl
 
@@ -213,7 +213,7 @@ not_there = refl
 
 -- ---- nothing is pending
 
--- both messages have gone down: a new value at key 4, and a row more in the last leaf
+-- both messages have gone down: a new value at key 4, and one more row in the last leaf
 abbrev dry_three_high : Tree ℤ Change
 dry_three_high = inner
     (node [] (inner (node [] (leaf ((k_minus_1, minus_10) ∷ entry 0 0 ∷ [])) (node (k 1) (two 1 11 2 20) (node (k 3) (two 3 30 4 44) none))) [])
@@ -240,6 +240,6 @@ dels_wait = inner two_leaves (dels 1 ∷ dels 2 ∷ puts 5 50 ∷ [])
 dels_drained : drained meaning shape dels_wait ≡ inner (node [] (leaf []) (node (k 3) (two 3 30 4 40) (node (k 5) (leaf (entry 5 50 ∷ [])) none))) []
 dels_drained = refl
 
--- packed anew, the empty leaf is gone
+-- packed again, the empty leaf is gone
 dels_rebuilt : rebuilt effect shape dels_wait ≡ inner (node [] (two 3 30 4 40) (node (k 5) (leaf (entry 5 50 ∷ [])) none)) []
 dels_rebuilt = refl

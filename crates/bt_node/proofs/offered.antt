@@ -1,4 +1,4 @@
--- What the crates above may cite: statements over the definitions of this crate alone.
+-- What other crates may cite: statements that use only the definitions of this crate.
 pub mod FlushSteps
 pub mod PackedTrees
 pub mod Portions

@@ -1,4 +1,4 @@
--- Trees whose messages are all worked off, and trees made of rows alone.
+-- Trees without pending messages, and trees built from rows alone.
 use Rattle.std.specs.Prelude.{◌≡◌, []}
 use Rattle.std.specs.declared.option.Option.{Option}
 use Rattle.bt_node.specs.Messages.{Rows, Meaning}
@@ -6,12 +6,12 @@ use Rattle.bt_node.specs.Trees.{Shape, Tree, leaf, inner, Nodes, none, node}
 use Rattle.bt_node.specs.Flushes.{Flush, crown, flush_in, holds, leaves}
 use Rattle.bt_node.specs.declared.form.mode.Mode.TheVariants.{Drain}
 
--- a tree of these rows and no messages: leaves dealt, under one node
+-- a tree of these rows without messages: leaves are dealt, under one node
 abbrev pub packed : {V M : Type 0} → Shape → Rows V → Tree V M
 packed shape rows = crown shape (leaves shape rows)
 
 module _ {V M : Type 0} (meaning : Meaning V M) where
-  -- what becomes of a node and a packet when every message goes down to the leaves: each child is flushed with what is pending for it, even nothing
+  -- a node after a packet, when every message goes down to the leaves: each child is flushed with its pending messages, even if there are none
   abbrev pub drain : Shape → Flush V M
   drain = flush_in meaning Drain
 
@@ -19,7 +19,7 @@ module _ {V M : Type 0} (meaning : Meaning V M) where
   abbrev pub drained : Shape → Tree V M → Tree V M
   drained shape t = crown shape (drain shape t [])
 
--- a tree of the rows that a tree holds, packed anew
+-- a tree packed from the rows that a tree holds
 abbrev pub rebuilt : {V M : Type 0} → (Option V → M → Option V) → Shape → Tree V M → Tree V M
 rebuilt effect shape t = packed shape (holds effect t)
 

@@ -6,16 +6,16 @@ use Rattle.bt_keycode.specs.Keys.{Key, Within, AllWithin, IsSorted, SideBySide}
 use Rattle.bt_node.specs.Messages.{Rows, Messages, load}
 use Rattle.bt_node.specs.Trees.{Shape, Tree, leaf, inner, Nodes, none, node, Siblings, children, nodes, height}
 
--- keys strictly rising from the one limit to the other
+-- keys strictly rising from one limit to the other
 abbrev pub RowsLie : {V : Type 0} → Option Key → Option Key → Rows V → Type 0
 RowsLie = SideBySide (λ r. r.0) (λ low high r. Within low high r.0)
 
--- one node or more, and the first stands behind the empty key
+-- one node or more, and the first has the empty key as its pivot
 abbrev pub IsLed : {X : Type 0} → List (Key × X) → Type 0
 IsLed [] = ⊥
 IsLed (x ∷ xs) = x.0 ≡ []
 
--- All leaves are this many levels below the root. Keys, of rows and messages, and pivots lie between the limits; each child's between the pivots
+-- All leaves are this many levels below the root. Pivots and the keys of rows and messages lie between the limits. Those of a child lie between the pivots
 -- around it. Rows, pivots and messages are in order.
 abbrev pub Lies : {V M : Type 0} → ℕ → Option Key → Option Key → Tree V M → Type 0
 Lies zero low high (leaf rows) = RowsLie low high rows
@@ -48,7 +48,7 @@ pub record NodeFits {V M : Type 0} (weigh : Key × M → ℕ) (shape : Shape) (l
   pub lies : Lies levels low high t
   pub sized : IsSized weigh shape t
 
--- siblings that fit as the children of one node, whatever their number
+-- siblings that fit as the children of one node, for any number of them
 pub record SiblingsFit {V M : Type 0} (weigh : Key × M → ℕ) (shape : Shape) (levels : ℕ) (low high : Option Key) (xs : Siblings V M) : Type 0 where
   pub lie : SiblingsLie levels low high xs
   pub led : IsLed xs
@@ -59,12 +59,12 @@ abbrev pub AreHigh : {V M : Type 0} → ℕ → Siblings V M → Type 0
 AreHigh high [] = Unit {0}
 AreHigh high (x ∷ xs) = (height x.1 ≡ high) × AreHigh high xs
 
--- room for three children in an inner node, so that no deal leaves a node with one child, and for a row in a leaf
+-- an inner node has room for three children, so that no deal leaves a node with one child, and a leaf has room for a row
 pub record IsRoomy (shape : Shape) : Type 0 where
   pub fanout : 3 ≤ shape.fanout
   pub leaf : 1 ≤ shape.leaf
 
--- a tree that fits its shape, which has room
+-- a tree that fits its shape, and a shape with room
 pub record HasShape {V M : Type 0} (weigh : Key × M → ℕ) (shape : Shape) (t : Tree V M) : Type 0 where
   pub roomy : IsRoomy shape
   pub levels : ℕ
@@ -74,12 +74,12 @@ pub record HasShape {V M : Type 0} (weigh : Key × M → ℕ) (shape : Shape) (t
 abbrev pub AreFit : {V M : Type 0} → (Key × M → ℕ) → Shape → Siblings V M → Type 0
 AreFit weigh shape xs = (levels : ℕ) × SiblingsFit weigh shape levels None None xs
 
--- a fact of a node and a packet, wherever the node fits between two limits and the packet lies between them
+-- a fact about a node and a packet, if the node fits between two limits and the packet lies between them
 abbrev pub WhereFits : {V M : Type 0} → (Key × M → ℕ) → Shape → Tree V M → Messages M → (ℕ → Option Key → Option Key → Type 0) → Type 0
 WhereFits weigh shape t packet Fact =
     (levels : ℕ) (low high : Option Key) → NodeFits weigh shape levels low high t → AllWithin low high packet → Fact levels low high
 
--- a fact of siblings and messages, wherever the siblings fit between two limits and the messages lie between them
+-- a fact about siblings and messages, if the siblings fit between two limits and the messages lie between them
 abbrev pub WhereSiblingsFit : {V M : Type 0} → (Key × M → ℕ) → Shape → Siblings V M → Messages M → (ℕ → Option Key → Option Key → Type 0) → Type 0
 WhereSiblingsFit weigh shape xs messages Fact =
     (levels : ℕ) (low high : Option Key) → SiblingsFit weigh shape levels low high xs → AllWithin low high messages → Fact levels low high

@@ -1,8 +1,8 @@
--- What is made of rows that are taken in parts.
+-- Visitors that take rows in parts.
 use Rattle.std.proofs.Common.{◌≡◌, ◌∙◌, List, [], ◌∷◌, ◌++◌, append_assoc, append-nil, ap, fold, refl, sym}
 use Rattle.std.proofs.lemmas.List.Sums.{fold-append}
 
--- Where each row is joined as one, rows in two parts are rows in one.
+-- If joining rows is associative, taking rows in two parts gives the same as taking them in one.
 module _ {S X : Type 0} (join : S → S → S) (one : X → S) (none : S) (assoc : (a b c : S) → join (join a b) c ≡ join a (join b c)) (unit : (a : S) → join a none ≡ a) where
   abbrev pub with_one : S → X → S
   with_one s x = join s (one x)

@@ -1,23 +1,23 @@
--- A list in which the heaviest item is replaced by its parts, again and again.
+-- A list in which the heaviest item is replaced by its parts, repeatedly.
 use Rattle.std.specs.Prelude.{ℕ, zero, suc, cond, nat_le, List, [], ◌∷◌, ◌++◌, map, take, drop}
 use Rattle.std.specs.List.{flat_map}
 use Rattle.bt_node.specs.Plans.{total, fullest}
 
 module _ {X : Type 0} (weight : X → ℕ) (parts : X → List X) where
-  -- the list with the parts of the item at a place in its stead
+  -- the list with the item at a place replaced by its parts
   abbrev pub opened_at : ℕ → List X → List X
   opened_at i [] = []
   opened_at zero (x ∷ xs) = parts x ++ xs
   opened_at (suc i) (x ∷ xs) = x ∷ opened_at i xs
 
-  -- While the weights are more than the capacity together, the leftmost of the heaviest is replaced by its parts, and the choice is made anew.
-  -- With a bound on the turns, at which `flushed_over` never stops early: clause `in_turn` of the call `absorb_alone`.
+  -- While the total weight is over the capacity, the leftmost of the heaviest items is replaced by its parts, and the choice is made again. The number of
+  -- steps is bounded. With the bound of `flushed_over` the loop never stops early: clause `in_turn` of the call `absorb_alone`.
   abbrev pub after_turns : ℕ → ℕ → List X → List X
   after_turns capacity zero xs = xs
   after_turns capacity (suc turns) xs =
       cond (nat_le (total (map weight xs)) capacity) xs (after_turns capacity turns (opened_at (fullest (map weight xs)) xs))
 
-  -- The items that this loop replaces, in turn. Where they are children, the bound never stops it early: clause `planned` of the call `absorb_alone`.
+  -- The items that this loop replaces, in order. If they are children, the bound never stops the loop early: clause `planned` of the call `absorb_alone`.
   abbrev pub opened_items : ℕ → ℕ → List X → List X
   opened_items capacity zero xs = []
   opened_items capacity (suc turns) xs =

@@ -1,4 +1,4 @@
--- To which children the messages of a node go down.
+-- The children to which the messages of a node go down.
 use Rattle.std.specs.Prelude.{ℕ, Bool, true, false, cond, nat_eq, nat_le, List, [], ◌∷◌, map}
 use Rattle.bt_node.specs.Plans.{placed, planned}
 use Rattle.bt_node.specs.Trees.{Shape}
@@ -10,12 +10,12 @@ abbrev pub is_among : ℕ → List ℕ → Bool
 is_among i [] = false
 is_among i (j ∷ js) = cond (nat_eq i j) true (is_among i js)
 
--- for each child, whether it is flushed, where so much is pending for each: those that are planned, or all
+-- for each child, whether it is flushed, given the loads: the planned ones, or all, by the mode
 abbrev pub flush_marks : Mode → ℕ → List ℕ → List Bool
 flush_marks Absorb capacity loads = map (λ p. is_among p.0 (planned loads capacity)) (placed 0 loads)
 flush_marks Drain capacity loads = map (λ n. true) loads
 
--- whether none is, since the buffer has room for so much
+-- whether none is flushed, because the buffer has room for this load
 abbrev pub has_room : Mode → Shape → ℕ → Bool
 has_room Absorb shape load = nat_le load shape.buffer
 has_room Drain shape load = false

@@ -1,4 +1,4 @@
--- What nodes consist of.
+-- The parts of a node.
 use Rattle.std.specs.Prelude.{◌≡◌, true, List, [], ◌∷◌}
 use Rattle.bt_value.specs.Lists.{concatenation}
 use Rattle.bt_messages.specs.Bins.{LieBetween}
@@ -9,7 +9,7 @@ use Rattle.bt_keycode.specs.Keys.{Key, is_before}
 use Rattle.bt_node.specs.Trees.{Tree, inner, nodes, pivots_of}
 use Rattle.bt_node.specs.Walks.{is_leaf}
 
--- a leaf is given back as it is, an inner node as its children and the bins between their pivots, which are its buffer
+-- a leaf is returned as it is, an inner node as its children and the bins between their pivots, which are its buffer
 abbrev pub IsApart : {V D : Type 0} → Tree V (Message V D) → Parts V D → Type 0
 IsApart t (Leaf node) = (node ≡ t) × (is_leaf t ≡ true)
 IsApart t (Inner children bins) = (t ≡ inner (nodes children) (concatenation bins)) × LieBetween (pivots_of children) bins

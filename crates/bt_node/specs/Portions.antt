@@ -1,4 +1,4 @@
--- Trees in portions: subtrees with the messages above them that are for them.
+-- Trees in portions: subtrees with the messages to them from above.
 use Rattle.std.specs.Prelude.{◌≡◌, ℕ, suc, Bool, true, cond, List, [], ◌∷◌}
 use Rattle.std.specs.FinMap.{find}
 use Rattle.std.specs.List.{flat_map}
@@ -9,7 +9,7 @@ use Rattle.bt_node.specs.Messages.{Rows, Messages, between, rows_after}
 use Rattle.bt_node.specs.Trees.{Tree}
 use Rattle.bt_node.specs.Flushes.{holds}
 
--- a subtree, the bounds between which it is read, and newer messages to it, from the nodes above
+-- a subtree, the bounds between which it is read, and newer messages to it from the nodes above
 pub record Portion (V M : Type 0) : Type 0 where
   pub low : Option Key
   pub high : Option Key
@@ -25,22 +25,22 @@ module _ {V M : Type 0} where
   abbrev pub owns : Key → Portion V M → Bool
   owns q p = is_between p.low p.high q
 
-  -- how many of the portions own a key
+  -- the number of portions that own a key
   abbrev pub owners : Key → List (Portion V M) → ℕ
   owners q [] = 0
   owners q (p ∷ ps) = cond (owns q p) (suc (owners q ps)) (owners q ps)
 
-  -- portions side by side: the first begins at one bound, each other where the one before it ends, and the last ends at another bound
+  -- portions side by side: the first begins at one bound, each other one begins where the one before it ends, and the last ends at the other bound
   abbrev pub Chained : Option Key → List (Portion V M) → Option Key → Type 0
   Chained low [] high = low ≡ high
   Chained low (p ∷ ps) high = (p.low ≡ low) × Chained p.high ps high
 
 module _ {V M : Type 0} (effect : Option V → M → Option V) where
-  -- what the subtree of a portion holds when its messages, and then the newer ones, have had their effect
+  -- the rows of the subtree of a portion when its messages, and then the newer ones, have had their effect
   abbrev pub subtree_rows : Portion V M → Rows V
   subtree_rows p = rows_after effect p.newer (holds effect p.tree)
 
-  -- what a portion holds between its bounds
+  -- the rows of a portion between its bounds
   abbrev pub rows_of : Portion V M → Rows V
   rows_of p = between p.low p.high (subtree_rows p)
 
@@ -48,7 +48,7 @@ module _ {V M : Type 0} (effect : Option V → M → Option V) where
   abbrev pub all_rows : List (Portion V M) → Rows V
   all_rows ps = flat_map rows_of ps
 
-  -- what a portion has at a key
+  -- the value of a portion at a key
   abbrev pub value_in : Key → Portion V M → Option V
   value_in q p = find key_cmp q (subtree_rows p)
 
@@ -57,8 +57,8 @@ module _ {V M : Type 0} (effect : Option V → M → Option V) where
   HaveThere q value [] = Unit {0}
   HaveThere q value (p ∷ ps) = (owns q p ≡ true → value_in q p ≡ value) × HaveThere q value ps
 
-  -- Portions that hold together what others hold: the same rows in the same order, each key has as many owners, its owners have the same value, and they
-  -- stand side by side where the others do.
+  -- Portions that together hold what others hold: the same rows in the same order, as many owners of each key, the same value in each owner, and side by side
+  -- if the others are.
   pub record Divide (whole parts : List (Portion V M)) : Type 0 where
     pub rows : all_rows parts ≡ all_rows whole
     pub owned : (q : Key) → owners q parts ≡ owners q whole

@@ -1,4 +1,4 @@
--- Codes of trees and shapes, by which a proof tells their values apart.
+-- Codes of trees and shapes, which a proof uses to tell their values apart.
 use Rattle.std.specs.Prelude.{◌≡◌, refl, ℕ, zero, suc, List, [], ◌∷◌, ◌⊎◌}
 use Rattle.std.specs.Coded.{Coded, code_by, coded×, coded⊎, coded_ℕ, coded_list, coded_option}
 use Rattle.std.specs.declared.option.Option.{Option}
@@ -14,18 +14,18 @@ use Rattle.bt_node.specs.Messages.{Measure, Rows}
 use Rattle.bt_node.specs.Portions.{Portion}
 use Rattle.bt_node.specs.Trees.{Shape, Tree, leaf, inner, Nodes, none, node}
 
--- a node behind its pivot, told by its rows or its buffer, or nothing: the end of nodes side by side
+-- a node with its pivot, given by its rows or its buffer, or nothing: the end of nodes side by side
 abbrev pub Token : Type 0 → Type 0 → Type 0
 Token V M = Option (Key × (Rows V ⊎ messages.Messages M))
 
 module _ {V M : Type 0} where
-  -- the tokens of nodes side by side, each node's before those of its children, and then more
+  -- the tokens of nodes side by side, each node's before those of its children, followed by more tokens
   abbrev pub tokens_before : List (Token V M) → Nodes V M → List (Token V M)
   tokens_before more none = None ∷ more
   tokens_before more (node k (leaf rows) ns) = Some (k, inl rows) ∷ tokens_before more ns
   tokens_before more (node k (inner below buffer) ns) = Some (k, inr buffer) ∷ tokens_before (tokens_before more ns) below
 
-  -- a token read in front of others, which gave these lists of nodes
+  -- a token read before others, which gave these lists of nodes
   abbrev pub with_token : Token V M → List (Nodes V M) → List (Nodes V M)
   with_token None read = none ∷ read
   with_token (Some (k, inl rows)) [] = []
@@ -46,11 +46,11 @@ module _ {V M : Type 0} where
       ap (with_token (Some (k, inr buffer)))
       (nodes_of-tokens_before (tokens_before more ns) below ∙ ap (λ read. below ∷ read) (nodes_of-tokens_before more ns))
 
-  -- a tree as the one node behind the empty key
+  -- a tree as one node with the empty key
   abbrev pub tree_tokens : Tree V M → List (Token V M)
   tree_tokens t = tokens_before [] (node [] t none)
 
-  -- the first tree, or an empty leaf where there is none
+  -- the first tree, or an empty leaf if there is none
   abbrev pub first_tree : List (Nodes V M) → Tree V M
   first_tree [] = leaf []
   first_tree (none ∷ read) = leaf []
@@ -70,14 +70,14 @@ module _ {V M : Type 0} where
   tree_code value message =
       code_by (List (Token V M)) (coded_list (token_code value message)) tree_tokens (λ xs. first_tree (nodes_of xs)) first_tree-tree_tokens
 
--- a child is stored as its pivot, its tree and what is pending for it
+-- a child is stored as its pivot, its tree and its pending messages
 abbrev pub child_code : {V M : Type 0} → Coded V → Coded M → Coded (Child V M)
 child_code {V} {M} value message =
     code_by (Key × (Tree V M × messages.Messages M))
     (coded× (coded_list coded_ℕ) (coded× (tree_code value message) (coded_list (coded× (coded_list coded_ℕ) message))))
     (λ c. (c.pivot, (c.tree, c.pending))) (λ p. record { pivot = p.0; tree = p.1.0; pending = p.1.1 }) (λ _. refl)
 
--- a message to a key is stored as what it carries, if it carries something
+-- a message to a key is stored as what it carries, if anything
 module _ {V D : Type 0} where
   abbrev pub carried : Message V D → Option (V ⊎ D)
   carried (Put value) = Some (inl value)
@@ -97,7 +97,7 @@ module _ {V D : Type 0} where
   abbrev pub message_code : Coded V → Coded D → Coded (Message V D)
   message_code value delta = code_by (Option (V ⊎ D)) (coded_option (coded⊎ value delta)) carried carrying carrying-carried
 
--- what room is counted in is stored as a number
+-- a measure is stored as a number
 abbrev pub measure_number : Measure → ℕ
 measure_number Messages = 0
 measure_number Bytes = 1

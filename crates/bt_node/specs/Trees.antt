@@ -4,14 +4,14 @@ use Rattle.std.specs.List.{zip}
 use Rattle.bt_keycode.specs.Keys.{Key}
 use Rattle.bt_node.specs.Messages.{Rows, Measure, Messages}
 
--- how large nodes may be: the children of an inner node, the room of its buffer and what it is counted in, the rows of a leaf
+-- the sizes of nodes: the children of an inner node, the capacity and measure of its buffer, the rows of a leaf
 pub record Shape : Type 0 where
   pub fanout : ℕ
   pub buffer : ℕ
   pub leaf : ℕ
   pub measure : Measure
 
--- A node, and nodes side by side, each behind the pivot before it. Before the first of them there is no pivot: it stands behind the empty key.
+-- A node, and nodes side by side, each with the pivot before it. There is no pivot before the first: it has the empty key.
 mutual
   pub data Tree (V M : Type 0) : Type 0 where
     leaf : Rows V → Tree V M
@@ -25,7 +25,7 @@ mutual
 abbrev pub Siblings : Type 0 → Type 0 → Type 0
 Siblings V M = List (Key × Tree V M)
 
--- each item behind the pivot before it, and the first behind the empty key
+-- each item with the pivot before it, and the first with the empty key
 abbrev pub with_pivots : {X : Type 0} → List Key → List X → List (Key × X)
 with_pivots pivots xs = zip ([] ∷ pivots) xs
 

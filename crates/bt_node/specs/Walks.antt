@@ -1,4 +1,4 @@
--- What is seen of a node without going below it.
+-- What a node shows without the nodes below it.
 use Rattle.std.specs.Prelude.{Bool, true, false, []}
 use Rattle.bt_node.specs.Messages.{Rows, Messages}
 use Rattle.bt_node.specs.Trees.{Tree, leaf, inner, Siblings, children}

@@ -1,4 +1,4 @@
--- Definitions that only private clauses cite: how the code's values are seen, and the steps of its loops.
+-- Definitions that only private clauses cite: the views of the code's values, and the steps of its loops.
 pub mod Bounds
 pub mod Falls
 pub mod Flushing

@@ -1,4 +1,4 @@
-//! What a node does with messages that come to it, and what becomes of it.
+//! How a node takes messages, and the nodes that replace it.
 
 pub(crate) mod crown;
 pub(crate) mod flushing;

@@ -1,4 +1,4 @@
-//! What a tree is made of: nodes, their rows and children, and how these are dealt.
+//! The parts of a tree: nodes, their rows and children, and how these are dealt.
 
 pub(crate) mod children;
 pub(crate) mod deal;

@@ -1,9 +1,9 @@
 //! Bε-trees: search trees whose inner nodes keep a buffer of messages on the way to their rows.
 //!
-//! A message enters at the root. If a buffer holds more than it may, the child with the largest load is flushed: the messages that are pending
-//! for it go down together, and the parts into which it splits take its place. The load of a child is the number of its messages, or their
-//! weight in bytes, as the [`Shape`] of the tree says. A tree is the map that it holds when all messages have had their effect, those nearer to
-//! a leaf first.
+//! A message enters at the root. When a buffer is over its capacity, the child with the largest load is flushed: its pending messages go
+//! down together, and the nodes into which it splits replace it. The load of a child is the number of its pending messages, or their weight
+//! in bytes, according to the [`Shape`] of the tree. A tree represents the map that results when all its messages have had their effect,
+//! those nearer to a leaf first.
 //!
 //! ```text
 //! use bt_keycode::encode;
@@ -12,7 +12,7 @@
 //! use bt_rowtype::{Row, Value};
 //! use std::alloc::{AllocError, Global};
 //!
-//! // The rows of a tree after a put of key 1 and a del of key 2: one. `Shape::new(4, 3, 2)` makes a shape of small nodes.
+//! // The number of rows of a tree after a put of key 1 and a del of key 2: one. `Shape::new(4, 3, 2)` is a shape of small nodes.
 //! fn count(alloc: Global, shape: Shape, row: Row) -> Result<usize, AllocError> {
 //!     let one = encode(alloc, &[Value::Int(1)])?;
 //!     let two = encode(alloc, &[Value::Int(2)])?;
@@ -22,26 +22,26 @@
 //! }
 //! ```
 //!
-//! A flush is one step at each node, in a [`Mode`]. [`open`] says what an inner node does with the messages that come to it: it has room
-//! for all and stays, or it is opened, its children side by side ([`Children`]), with marks for those to which messages go down. [`close`]
-//! deals what becomes of the children under inner nodes. [`absorb_alone`] and [`drain_alone`] take all steps on one thread; who divides a
-//! flush calls [`open`] and [`close`].
+//! A flush takes one step at each node, in a [`Mode`]. [`open`] takes messages into an inner node. The node has room for all and stays, or
+//! it is opened: its children are side by side ([`Children`]), and those to which messages go down are marked. [`close`] deals the new
+//! children under inner nodes. [`absorb_alone`] and [`drain_alone`] take all steps on one thread. To divide a flush among threads, call
+//! [`open`] and [`close`].
 //!
-//! [`pack`] makes a tree of sorted rows at once. [`Tree::drain`] sends all messages down to the leaves, and [`Tree::rebuild`] packs
-//! the rows that a tree holds.
+//! [`pack`] builds a tree from sorted rows at once. [`Tree::drain`] sends all messages down to the leaves. [`Tree::rebuild`] packs the rows
+//! of a tree into a new one.
 //!
-//! [`Tree::walk`] gives a [`Walk`], by which a tree is read as the map that it holds: the value at one key (`get`) and at several
-//! (`values`), the rows between two bounds, shown to a [`Visitor`] (`visit`) or copied (`rows`), and the first rows from a key on, at
-//! most so many, at a cost that goes by what is shown and by the nodes on the way (`visit_first`).
+//! [`Tree::walk`] returns a [`Walk`], which reads a tree as the map that it represents. It gives the value at one key (`get`) and at several
+//! keys (`values`). It shows the rows between two bounds to a [`Visitor`] (`visit`) or copies them (`rows`). It shows the first rows from a
+//! key on, up to a limit (`visit_first`), at a cost that depends only on the rows shown and on the nodes on the way.
 //!
-//! `specs` has the definitions. `Trees` are the nodes, `Flushes` says what becomes of a node and a packet of messages in each mode, `Drains` what
-//! becomes of a tree when no message is to be left on the way, and which trees are made of rows alone, and `Fits` which trees are in order. `Plans`
-//! and `Loops` say which children are flushed, `Marks` says it of each child, and when a node has room. `Children` are children beside their bins,
-//! and `Steps` says what [`open`] gives. `Shapes` are the sizes that a tree may have, `Deals` how items are dealt into parts, as even as can be, `Parts`
-//! what a node comes apart into, and `Messages` the rows of a map and the messages that change them. `Walks`, `Portions` and `Folds` say what is read: of one
-//! node, of subtrees with the messages above them, and by a visitor that takes rows in parts. `Laws` are the facts that calls promise beside these definitions. `Passes`, one
-//! pass over marked items, is cited by private clauses and by the proofs of the crate of pieces; `Stored` has the codes by which values of the ghost tree are
-//! kept. Other definitions that only private clauses cite are in `inside`. `proofs` has small trees worked out, in `WorkedRows`.
+//! The definitions are in `specs`. `Trees` defines the nodes. `Flushes` defines how a node takes a packet in each mode. `Drains` defines
+//! trees without pending messages and trees built from rows alone. `Fits` says which trees are in order. `Plans` and `Loops` say which
+//! children are flushed, and `Marks` says it for each child, and when a node has room. `Children` defines children with their bins, and
+//! `Steps` the result of [`open`]. `Shapes` has the sizes that a tree may have. `Deals` defines how items are dealt into even parts, `Parts`
+//! the parts of a node, and `Messages` the rows of a map and the messages that change them. `Walks`, `Portions` and `Folds` define what is
+//! read: one node, subtrees with the messages above them, and a visitor that takes rows in parts. `Laws` has the further facts that calls
+//! promise. `Passes` defines one pass over marked items, for private clauses and for the proofs of the crate bt_plan. `Stored` has codes of
+//! ghost trees. Definitions that only private clauses cite are in `inside`. `proofs` has worked examples of small trees, in `WorkedRows`.
 #![tactic(auto)]
 
 mod flush;

@@ -1,4 +1,4 @@
-//! Reads of a tree, through the messages that are pending above its rows.
+//! Reads a tree through the messages that are pending above its rows.
 
 pub(crate) mod joint_lookup;
 pub(crate) mod leaf_visits;

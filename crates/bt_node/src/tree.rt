@@ -1,4 +1,4 @@
-//! Trees, and what becomes of them under a packet.
+//! Trees, and how they take packets.
 ghost use Rattle.std.specs.Prelude.{◌≡◌, ◌≤◌, [], IfOk, IsTrue, length};
 ghost use Rattle.std.specs.FinMap.{find, is_sorted};
 ghost use Rattle.bt_keycode.specs.Keys.{key_cmp};
@@ -29,7 +29,7 @@ use bt_messages::{Bins, Merge, Packet};
 use std::alloc::{AllocError, Global};
 use std::marker::Model;
 
-/// A tree with its shape. A contract sees the shape and the tree that the root stands for, which fits the shape.
+/// A tree with its shape. A contract sees the shape and the tree that the root represents, which fits the shape.
 #[derive(Drop)]
 pub struct Tree<V: Merge> {
     shape: Shape,
@@ -52,7 +52,7 @@ impl<V: Merge> Model for Tree<V> {
     ghost invariant = { λ t. HasShape (weigh_of V.terms) t.shape t.root };
 }
 
-// What becomes of a node and a packet in a mode, on the caller's thread.
+// Flushes a packet into a node in a mode, on the caller's thread.
 fn flush_packet<V: Merge>(
     alloc: Global,
     shape: Shape,
@@ -73,7 +73,8 @@ fn flush_packet<V: Merge>(
     Ok(nodes)
 }
 
-/// What becomes of a node whose keys are in order and a packet, on the caller's thread. An `Err` keeps neither.
+/// Flushes a packet into a node whose keys are in order, on the caller's thread. Returns the nodes that replace it. An `Err` drops
+/// both.
 pub fn absorb_alone<V: Merge>(
     alloc: Global,
     shape: Shape,
@@ -94,8 +95,8 @@ pub fn absorb_alone<V: Merge>(
     Ok(nodes)
 }
 
-/// What becomes of a node and a packet when every message goes down to the leaves, on the caller's thread. Leaves without rows
-/// stay. An `Err` keeps neither.
+/// Flushes a packet into a node, and all messages down to the leaves, on the caller's thread. Returns the nodes that replace it.
+/// Leaves without rows stay. An `Err` drops both.
 pub fn drain_alone<V: Merge>(
     alloc: Global,
     shape: Shape,
@@ -113,8 +114,8 @@ pub fn drain_alone<V: Merge>(
     Ok(nodes)
 }
 
-/// Siblings as children of inner nodes, each with its bin: the deal that ends what becomes of an inner node. Where one node has room
-/// for all, none of them is moved. An `Err` keeps neither.
+/// Siblings as children of inner nodes, each with its bin: the last step of a flush of an inner node. If all fit under one node,
+/// none is moved. An `Err` drops both.
 pub fn regroup<V: Merge>(
     alloc: Global,
     shape: Shape,
@@ -131,7 +132,7 @@ pub fn regroup<V: Merge>(
     close(alloc, shape, Children::with_pending(siblings, bins))
 }
 
-/// The tree whose root stands above these siblings, and holds what they hold. An `Err` keeps nothing of them.
+/// The tree whose root is the crown of these siblings, with the same rows. An `Err` drops the siblings.
 #[tactic(auto, using(crate::proofs::lemmas::crowns::ShapedTrees::crown_has_shape))]
 pub fn crown<V: Merge>(
     alloc: Global,
@@ -148,8 +149,9 @@ pub fn crown<V: Merge>(
     Ok(Tree { shape, root })
 }
 
-/// The tree of these rows, and of no messages: they are dealt into leaves, and the leaves under inner nodes, in time linear in the
-/// number of rows. Rows are moved, never copied, but for a leaf's least key as its pivot. An `Err` keeps none of them.
+/// A tree of these rows, without messages. They are dealt into leaves, and the leaves under inner nodes, in time linear in the
+/// number of rows. Rows are moved, never copied, except the smallest key of a leaf, which is copied for its pivot. An `Err` drops
+/// the rows.
 pub fn pack<V: Merge>(
     alloc: Global,
     shape: Shape,
@@ -166,7 +168,7 @@ pub fn pack<V: Merge>(
 }
 
 impl<V: Merge> Tree<V> {
-    /// One leaf without rows.
+    /// A tree of one leaf without rows.
     pub fn empty(alloc: Global, shape: Shape) -> Self
         ensures { result ≡ (shape, leaf []) }
     {
@@ -176,7 +178,7 @@ impl<V: Merge> Tree<V> {
         }
     }
 
-    /// How large its nodes may be.
+    /// The sizes that its nodes may have.
     pub fn shape(&self) -> Shape
         ensures { result ≡ self.now.0 }
     {
@@ -190,7 +192,7 @@ impl<V: Merge> Tree<V> {
         self.walk().get(alloc, key)
     }
 
-    /// The pairs that it holds when all messages have had their effect, by rising key.
+    /// The pairs of a key and a value, when all messages have had their effect, in rising order.
     pub fn rows(&self, alloc: Global) -> Result<Vec<(Key, V)>, AllocError>
         ensures held { IfOk result (λ rows. rows.items ≡ holds (effect_of V.terms.merged) self.now.1) }
         ensures sorted { IfOk result (λ rows. IsTrue (is_sorted key_cmp rows.items)) }
@@ -208,7 +210,7 @@ impl<V: Merge> Tree<V> {
         (shape, root)
     }
 
-    /// The tree after a packet, on the caller's thread. An `Err` keeps neither.
+    /// The tree after a packet, on the caller's thread. An `Err` drops both.
     pub fn sink(self, alloc: Global, packet: Packet<V>) -> Result<Self, AllocError>
         ensures tree { IfOk result (λ tree. tree ≡ (self.0, sunk (meaning_of V.terms) self.0 self.1 packet)) }
         ensures fits { IfOk result (λ tree. HasShape (weigh_of V.terms) tree.0 tree.1) }
@@ -220,8 +222,8 @@ impl<V: Merge> Tree<V> {
         Ok(crown(alloc, shape, siblings)?)
     }
 
-    /// The tree when all its messages have gone down to the leaves, on the caller's thread. Leaves without rows stay. An `Err`
-    /// keeps nothing of it.
+    /// The tree after all its messages have gone down to the leaves, on the caller's thread. Leaves without rows stay. An `Err`
+    /// drops the tree.
     pub fn drain(self, alloc: Global) -> Result<Self, AllocError>
         ensures tree { IfOk result (λ tree. tree ≡ (self.0, drained (meaning_of V.terms) self.0 self.1)) }
         ensures fits { IfOk result (λ tree. HasShape (weigh_of V.terms) tree.0 tree.1) }
@@ -233,7 +235,8 @@ impl<V: Merge> Tree<V> {
         Ok(crown(alloc, shape, siblings)?)
     }
 
-    /// The rows that the tree holds, copied and packed anew, on the caller's thread. The tree stays as it is, also at an `Err`.
+    /// A new tree, packed from copies of the rows of this one, on the caller's thread. This tree stays as it is, also after an
+    /// `Err`.
     pub fn rebuild(&self, alloc: Global) -> Result<Self, AllocError>
         ensures tree { IfOk result (λ tree. tree ≡ (self.now.0, rebuilt (effect_of V.terms.merged) self.now.0 self.now.1)) }
         ensures fits { IfOk result (λ tree. HasShape (weigh_of V.terms) tree.0 tree.1) }
@@ -244,7 +247,7 @@ impl<V: Merge> Tree<V> {
         Ok(pack(alloc, self.shape(), rows)?)
     }
 
-    /// What can be seen of the root and of all that is below it.
+    /// A reference to the root, through which the tree is read.
     pub fn walk(&self) -> Walk<'_, V>
         ensures root { result ≡ self.now.1 }
         ensures fits { HasShape (weigh_of V.terms) self.now.0 self.now.1 }

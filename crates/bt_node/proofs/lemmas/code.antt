@@ -1,4 +1,4 @@
--- What the code makes is what the definitions say: one file for the steps of one loop or type.
+-- The code computes what the definitions say: one file for the steps of one loop or type.
 pub mod ChildBounds
 pub mod ChildLists
 pub mod ChoiceLoop

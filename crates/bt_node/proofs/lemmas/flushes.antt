@@ -1,4 +1,4 @@
--- What becomes of a node and a packet: order, sizes, height and rows.
+-- A node after a packet: order, sizes, height and rows.
 pub mod Children
 pub mod Divisions
 pub mod Drains

@@ -1,4 +1,4 @@
--- What is found at a key.
+-- The value at a key.
 pub mod BinOfKey
 pub mod HeldValues
 pub mod Outside

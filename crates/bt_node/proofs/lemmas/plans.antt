@@ -1,4 +1,4 @@
--- Which children are flushed: the renewed choice is the plan, and the loop one pass.
+-- The children that are flushed: the repeated choice gives the plan, and the loop is one pass.
 pub mod Capacity
 pub mod Marks
 pub mod OnePass

@@ -1,4 +1,4 @@
--- Rows and messages: values at keys, and what messages make of rows.
+-- Rows and messages: values at keys, and rows after messages.
 pub mod Between
 pub mod Buffers
 pub mod RowsAfter

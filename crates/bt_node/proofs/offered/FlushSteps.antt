@@ -1,10 +1,10 @@
--- What is known of the steps of a flush, for code that takes them apart.
+-- Facts about the steps of a flush, for code that takes them separately.
 
 -- the children that are flushed
 pub use Rattle.bt_node.proofs.lemmas.plans.Marks.{length-flush_marks}
 pub use Rattle.bt_node.proofs.lemmas.plans.OnePass.{names}
 pub use Rattle.bt_node.proofs.lemmas.plans.RenewedChoice.{renewed-planned}
--- children beside their pivots, their bins and their marks
+-- children with their pivots, their bins and their marks
 pub use Rattle.bt_node.proofs.lemmas.flushes.Children.{ChildLies, ChildrenLie, all_pending}
 pub use Rattle.bt_node.proofs.lemmas.flushes.Divisions.{bins-length, divided-lie, joined-pending, pending-with_pending, pivots-with_pending, shares-length, with_pending-shared}
 pub use Rattle.bt_node.proofs.lemmas.flushes.Groups.{all_pending-within, children-nodes, led-full, some_length, stripped, stripped-lie}
@@ -12,10 +12,10 @@ pub use Rattle.bt_node.proofs.lemmas.flushes.NodeSizes.{ChildrenSized, both-size
 pub use Rattle.bt_node.proofs.lemmas.flushes.Shares.{length-shared}
 pub use Rattle.bt_node.proofs.lemmas.keys.SideBySide.{Begins, blocks-lie, blocks-long}
 pub use Rattle.bt_node.proofs.lemmas.keys.SortedLists.{from-back, from-joined, from-prefix}
--- siblings and the messages that are pending for them, dealt under inner nodes
+-- siblings with their pending messages, dealt under inner nodes
 pub use Rattle.bt_node.proofs.lemmas.flushes.EmptyPackets.{all_pending-shared}
 pub use Rattle.bt_node.proofs.lemmas.flushes.Regrouped.{grouped_fits}
--- what becomes of a node and its messages, child by child
+-- a node after its messages, child by child
 pub use Rattle.bt_node.proofs.lemmas.flushes.EmptyPackets.{still-here}
 pub use Rattle.bt_node.proofs.lemmas.flushes.Laws.{anywhere, fit_there}
 pub use Rattle.bt_node.proofs.lemmas.flushes.Passes.{Keeps, after_pass-lie, flushed-light, flushed-slots, in_place, names-slots, slots}

@@ -1,4 +1,4 @@
--- Trees that are drained, packed and rebuilt: they fit their shape, and hold what they are made of.
+-- Trees that are drained, packed and rebuilt: they fit their shape, and hold the rows that they are built from.
 use Rattle.std.proofs.Common.{◌≡◌, ◌∙◌, T, [], refl, Option, None, ℕ}
 use Rattle.std.specs.FinMap.{is_sorted}
 use Rattle.bt_keycode.specs.Keys.{Key, key_cmp}
@@ -12,7 +12,7 @@ use Rattle.bt_node.proofs.lemmas.crowns.CrownedRows.{crown-fits, crown-holds}
 use Rattle.bt_node.proofs.lemmas.flushes.Groups.{leaves-hold}
 use Rattle.bt_node.proofs.lemmas.flushes.Laws.{fit_there, hold_rows_after, leaves-fit}
 use Rattle.bt_node.proofs.offered.ShapedTrees.{holds-sorted}
--- a crown over dry siblings is dry, and drained siblings are
+-- the crown of siblings without pending messages has none, and neither have drained siblings
 pub use Rattle.bt_node.proofs.lemmas.flushes.Drains.{crown-dry, drain-dry}
 
 module _ {V M : Type 0} (weigh : Key × M → ℕ) (shape : Shape) (roomy : IsRoomy shape) (rows : Rows V) (sorted : T (is_sorted key_cmp rows)) where
@@ -36,7 +36,7 @@ module _ {V M : Type 0} (meaning : Meaning V M) (shape : Shape) (t : Tree V M) (
       let top = crown-fits meaning.weigh shape has.roomy has.levels None None _ drained-fit in
       record { roomy = has.roomy; levels = top.0; fits = top.1 }
 
-  -- a drained tree holds what it held
+  -- a drained tree holds the same rows
   pub drained-holds : holds meaning.effect (drained meaning shape t) ≡ holds meaning.effect t
   drained-holds =
       crown-holds meaning.weigh shape has.roomy meaning.effect has.levels None None _ drained-fit
@@ -46,6 +46,6 @@ module _ {V M : Type 0} (meaning : Meaning V M) (shape : Shape) (t : Tree V M) (
   pub rebuilt-has_shape : HasShape meaning.weigh shape (rebuilt meaning.effect shape t)
   rebuilt-has_shape = packed-has_shape meaning.weigh shape has.roomy (holds meaning.effect t) (holds-sorted meaning shape t has)
 
-  -- a rebuilt tree holds what the tree held
+  -- a rebuilt tree holds the rows of the old one
   pub rebuilt-holds : holds meaning.effect (rebuilt meaning.effect shape t) ≡ holds meaning.effect t
   rebuilt-holds = packed-holds meaning.weigh shape has.roomy (holds meaning.effect t) (holds-sorted meaning shape t has) meaning.effect

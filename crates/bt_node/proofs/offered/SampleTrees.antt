@@ -1,4 +1,4 @@
--- Small trees that are worked out here and in the crates above.
+-- Small trees that are worked out here and in other crates.
 use Rattle.std.specs.Prelude.{ℕ, [], ◌∷◌, ℤ, pos, neg_ℤ, ◌+ℤ◌}
 use Rattle.std.specs.declared.option.Option.{Option}
 use Rattle.std.specs.declared.option.Option.TheVariants.{None, Some}
@@ -19,7 +19,7 @@ merged (Some old) n = old +ℤ n
 abbrev pub Change : Type 0
 Change = Message ℤ ℤ
 
--- beside its key of eight bytes a put carries 16, and an upsert 10
+-- besides its key of eight bytes a put carries 16, and an upsert 10
 abbrev pub terms : Terms ℤ ℤ
 terms = record { merged = merged; payload = λ value. 16; delta_payload = λ delta. 10 }
 
@@ -59,7 +59,7 @@ shape = record { fanout = 4; buffer = 3; leaf = 2; measure = measures.Messages }
 abbrev pub two_leaves : Nodes ℤ Change
 two_leaves = node [] (two 1 10 2 20) (node (k 3) (two 3 30 4 40) none)
 
--- nothing is pending, or a put
+-- without pending messages, or with a put
 abbrev pub split_leaf : Tree ℤ Change
 split_leaf = inner two_leaves []
 
@@ -71,7 +71,7 @@ four_leaves = inner
     (node [] (two 1 10 2 20) (node (k 3) (two 3 30 4 40) (node (k 5) (two 5 50 6 60) (node (k 7) (leaf (entry 7 70 ∷ [])) none))))
     (puts 1 11 ∷ [])
 
--- the children of a root with three leaves and two, each with a message that is pending
+-- the children of a root with three leaves and two, each with a pending message
 abbrev pub first_three : Tree ℤ Change
 first_three = inner (node [] (leaf ((k_minus_1, minus_10) ∷ entry 0 0 ∷ [])) (node (k 1) (two 1 11 2 20) (node (k 3) (two 3 30 4 40) none))) (puts 4 44 ∷ [])
 

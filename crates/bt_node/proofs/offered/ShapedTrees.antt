@@ -1,4 +1,4 @@
--- Trees that fit a shape with room: they stay so under a packet, and what they hold rises by its keys.
+-- Trees that fit a shape with room: they stay so after a packet, and their rows are in rising order.
 use Rattle.std.proofs.Common.{◌≡◌, ◌∙◌, ◌≤◌, T, refl, subst, length, None, ℕ}
 use Rattle.std.specs.FinMap.{is_sorted}
 use Rattle.bt_node.specs.Fits.{AreFit, HasShape, IsInOrder, IsSized, SiblingsFit}
@@ -19,14 +19,14 @@ module _ {V M : Type 0} (weigh : Key × M → ℕ) (shape : Shape) (t : Tree V M
   pub shaped-in_order : IsInOrder t
   shaped-in_order = (has.levels, None, None, has.fits.lies)
 
-  -- its root, where it is an inner node, has two children or more, and no more pending than it has room for
+  -- if its root is an inner node, it has two children or more, and no more pending than it has room for
   pub shaped-inner : (xs : Siblings V M) (buffer : Messages M) → t ≡ inner (nodes xs) buffer → (2 ≤ length xs) × (load weigh shape.measure buffer ≤ shape.buffer)
   shaped-inner xs buffer is =
       let sized = subst (IsSized weigh shape) is has.fits.sized in
       (subst (λ ys. 2 ≤ length ys) (children-nodes xs) sized.0, sized.2)
 
 module _ {V M : Type 0} (meaning : Meaning V M) (shape : Shape) (t : Tree V M) (has : HasShape meaning.weigh shape t) where
-  -- its keys strictly rise
+  -- its keys are strictly rising
   pub holds-sorted : T (is_sorted key_cmp (holds meaning.effect t))
   holds-sorted = rows-sorted None None (holds meaning.effect t) (holds-lie meaning.effect has.levels None None t has.fits.lies)
 
@@ -40,7 +40,7 @@ module _ {V M : Type 0} (meaning : Meaning V M) (shape : Shape) (t : Tree V M) (
         let top = crown-fits meaning.weigh shape has.roomy has.levels None None _ absorbed-fit in
         record { roomy = has.roomy; levels = top.0; fits = top.1 }
 
-    -- a tree after a packet holds what it held, after the packet
+    -- a tree after a packet holds its old rows after the packet
     pub sunk-holds : holds meaning.effect (sunk meaning shape t packet) ≡ rows_after meaning.effect packet (holds meaning.effect t)
     sunk-holds =
         crown-holds meaning.weigh shape has.roomy meaning.effect has.levels None None _ absorbed-fit

@@ -1,4 +1,4 @@
--- Nodes that messages may enter, and children with their shares of the messages that come.
+-- Nodes that messages may enter, and children with their shares of the incoming messages.
 use Rattle.std.specs.Prelude.{ℕ, List, [], ◌∷◌, drop, take}
 use Rattle.bt_node.specs.Fits.{IsInOrder}
 use Rattle.bt_node.specs.Flushes.{Child}
@@ -8,7 +8,7 @@ use Rattle.bt_node.specs.declared.form.mode.Mode.{Mode}
 use Rattle.bt_node.specs.declared.form.mode.Mode.TheVariants.{Absorb, Drain}
 
 module _ {V M : Type 0} where
-  -- where messages may stay on the way, the keys are in order
+  -- if messages may stay on the way, the keys are in order
   abbrev pub IsReady : Mode → Tree V M → Type 0
   IsReady Absorb t = IsInOrder t
   IsReady Drain t = Unit {0}
@@ -17,7 +17,7 @@ module _ {V M : Type 0} where
   AreReady mode [] = Unit {0}
   AreReady mode (c ∷ cs) = IsReady mode c.tree × AreReady mode cs
 
-  -- children with so many messages each of those that come, in order
+  -- children with this many of the incoming messages each, in order
   abbrev pub with_shares : List (Child V M) → List ℕ → Messages M → List (Child V M)
   with_shares [] shares ms = []
   with_shares (c ∷ cs) [] ms = []

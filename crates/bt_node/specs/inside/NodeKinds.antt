@@ -1,4 +1,4 @@
--- The tree that a node stands for, by what the node is made of.
+-- The tree that a node represents, by the kind of the node.
 use Rattle.bt_node.specs.declared.form.node.NodeKind.{NodeKind}
 use Rattle.bt_node.specs.declared.form.node.NodeKind.TheVariants.{Leaf, Inner}
 use Rattle.bt_value.specs.Lists.{concatenation}

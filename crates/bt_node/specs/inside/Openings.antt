@@ -1,4 +1,4 @@
--- How many children of a node are left behind the lower bound of a portion of it.
+-- The number of children of a node that a portion of it has left.
 use Rattle.std.specs.Prelude.{ℕ, List, [], ◌-◌, length}
 use Rattle.bt_keycode.specs.Keys.{Key}
 use Rattle.bt_node.specs.Trees.{Tree, children, inner, leaf, pivots_of}

@@ -5,7 +5,7 @@ use Rattle.bt_node.specs.inside.Lookups.{pivots_up_to, tree_value}
 use Rattle.bt_node.specs.Messages.{Messages, value_after}
 use Rattle.bt_node.specs.Trees.{Tree}
 
--- how many of the first keys lie between bounds
+-- the number of keys at the front that lie between bounds
 abbrev pub count_between : Option Key → Option Key → List Key → ℕ
 count_between low high [] = 0
 count_between low high (k ∷ ks) = cond (is_between low high k) (suc (count_between low high ks)) 0
@@ -15,7 +15,7 @@ abbrev pub AllBelong : List Key → ℕ → List Key → Type 0
 AllBelong ps place [] = Unit {0}
 AllBelong ps place (k ∷ ks) = (place ≡ pivots_up_to k ps) × AllBelong ps place ks
 
--- what messages make of values at keys
+-- values at keys after messages
 abbrev pub values_after : {V M : Type 0} → (Option V → M → Option V) → Messages M → List Key → List (Option V) → List (Option V)
 values_after effect ms [] olds = []
 values_after effect ms (k ∷ ks) [] = []

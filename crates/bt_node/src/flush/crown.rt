@@ -10,7 +10,7 @@ use bt_keycode::Key;
 use bt_messages::{Buffer, Merge};
 use std::alloc::{AllocError, Global};
 
-// Siblings as children for which nothing is pending.
+// Siblings as children without pending messages.
 fn none_pending<V: Merge>(alloc: Global, siblings: Siblings<V>) -> Result<Children<V>, AllocError>
     ensures { IfOk result (λ children. children ≡ none_pending siblings) }
 {
@@ -19,7 +19,8 @@ fn none_pending<V: Merge>(alloc: Global, siblings: Siblings<V>) -> Result<Childr
     Ok(children)
 }
 
-/// One node stands for itself. More are dealt by the fanout under inner nodes with empty buffers, again until one is left.
+/// The crown of siblings. A single node is its own crown. Several nodes are dealt by the fanout under inner nodes with empty
+/// buffers, level by level, until one is left.
 pub(crate) fn crown_node<V: Merge>(
     alloc: Global,
     shape: Shape,

@@ -1,4 +1,4 @@
-//! How messages go down a node: as the first ones of a stream.
+//! How messages go down a node. They are the first ones of a stream.
 ghost use Rattle.std.specs.Prelude.{◌≡◌, ◌≤◌, ◌++◌, IfOk, OnOk, drop, length, take};
 ghost use Rattle.std.specs.List.{zip};
 ghost use Rattle.bt_messages.specs.Parts.{total};
@@ -19,8 +19,8 @@ use crate::form::shape::Shape;
 use bt_messages::{Buffer, Merge, Share, Stream};
 use std::alloc::{AllocError, Global};
 
-// What becomes of a child when its messages go down: those that are pending for it, and its share of those that come. Where none is
-// pending, the share goes down in the stream as it is.
+// Flushes a child: its pending messages go down, and its share of the incoming ones. If none is pending, the share goes down in the
+// stream as it is. Returns the nodes that replace the child.
 #[cycle(flushes)]
 fn flush_child<V: Merge>(
     alloc: Global,
@@ -36,7 +36,7 @@ fn flush_child<V: Merge>(
     ensures siblings { IfOk result (λ siblings. siblings ≡ flush_in (meaning_of V.terms) mode shape node (with_messages (take share.count stream.old) pending)) }
     ensures left { OnOk result (stream.new ≡ drop share.count stream.old) }
 {
-    // For its fact: a stream is sorted.
+    // Called for its contract: a stream is sorted.
     let _in_order = stream.len();
     if pending.is_empty() {
         return flush(alloc, shape, mode, node, stream, share.count);
@@ -48,8 +48,8 @@ fn flush_child<V: Merge>(
     flush(alloc, shape, mode, node, &mut all, count)
 }
 
-// What becomes of the children of an opened node: of the marked ones when what is pending for them goes down, while the others keep
-// their shares of what comes.
+// The children of an opened node after a flush. The pending messages of a marked child go down. The others keep their shares of the
+// incoming messages.
 #[cycle(flushes)]
 fn flush_marked<V: Merge>(
     alloc: Global,
@@ -91,11 +91,12 @@ fn flush_marked<V: Merge>(
     Ok(parts)
 }
 
-/// What becomes of a node and the first messages of a stream, which are gone from it.
+/// Takes the first messages of a stream into a node. Returns the nodes that replace it.
 ///
-/// A leaf's rows after the messages are dealt anew. An inner node stays as it is where its buffer has room for all. Else it is opened,
-/// the messages for some of its children, or for all, go down to them, and the children are dealt anew, each with its bin. Rows, keys
-/// and messages are moved, never copied, but for a leaf's least key as its pivot.
+/// A leaf applies the messages to its rows and deals them into leaves. An inner node stays as it is if its buffer has room for all
+/// messages. Otherwise it is opened: messages go down to some or all of its children, and the children are dealt under inner nodes,
+/// each with its bin. Rows, keys and messages are moved, never copied, except the smallest key of a leaf, which is copied for its
+/// pivot.
 #[cycle(flushes)]
 pub(crate) fn flush<V: Merge>(
     alloc: Global,

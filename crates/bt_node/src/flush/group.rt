@@ -1,4 +1,4 @@
-//! Nodes made of parts: rows dealt into leaves, children gathered under inner nodes.
+//! Builds nodes from parts: deals rows into leaves and groups children under inner nodes.
 ghost use Rattle.std.specs.Prelude.{◌≡◌, ◌≤◌, [], IfOk, OnOk, drop, length, map, take};
 ghost use Rattle.bt_node.specs.Children.{AreDivided};
 ghost use Rattle.bt_node.specs.Deals.{even, parted};
@@ -13,7 +13,7 @@ use bt_keycode::Key;
 use bt_messages::Merge;
 use std::alloc::{AllocError, Global};
 
-// A copy of the least key of some rows, or the empty key where there are none.
+// A copy of the smallest key of these rows, or the empty key if there are none.
 fn least_key<V: Merge>(alloc: Global, rows: &Rows<V>) -> Result<Key, AllocError>
     ensures { IfOk result (λ key. key ≡ first_key (λ r. r.0) rows.now) }
 {
@@ -23,8 +23,8 @@ fn least_key<V: Merge>(alloc: Global, rows: &Rows<V>) -> Result<Key, AllocError>
     rows.get(0).0.copy(alloc)
 }
 
-/// The rows dealt by the size of a leaf, each part behind its least key and the first behind the empty key. Where all of them fit
-/// in one leaf, none is moved.
+/// Deals rows into leaves of at most the size of a leaf. The pivot of each leaf is its smallest key, and the empty key for the
+/// first. If all rows fit in one leaf, none is moved.
 pub(crate) fn leaves<V: Merge>(
     alloc: Global,
     shape: Shape,
@@ -50,7 +50,7 @@ pub(crate) fn leaves<V: Merge>(
     Ok(siblings)
 }
 
-// So many of the next children under one inner node with their bins, behind the pivot of the first.
+// Puts the next `size` children under one inner node with their bins. Returns the node with the pivot of the first child.
 fn next_group<V: Merge>(
     alloc: Global,
     rest: &mut ChildIterator<V>,
@@ -72,7 +72,7 @@ fn next_group<V: Merge>(
     Ok(part.into_node())
 }
 
-// Children in so many parts, each under an inner node.
+// Deals children into `many` parts, each under an inner node.
 fn groups<V: Merge>(
     alloc: Global,
     children: Children<V>,
@@ -94,8 +94,8 @@ fn groups<V: Merge>(
     Ok(siblings)
 }
 
-/// The deal that ends what becomes of an inner node: its children dealt by the fanout, each part under an inner node. Where one node has
-/// room for all, none of them is moved. An `Err` keeps none.
+/// The last step of a flush of an inner node: deals its children by the fanout, each part under an inner node. If all fit under one
+/// node, none is moved. An `Err` drops the children.
 pub fn close<V: Merge>(
     alloc: Global,
     shape: Shape,

@@ -1,4 +1,4 @@
-//! How messages come to an inner node: they stay there, or the node is opened, for messages to go down to its children.
+//! How messages enter an inner node. They stay there, or the node is opened and messages go down to its children.
 ghost use Rattle.std.specs.Prelude.{◌≡◌, ◌+◌, ◌<◌, ◌≤◌, IfOk, get_or, length, map};
 ghost use Rattle.bt_messages.specs.Bins.{LieBetween, each_with};
 ghost use Rattle.bt_messages.specs.Parts.{parted, total};
@@ -16,27 +16,27 @@ use crate::form::shape::Shape;
 use bt_messages::{Bins, Measure, Merge, Share, Stream};
 use std::alloc::{AllocError, Global};
 
-/// An inner node from which messages go down.
+/// An inner node whose messages go down.
 #[derive(Drop)]
 pub struct Opened<V: Merge> {
     /// Its children, each with its bin.
     pub children: Children<V>,
-    /// How many of the messages that come are for each child.
+    /// The number of incoming messages for each child.
     pub shares: Vec<Share>,
-    /// Whether what is pending for each child goes down to it.
+    /// Whether the pending messages of each child go down to it.
     pub marks: Vec<bool>,
 }
 
-/// What an inner node does with the messages that come to it.
+/// The result of messages entering an inner node.
 #[derive(Drop)]
 pub enum Step<V: Merge> {
-    /// It has room for all, and none goes down. They are in its bins.
+    /// The node has room for all messages, and none goes down. They are in its bins.
     Stays(Node<V>),
-    /// Messages go down from it. Those that come are still in the stream.
+    /// Messages go down from the node. The incoming ones are still in the stream.
     Opens(Opened<V>),
 }
 
-// How much is pending for each child: what is in its bin, and its share of the messages that come. None is moved for that.
+// The load of each child: that of its bin plus that of its share of the incoming messages. No message is moved.
 fn loads<V: Merge>(
     alloc: Global,
     measure: Measure,
@@ -48,7 +48,7 @@ fn loads<V: Merge>(
     requires weighed { shares.now ≡ map (share_of (weigh_of V.terms) measure) (parted (counts shares.now) stream.now) }
     ensures { IfOk result (λ loads. loads.items ≡ map (load (weigh_of V.terms) measure) (each_with (parted (counts shares.now) stream.now) bins.now)) }
 {
-    // For its fact: a stream has fewer than 2^63 messages, so that the sums below are within a `u128`.
+    // Called for its contract: a stream has fewer than 2^63 messages, so the sums below fit in a `u128`.
     let _bound = stream.len();
     let mut loads = Vec::with_capacity(alloc, shares.len())?;
     for child in 0..shares.len() {
@@ -57,7 +57,7 @@ fn loads<V: Merge>(
     Ok(loads)
 }
 
-// Whether each child is planned, where so much is pending for each. The loads of those that are planned are 0 then.
+// Whether the plan flushes each child, given the loads. Sets the loads of the planned children to 0.
 fn planned_marks(alloc: Global, loads: &mut [u128], capacity: u64) -> Result<Vec<bool>, AllocError>
     ensures { IfOk result (λ found. found.items ≡ flush_marks Mode.Absorb capacity loads.old) }
 {
@@ -68,9 +68,9 @@ fn planned_marks(alloc: Global, loads: &mut [u128], capacity: u64) -> Result<Vec
     Ok(marks)
 }
 
-/// What an inner node does with the first messages of a stream. Where it has room for them all, they go to its bins, and are gone from
-/// the stream. Else the fullest child is to be flushed, until there is room for what is left; or each child is. After an `Err` some
-/// messages may be gone.
+/// Takes the first messages of a stream into an inner node. If it has room for all, they move from the stream to its bins.
+/// Otherwise the children to flush are marked: the fullest ones, until there is room for what is left, or all of them, by the mode.
+/// After an `Err` messages may be lost.
 pub fn open<V: Merge>(
     alloc: Global,
     shape: Shape,

@@ -1,11 +1,11 @@
-//! The children that a node flushes, worked out from the loads of what is pending for each.
+//! The children that a node flushes, computed from their loads.
 //!
-//! Loads and capacities are numbers of messages, or of bytes where the shape counts these, and places are counted from 0, the leftmost
+//! Loads and capacities are numbers of messages, or of bytes if the shape measures bytes. Places are counted from 0, the leftmost
 //! child.
 ghost use Rattle.std.specs.Prelude.{◌≡◌, ◌<◌, ◌∷◌, [], IfSome, MatchOption, length, nat_le};
 ghost use Rattle.bt_node.specs.Plans.{fullest, planned, total};
 
-/// Whether loads are no more than the capacity together. They are not added up, so that no sum can be too large.
+/// Whether the loads together are at most the capacity. They aren't added up, so no sum can overflow.
 pub(crate) fn are_within(loads: &[u128], capacity: u64) -> bool
     ensures { result ≡ nat_le (total loads.now) capacity }
 {
@@ -19,7 +19,7 @@ pub(crate) fn are_within(loads: &[u128], capacity: u64) -> bool
     true
 }
 
-// The place of the child with the largest load, the leftmost of them.
+// The place of the largest load, the leftmost of them.
 fn fullest_place(loads: &[u128]) -> usize
     ensures { result ≡ fullest loads.now }
 {
@@ -34,8 +34,8 @@ fn fullest_place(loads: &[u128]) -> usize
     best
 }
 
-/// The next child to flush, where so much is pending for each: none, where that is no more than the capacity together, and else the
-/// fullest, for which nothing is pending from then on.
+/// The next child to flush, given the loads. Returns `None` if they are at most the capacity together. Otherwise returns the
+/// fullest child and sets its load to 0.
 pub fn next_planned(rest: &mut [u128], capacity: u64) -> Option<usize>
     ensures found { MatchOption result (planned rest.old capacity ≡ []) (λ place. planned rest.old capacity ≡ place ∷ planned rest.new capacity) }
     ensures place { IfSome result (λ place. place < length rest.old) }

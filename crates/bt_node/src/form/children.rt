@@ -1,4 +1,4 @@
-//! The children of a node that is worked on, side by side with their bins.
+//! The children of a node during a flush, side by side with their bins.
 ghost use Rattle.std.specs.Prelude.{◌≡◌, ◌+◌, ◌-◌, ◌<◌, ◌≤◌, ◌++◌, ◌∷◌, [], IfOk, MatchOption, OnOk, drop, false, length, map, replicate, true, vec_capacity, vec_len};
 ghost use Rattle.bt_node.specs.Children.{AreDivided, behind_pivot, with_pending};
 ghost use Rattle.bt_node.specs.Flushes.{gathered};
@@ -11,13 +11,13 @@ use std::marker::Model;
 use std::mem;
 use std::vec::IntoIter;
 
-/// Children of a node that is worked on, side by side: each behind the pivot before it, with what is pending for it.
+/// The children of a node during a flush, side by side. Each has the pivot before it and its pending messages.
 #[derive(Drop)]
 pub struct Children<V: Merge> {
     // The pivot before the first child.
     first: Key,
     nodes: Vec<Node<V>>,
-    // Between the children.
+    // The pivots between the children.
     pivots: Vec<Key>,
     bins: Vec<Buffer<V>>,
 }
@@ -40,7 +40,7 @@ impl<V: Merge> Model for Children<V> {
     ghost invariant = { λ c. (length c.bins.items ≡ length c.nodes.items) × (length c.pivots.items ≡ length c.nodes.items - 1) };
 }
 
-// Room for so many more children.
+// Reserves capacity for `count` more children.
 fn make_room<V: Merge>(
     nodes: &mut Vec<Node<V>>,
     pivots: &mut Vec<Key>,
@@ -59,7 +59,7 @@ fn make_room<V: Merge>(
     bins.reserve(count)
 }
 
-// Puts a pivot before the next child, which may be the first one.
+// Sets the pivot before the next child, which may be the first one.
 fn add_pivot(first: &mut Key, pivots: &mut Vec<Key>, begins: bool, pivot: Key)
     requires { vec_len pivots.old < vec_capacity pivots.old }
     ensures first { begins ≡ true → (first.new ≡ pivot) × (pivots.new.items ≡ pivots.old.items) }
@@ -74,7 +74,7 @@ fn add_pivot(first: &mut Key, pivots: &mut Vec<Key>, begins: bool, pivot: Key)
     pivots.push_reserved(pivot);
 }
 
-// Moves items behind others, where there is room.
+// Appends items. The capacity suffices.
 fn append_items<T: Drop>(items: Vec<T>, into: &mut Vec<T>)
     requires { vec_len into.old + length items.items ≤ vec_capacity into.old }
     ensures { into.new.items ≡ into.old.items ++ items.items }
@@ -84,7 +84,7 @@ fn append_items<T: Drop>(items: Vec<T>, into: &mut Vec<T>)
     }
 }
 
-// Puts a buffer behind others, and empty ones after it, so many in all, where there is room.
+// Pushes `count` buffers: `pending`, then empty ones. The capacity suffices.
 fn push_bins<V: Merge>(alloc: Global, bins: &mut Vec<Buffer<V>>, pending: Buffer<V>, count: usize)
     requires some { 1 ≤ count }
     requires room { vec_len bins.old + count ≤ vec_capacity bins.old }
@@ -97,7 +97,7 @@ fn push_bins<V: Merge>(alloc: Global, bins: &mut Vec<Buffer<V>>, pending: Buffer
 }
 
 impl<V: Merge> Children<V> {
-    /// None, with room for so many.
+    /// No children, with capacity for this many.
     pub fn with_capacity(alloc: Global, count: usize) -> Result<Self, AllocError>
         ensures { IfOk result (λ children. children ≡ []) }
     {
@@ -112,7 +112,7 @@ impl<V: Merge> Children<V> {
         })
     }
 
-    /// Siblings, each with what is in its bin. Takes no memory.
+    /// Siblings with their bins. Allocates nothing.
     pub(crate) fn with_pending(siblings: Siblings<V>, bins: Bins<V>) -> Self
         requires { length bins ≡ length siblings }
         ensures { result ≡ with_pending siblings bins }
@@ -133,7 +133,7 @@ impl<V: Merge> Children<V> {
         self.nodes.len()
     }
 
-    /// Adds a child behind a pivot, with what is pending for it.
+    /// Adds a child with its pivot and its pending messages.
     pub fn push(&mut self, pivot: Key, node: Node<V>, pending: Buffer<V>) -> Result<(), AllocError>
         ensures { OnOk result (self.new ≡ self.old ++ record { pivot = pivot; tree = node; pending = pending } ∷ []) }
     {
@@ -145,7 +145,7 @@ impl<V: Merge> Children<V> {
         Ok(())
     }
 
-    /// Adds the siblings that a child became, the first of them behind its pivot. What is pending is pending for the first of them.
+    /// Adds the siblings that replace a child. The first of them gets the pivot of the child and its pending messages.
     pub fn append(
         &mut self,
         alloc: Global,
@@ -166,7 +166,7 @@ impl<V: Merge> Children<V> {
         Ok(())
     }
 
-    /// One inner node of all children, and the pivot before the first of them. Takes no memory.
+    /// One inner node over all children, and the pivot before the first of them. Allocates nothing.
     pub(crate) fn into_node(self) -> (Key, Node<V>)
         requires some { 1 ≤ length self }
         requires divided { AreDivided self }
@@ -182,7 +182,7 @@ impl<V: Merge> Children<V> {
         (first, Node::inner(children, Bins::from_buffers(bins)))
     }
 
-    /// The nodes, the pivots between them, and what is pending for each.
+    /// The nodes, the pivots between them, and the pending messages of each.
     pub fn apart(self) -> (Vec<Node<V>>, Vec<Key>, Vec<Buffer<V>>)
         ensures nodes { result.0.items ≡ map (λ c. c.tree) self }
         ensures pivots { result.1.items ≡ map (λ c. c.pivot) (drop 1 self) }
@@ -197,7 +197,7 @@ impl<V: Merge> Children<V> {
         (nodes, pivots, bins)
     }
 
-    /// The children to be taken one by one.
+    /// An iterator over the children.
     pub(crate) fn into_iter(self) -> ChildIterator<V>
         ensures { result ≡ self }
     {
@@ -216,10 +216,10 @@ impl<V: Merge> Children<V> {
     }
 }
 
-/// Children that are taken one by one, each with the pivot before it and what is pending for it.
+/// Children taken one by one, each with the pivot before it and its pending messages.
 #[derive(Drop)]
 pub(crate) struct ChildIterator<V: Merge> {
-    // Before the next child.
+    // The pivot before the next child.
     pivot: Key,
     nodes: IntoIter<Node<V>>,
     pivots: IntoIter<Key>,
@@ -246,12 +246,12 @@ impl<V: Merge> Model for ChildIterator<V> {
 }
 
 impl<V: Merge> ChildIterator<V> {
-    /// The next child, with the pivot before it and what is pending for it.
+    /// The next child, with the pivot before it and its pending messages.
     pub(crate) fn next(&mut self) -> Option<(Key, Node<V>, Buffer<V>)>
         ensures { MatchOption result (self.old ≡ []) (λ c. self.old ≡ record { pivot = c.0; tree = c.1; pending = c.2 } ∷ self.new) }
     {
         let node = self.nodes.next()?;
-        // Each node has a bin, so the bins don't end before the nodes do.
+        // Each node has a bin, so the bins don't end before the nodes.
         let Some(pending) = self.bins.next() else {
             unreachable!()
         };

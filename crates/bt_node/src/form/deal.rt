@@ -1,4 +1,4 @@
-//! Items in order, dealt into parts that are as even as can be.
+//! Deals items, in order, into parts that are as even as possible.
 ghost use Rattle.std.specs.Prelude.{◌≡◌, ◌+◌, ◌<◌, ◌∷◌, IfOk, OnOk, drop, map, take};
 ghost use Rattle.std.specs.Vec.Iter.{into_iter_items};
 ghost use Rattle.bt_node.specs.Deals.{deal, even};
@@ -6,7 +6,7 @@ ghost use Rattle.bt_node.specs.Deals.{deal, even};
 use std::alloc::{AllocError, Global};
 use std::vec::IntoIter;
 
-/// The size of the part at a place, where so many items are dealt into so many parts.
+/// The size of the part at a place, if this many items are dealt into this many parts.
 pub(crate) fn size_at(place: usize, items: usize, parts: usize) -> usize
     requires { place < parts }
     ensures { drop place (even items parts) ≡ result ∷ drop (place + 1) (even items parts) }
@@ -37,7 +37,7 @@ fn next_part<T: Drop>(
     Ok(part)
 }
 
-/// Items in order in parts, none larger than the most. Where all of them fit in one part, none is moved.
+/// Deals items, in order, into parts of at most `most`. If all fit in one part, none is moved.
 pub(crate) fn deal<T: Drop>(
     alloc: Global,
     items: Vec<T>,

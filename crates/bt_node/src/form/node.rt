@@ -8,10 +8,10 @@
 //!     leaves             1 3 5       6 8       9 12
 //! ```
 //!
-//! A key belongs to the node after the last pivot that is at most the key, or to the first node. Siblings are one node or more, and one pivot
-//! fewer than nodes; an inner node keeps its children in the same way, and for each of them a bin: the messages that are pending for it. A contract
-//! sees siblings as a list of nodes, each behind the pivot before it and the first behind the empty key, and the bins, one after the other, as the
-//! node's buffer.
+//! A key belongs to the node after the last pivot that is at most the key, or to the first node if there is none. Siblings are one node or
+//! more, with one pivot fewer than nodes. An inner node holds its children as siblings, and a bin for each: the messages that are pending
+//! for that child. A contract sees siblings as a list of nodes, each with the pivot before it and the first with the empty key. It sees the
+//! bins, one after the other, as the buffer of the node.
 ghost use Rattle.std.specs.Prelude.{◌≡◌, ◌∷◌, ◌++◌, ◌+◌, ◌≤◌, [], IfOk, OnOk, MatchOption, length, map, drop};
 ghost use Rattle.bt_node.specs.Fits.{IsLed};
 ghost use Rattle.bt_node.specs.Flushes.{pivot_first};
@@ -30,14 +30,14 @@ use std::marker::Model;
 use std::mem;
 use std::vec::IntoIter;
 
-/// A node with all that is below it. A contract sees the tree that it stands for.
+/// A node with everything below it. A contract sees the tree that it represents.
 #[cycle(nodes)]
 #[derive(Drop)]
 pub struct Node<V: Merge> {
     kind: NodeKind<V>,
 }
 
-/// What a node is made of: rows, or children with a bin of pending messages for each.
+/// The content of a node: rows, or children with a bin of pending messages for each.
 #[cycle(nodes)]
 #[derive(Drop)]
 pub(crate) enum NodeKind<V: Merge> {
@@ -48,7 +48,7 @@ pub(crate) enum NodeKind<V: Merge> {
     },
 }
 
-/// Nodes side by side, with a pivot between each two neighbours.
+/// Nodes side by side, with a pivot between neighbours.
 #[cycle(nodes)]
 #[derive(Drop)]
 pub struct Siblings<V: Merge> {
@@ -56,7 +56,7 @@ pub struct Siblings<V: Merge> {
     pivots: Vec<Key>,
 }
 
-/// What a node consists of: a leaf is one whole, an inner node its children and their bins.
+/// The parts of a node: a leaf is one part, an inner node has its children and their bins.
 #[derive(Drop)]
 pub enum Parts<V: Merge> {
     Leaf(Node<V>),
@@ -147,7 +147,7 @@ impl<V: Merge> Node<V> {
         kind
     }
 
-    /// The children of an inner node and their bins; a leaf is given back.
+    /// The children of an inner node and their bins. A leaf is returned as it is.
     pub fn apart(self) -> Parts<V>
         ensures { IsApart self result }
     {
@@ -166,7 +166,7 @@ impl<V: Merge> Siblings<V> {
         Siblings { nodes, pivots }
     }
 
-    /// Nodes with a pivot between each two neighbours.
+    /// Nodes with a pivot between neighbours.
     pub fn new(nodes: Vec<Node<V>>, pivots: Vec<Key>) -> Self
         requires one_fewer { length nodes.items ≡ length pivots.items + 1 }
         requires rising { AreRising pivots.items }
@@ -184,7 +184,7 @@ impl<V: Merge> Siblings<V> {
         (nodes, pivots)
     }
 
-    /// One node, with room for so many in all.
+    /// One node, with capacity for `count` nodes in all.
     pub(crate) fn with_capacity(
         alloc: Global,
         node: Node<V>,
@@ -198,7 +198,7 @@ impl<V: Merge> Siblings<V> {
         Ok(Siblings { nodes, pivots })
     }
 
-    /// Adds a node behind a pivot.
+    /// Adds a node with the pivot before it.
     pub(crate) fn push(&mut self, pivot: Key, node: Node<V>) -> Result<(), AllocError>
         ensures { OnOk result (self.new ≡ self.old ++ (pivot, node) ∷ []) }
     {
@@ -231,7 +231,7 @@ impl<V: Merge> Siblings<V> {
         self.pivots.as_slice()
     }
 
-    /// The one node.
+    /// The only node.
     pub(crate) fn into_only(self) -> Node<V>
         requires { length self ≡ 1 }
         ensures { self ≡ ([], result) ∷ [] }

@@ -1,4 +1,4 @@
-//! Rows: the entries of a map in order.
+//! Rows: the entries of a map, in order.
 ghost use Rattle.std.specs.Prelude.{◌≡◌, ◌+◌, ◌<◌, ◌≤◌, ◌++◌, [], IfOk, IsTrue, OnOk, Some, None, drop, length, take, option_map, slice_get, vec_len, vec_capacity};
 ghost use Rattle.std.specs.FinMap.{find, is_sorted};
 ghost use Rattle.std.specs.Option.{option_copied, option_to_list};
@@ -17,7 +17,7 @@ use std::cmp::Ordering;
 use std::collections::VecDeque;
 use std::marker::Model;
 
-/// Rows sorted by key, of which no two have the same key.
+/// Rows sorted by key. No two have the same key.
 #[derive(Drop)]
 pub struct Rows<V: Merge> {
     rows: Vec<(Key, V)>,
@@ -35,7 +35,7 @@ impl<V: Merge> Model for Rows<V> {
     ghost invariant = { λ r. IsTrue (is_sorted key_cmp r.rows.items) };
 }
 
-// Moves the first rows, as far as their keys are before this one.
+// Moves the rows at the front with a key before `key`.
 fn move_before<V: Merge>(moved: &mut Vec<(Key, V)>, older: &mut VecDeque<(Key, V)>, key: &Key)
     requires sorted { IsTrue (is_sorted key_cmp older.old.items) }
     requires room { vec_len moved.old + length older.old.items ≤ vec_capacity moved.old }
@@ -54,7 +54,7 @@ fn move_before<V: Merge>(moved: &mut Vec<(Key, V)>, older: &mut VecDeque<(Key, V
     }
 }
 
-// Takes out the first row where it has this key, and gives its value.
+// Takes out the first row if it has this key. Returns its value.
 fn take_first<V: Merge>(rows: &mut VecDeque<(Key, V)>, key: &Key) -> Option<V>
     requires sorted { IsTrue (is_sorted key_cmp rows.old.items) }
     requires none_before { before key.now rows.old.items ≡ [] }
@@ -70,7 +70,7 @@ fn take_first<V: Merge>(rows: &mut VecDeque<(Key, V)>, key: &Key) -> Option<V>
     Some(value)
 }
 
-// Puts a row in front of the others, where there is a value.
+// Puts a row in front of the others, if there is a value.
 fn put_front<V: Merge>(
     rows: &mut VecDeque<(Key, V)>,
     key: Key,
@@ -86,7 +86,7 @@ fn put_front<V: Merge>(
 }
 
 impl<V: Merge> Rows<V> {
-    /// No row.
+    /// An empty list of rows.
     pub(crate) fn new(alloc: Global) -> Self
         ensures { result ≡ [] }
     {
@@ -95,7 +95,7 @@ impl<V: Merge> Rows<V> {
         }
     }
 
-    /// Pairs of a key and a value, each key before the next.
+    /// Pairs of a key and a value, in strictly rising order of keys.
     pub(crate) fn from_sorted(rows: Vec<(Key, V)>) -> Self
         requires { IsTrue (is_sorted key_cmp rows.items) }
         ensures { result ≡ rows.items }
@@ -103,7 +103,7 @@ impl<V: Merge> Rows<V> {
         Rows { rows }
     }
 
-    /// The rows with a key at or past `from` and before `to`, by rising key. A bound that is absent doesn't limit.
+    /// The rows with a key at or past `from` and before `to`, in rising order. An absent bound doesn't limit.
     pub(crate) fn between(&self, from: Option<&Key>, to: Option<&Key>) -> &[(Key, V)]
         ensures rows { result.now ≡ between (option_copied from.entry) (option_copied to.entry) self.now }
         ensures sorted { IsTrue (is_sorted key_cmp result.now) }
@@ -141,8 +141,8 @@ impl<V: Merge> Rows<V> {
         }
     }
 
-    /// The value at a key, and a place for the search of the next one. The place of a row before the key and the length of the first step from
-    /// there shorten the search, and nothing else depends on them.
+    /// The value at a key, and a place at which to start the search for the next key. The search is fastest if the row at `place`
+    /// is before the key and near it. The result doesn't depend on `place` and `step`.
     pub(crate) fn find_near(&self, place: usize, step: usize, key: &Key) -> (usize, Option<&V>)
         requires { 1 ≤ step }
         ensures { option_copied result.1 ≡ find key_cmp key.now self.now }
@@ -151,8 +151,8 @@ impl<V: Merge> Rows<V> {
         (next, split_first(later, key).0)
     }
 
-    /// The rows after the first messages of a stream, which are gone from it, in one merge. Room beyond an eighth over the rows is
-    /// given back.
+    /// The rows after the first messages of a stream, which are taken off it, in one merge. Capacity of more than an eighth over
+    /// the rows is freed.
     pub(crate) fn after(
         self,
         alloc: Global,
@@ -166,7 +166,7 @@ impl<V: Merge> Rows<V> {
         if count == 0 {
             return Ok(self);
         }
-        // For its fact: a stream has fewer than 2^63 messages, so that the room asked for is a `usize`.
+        // Called for its contract: a stream has fewer than 2^63 messages, so the capacity fits in a `usize`.
         let _bound = stream.len();
         let Rows { rows } = self;
         let mut changed = Vec::with_capacity(alloc, rows.len() + count)?;
@@ -187,7 +187,7 @@ impl<V: Merge> Rows<V> {
         Ok(Rows { rows: changed })
     }
 
-    /// The rows in parts, none larger than the most.
+    /// The rows in parts of at most `most`.
     pub(crate) fn deal(self, alloc: Global, most: usize) -> Result<Vec<Rows<V>>, AllocError>
         requires { 0 < most }
         ensures { IfOk result (λ parts. parts.items ≡ deal most self) }

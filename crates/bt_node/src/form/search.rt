@@ -1,4 +1,4 @@
-//! Sorted entries searched for keys that mostly rise.
+//! Searches sorted entries for keys that mostly rise.
 ghost use Rattle.std.specs.Prelude.{◌≡◌, ◌-◌, ◌≤◌, length};
 ghost use Rattle.bt_keycode.specs.Keys.{IsSorted};
 ghost use Rattle.bt_node.specs.Messages.{from};
@@ -6,14 +6,14 @@ ghost use Rattle.bt_node.specs.Messages.{from};
 use bt_keycode::Key;
 use std::cmp::Ordering;
 
-/// How many entries there are to a key, and at least 1: the first step of a search from one key to the next.
+/// The mean number of entries for each key, and at least 1: the first step of a search from one key to the next.
 pub(crate) fn mean_step(entries: usize, keys: usize) -> usize
     ensures { 1 ≤ result }
 {
     (entries / keys.max(1)).max(1)
 }
 
-// Sorted entries from a place on, where the one there comes before a key, or else all of them.
+// The sorted entries from a place on, if the one there is before the key. Otherwise all of them.
 fn near<'e, X>(entries: &'e [(Key, X)], place: usize, key: &Key) -> &'e [(Key, X)]
     requires { IsSorted entries.now }
     ensures from { from key.now result.now ≡ from key.now entries.now }
@@ -25,11 +25,12 @@ fn near<'e, X>(entries: &'e [(Key, X)], place: usize, key: &Key) -> &'e [(Key, X
     entries
 }
 
-/// Sorted entries from a key on, and the place of the last entry before them, or 0: where to begin for the next key, if it is later.
+/// The sorted entries from a key on. Also returns the place of the last entry before them, or 0: the start for a search of the next
+/// key, if that is larger.
 ///
-/// The search begins at a place where the entry comes before the key, or else at the first entry. It goes on by steps, each twice as long as the
-/// last, as long as a step ends at an entry before the key. The step that would pass the key isn't taken: where the key's entries begin among
-/// those that it would pass is found by halving.
+/// The search starts at `place` if the entry there is before the key, and at the first entry otherwise. It steps forward, and each
+/// step is twice as long as the last. It stops before the step that would reach an entry at or past the key. A binary search of
+/// that step finds the first entry at or past the key.
 pub(crate) fn part_from<'e, X>(
     entries: &'e [(Key, X)],
     place: usize,

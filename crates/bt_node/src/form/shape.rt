@@ -1,4 +1,4 @@
-//! How large the nodes of a tree may be.
+//! The sizes that the nodes of a tree may have.
 ghost use Rattle.std.specs.Prelude.{◌≡◌, ◌≤◌, false, true, IfErr, IfOk};
 ghost use Rattle.bt_node.specs.Shapes.{is_shape};
 
@@ -6,7 +6,7 @@ use bt_messages::Measure;
 use bt_value::Refusal;
 use std::marker::Model;
 
-/// The smallest fanout: with it the parts into which children are dealt have two of them or more.
+/// The smallest fanout. With it, the parts into which children are dealt have at least two of them.
 pub const SMALLEST_FANOUT: usize = 4;
 /// The largest fanout.
 pub const LARGEST_FANOUT: usize = 64;
@@ -21,7 +21,8 @@ pub const SMALLEST_LEAF: usize = 2;
 /// The largest leaf.
 pub const LARGEST_LEAF: usize = 1024;
 
-/// The most children of an inner node, the room of its buffer and what it is counted in, and the most rows of a leaf.
+/// The largest number of children of an inner node, the capacity and measure of its buffer, and the largest number of rows of a
+/// leaf.
 #[derive(Clone, Copy, Debug, Drop)]
 pub struct Shape {
     fanout: u16,
@@ -46,7 +47,7 @@ impl Model for Shape {
 }
 
 impl Shape {
-    // A shape within the limits, else `BadShape`.
+    // A shape within the limits, or `BadShape`.
     fn of(measure: Measure, fanout: u32, buffer: u32, leaf: u32) -> Result<Self, Refusal>
         ensures ok { IfOk result (λ shape. shape ≡ record { fanout = fanout; buffer = buffer; leaf = leaf; measure = measure }) }
         ensures allowed { IfOk result (λ _. is_shape measure fanout buffer leaf ≡ true) }
@@ -74,7 +75,7 @@ impl Shape {
         })
     }
 
-    /// A fanout of 4 to 64, a buffer of 1 to 4,096 messages and a leaf of 2 to 1,024, else `BadShape`.
+    /// A fanout of 4 to 64, a buffer of 1 to 4,096 messages and a leaf of 2 to 1,024 rows, or `BadShape`.
     pub fn new(fanout: u32, buffer: u32, leaf: u32) -> Result<Self, Refusal>
         ensures ok { IfOk result (λ shape. shape ≡ record { fanout = fanout; buffer = buffer; leaf = leaf; measure = Measure.Messages }) }
         ensures allowed { IfOk result (λ _. is_shape Measure.Messages fanout buffer leaf ≡ true) }
@@ -83,8 +84,8 @@ impl Shape {
         Shape::of(Measure::Messages, fanout, buffer, leaf)
     }
 
-    /// A fanout of 4 to 64, a buffer of 1 to 1,048,576 bytes and a leaf of 2 to 1,024, else `BadShape`. What a message weighs is what
-    /// `Message::weight` says.
+    /// A fanout of 4 to 64, a buffer of 1 to 1,048,576 bytes and a leaf of 2 to 1,024 rows, or `BadShape`. Messages are weighed by
+    /// `Message::weight`.
     pub fn weighed(fanout: u32, bytes: u32, leaf: u32) -> Result<Self, Refusal>
         ensures ok { IfOk result (λ shape. shape ≡ record { fanout = fanout; buffer = bytes; leaf = leaf; measure = Measure.Bytes }) }
         ensures allowed { IfOk result (λ _. is_shape Measure.Bytes fanout bytes leaf ≡ true) }
@@ -93,7 +94,7 @@ impl Shape {
         Shape::of(Measure::Bytes, fanout, bytes, leaf)
     }
 
-    /// The most children of an inner node.
+    /// The largest number of children of an inner node.
     pub fn fanout(self) -> usize
         ensures value { result ≡ self.fanout }
         ensures range { (SMALLEST_FANOUT ≤ result) × (result ≤ LARGEST_FANOUT) }
@@ -101,7 +102,7 @@ impl Shape {
         self.fanout as usize
     }
 
-    /// The room of the buffer of an inner node: messages, or bytes.
+    /// The capacity of the buffer of an inner node, in messages or in bytes.
     pub fn buffer(self) -> usize
         ensures value { result ≡ self.buffer }
         ensures range { (SMALLEST_BUFFER ≤ result) × (result ≤ LARGEST_WEIGHED_BUFFER) }
@@ -109,14 +110,14 @@ impl Shape {
         self.buffer as usize
     }
 
-    /// What the room of a buffer is counted in.
+    /// The measure of the buffer's load.
     pub fn measure(self) -> Measure
         ensures { result ≡ self.measure }
     {
         self.measure
     }
 
-    /// The most rows of a leaf.
+    /// The largest number of rows of a leaf.
     pub fn leaf(self) -> usize
         ensures value { result ≡ self.leaf }
         ensures range { (SMALLEST_LEAF ≤ result) × (result ≤ LARGEST_LEAF) }

@@ -1,4 +1,4 @@
-//! The values at several keys, looked up together: neighbours that belong to one child go down together.
+//! Looks up several keys together. Neighbouring keys that belong to one child go down together.
 ghost use Rattle.std.specs.Prelude.{◌≡◌, ◌<◌, ◌≤◌, ◌++◌, [], IfOk, OnOk, Some, drop, length, map, slice_get, slice_index_or, take};
 ghost use Rattle.std.specs.Option.{option_copied};
 ghost use Rattle.std.specs.FinMap.{find};
@@ -20,7 +20,7 @@ use bt_messages::{Bins, Merge, Messages};
 use std::alloc::{AllocError, Global};
 use std::cmp::Ordering;
 
-// How many of the first keys lie between bounds.
+// The number of keys at the front that lie between the bounds.
 fn count_between(keys: &[&Key], low: &Key, high: Option<&Key>) -> usize
     ensures bound { result ≤ length keys.now }
     ensures count { result ≡ count_between (Some low.now) (option_copied high.entry) (map (λ k. k.now) keys.now) }
@@ -33,7 +33,7 @@ fn count_between(keys: &[&Key], low: &Key, high: Option<&Key>) -> usize
     keys.len()
 }
 
-// The pivot behind a child, where there is one.
+// The pivot after a child, if there is one.
 fn pivot_behind(pivots: &[Key], place: usize) -> Option<&Key>
     ensures { option_copied result ≡ slice_get pivots.now place }
 {
@@ -48,7 +48,7 @@ fn later_keys<'k>(keys: &'k [&'k Key], place: usize) -> &'k [&'k Key]
     &keys[place..]
 }
 
-// The child to which the first of keys belongs, and the first keys that belong to it.
+// The child to which the first key belongs, and the keys at the front that belong to it.
 fn first_run<'k>(pivots: &[Key], keys: &'k [&'k Key]) -> (usize, &'k [&'k Key])
     requires rising { AreRising pivots.now }
     requires some { 0 < length keys.now }
@@ -65,7 +65,7 @@ fn first_run<'k>(pivots: &[Key], keys: &'k [&'k Key]) -> (usize, &'k [&'k Key])
     (place, &keys[..count])
 }
 
-// What a leaf has at keys. These mostly rise, so each is searched for from where the last one was found.
+// The values of a leaf at keys. The keys mostly rise, so each search starts where the last key was found.
 fn found_at<'a, V: Merge>(
     alloc: Global,
     rows: &'a Rows<V>,
@@ -84,8 +84,8 @@ fn found_at<'a, V: Merge>(
     Ok(values)
 }
 
-// Adds what the messages in a bin make of the values that its child has at keys. Where there is no message, these are the values as they are.
-// Else messages and keys are gone through together: the messages to each key are searched for from where those to the last one were found.
+// Adds the values of a child at keys after the messages in its bin. Without messages, they are the values as they are. Otherwise
+// messages and keys are read together: each search for messages starts where those of the last key were found.
 fn add_after<'a, V: Merge>(
     alloc: Global,
     values: &mut Vec<ValueSoFar<'a, V>>,
@@ -108,7 +108,7 @@ fn add_after<'a, V: Merge>(
     let mut near = 0;
     let mut rest = keys;
     for old in below {
-        // This is never the end of the keys: there are as many of them as values.
+        // The keys don't end here: there are as many of them as values.
         let [key, others @ ..] = rest else {
             return Ok(());
         };
@@ -120,8 +120,8 @@ fn add_after<'a, V: Merge>(
     Ok(())
 }
 
-/// What keys have below a node. A child is entered once for all keys that belong to it and follow each other; so keys that rise
-/// enter each node once. A value is lent unless an upsert changes it.
+/// The values at keys below a node. A child is entered once for all neighbouring keys that belong to it, so rising keys enter each
+/// node once. A value is borrowed unless an upsert changes it.
 pub(crate) fn tree_values<'a, 'k, V: Merge>(
     alloc: Global,
     node: &'a Node<V>,
@@ -147,7 +147,7 @@ pub(crate) fn tree_values<'a, 'k, V: Merge>(
     }
 }
 
-/// The values by themselves: those that are lent are copied.
+/// The values as owned ones: borrowed values are copied.
 pub(crate) fn into_values<V: Merge>(
     alloc: Global,
     values: Vec<ValueSoFar<'_, V>>,

@@ -1,4 +1,4 @@
-//! The rows of a leaf and the messages to it, gone through in one pass.
+//! Reads the rows of a leaf and the messages to it in one pass.
 ghost use Rattle.std.specs.Prelude.{◌≡◌, [], IsTrue, None, OnOk, fold, option_map};
 ghost use Rattle.std.specs.FinMap.{find, is_sorted};
 ghost use Rattle.std.specs.Option.{option_copied, option_to_list};
@@ -17,7 +17,7 @@ use bt_messages::{Merge, between};
 use std::alloc::{AllocError, Global};
 use std::cmp::Ordering;
 
-// Shows rows as they stand, as far as the limit lets.
+// Shows rows as they are, up to the limit.
 fn visit_rows<V: Merge, S: Visitor<V>>(
     alloc: Global,
     rows: &[(Key, V)],
@@ -49,7 +49,7 @@ fn visit_row<V: Merge, S: Visitor<V>>(
     visitor.visit(alloc, key, value)
 }
 
-// Shows what a key has, where it has a value, unless the limit is reached.
+// Shows the value of a key, if it has one and the limit isn't reached.
 fn visit_held<V: Merge, S: Visitor<V>>(
     alloc: Global,
     key: &Key,
@@ -66,7 +66,7 @@ fn visit_held<V: Merge, S: Visitor<V>>(
     }
 }
 
-/// What the first row has where it has this key, and the rows at other keys.
+/// The value of the first row, if it has this key, and the rows at other keys.
 pub(crate) fn split_first<'a, V: Merge>(
     rows: &'a [(Key, V)],
     key: &Key,
@@ -85,8 +85,8 @@ pub(crate) fn split_first<'a, V: Merge>(
     (Some(&first.1), others)
 }
 
-/// Shows the rows of a leaf after messages to them, as far as the limit lets: a row without a message as it stands, a value that is put where the
-/// put has it.
+/// Shows the rows of a leaf after messages to them, up to the limit. A row without a message is shown as it is, and the value of a
+/// put is shown from the message.
 pub(crate) fn visit_leaf<'a, V: Merge, S: Visitor<V>>(
     alloc: Global,
     rows: &'a [(Key, V)],

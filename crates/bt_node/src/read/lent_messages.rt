@@ -1,4 +1,4 @@
-//! Messages that are lent from the buffers where they are pending.
+//! Messages borrowed from the buffers where they are pending.
 ghost use Rattle.std.specs.Prelude.{◌≡◌, ◌++◌, ◌∷◌, [], false, true, IfOk, MatchOption, None, OnOk, map, not};
 ghost use Rattle.std.specs.Option.{option_copied};
 ghost use Rattle.bt_keycode.specs.Keys.{AllFrom, IsSorted, is_before, is_before_upper};
@@ -15,14 +15,14 @@ use std::cmp::Ordering;
 use std::collections::VecDeque;
 use std::marker::Model;
 
-// A message and its key, where they are pending.
+// A reference to a pending message and its key.
 #[derive(Drop)]
 struct LentMessage<'a, V: Merge> {
     key: &'a Key,
     message: &'a Message<V>,
 }
 
-/// Messages in order, lent from where they are pending, and taken off one by one. A contract sees the list of them.
+/// Messages in order, borrowed from the buffers where they are pending, and taken off one by one. A contract sees the list of them.
 pub(crate) struct LentMessages<'a, V: Merge> {
     messages: VecDeque<LentMessage<'a, V>>,
 }
@@ -45,7 +45,7 @@ impl<'a, V: Merge> Model for LentMessages<'a, V> {
 }
 
 impl<'a, V: Merge> LentMessages<'a, V> {
-    /// No message.
+    /// An empty list of messages.
     pub(crate) fn new(alloc: Global) -> Self
         ensures { result ≡ [] }
     {
@@ -54,7 +54,7 @@ impl<'a, V: Merge> LentMessages<'a, V> {
         }
     }
 
-    /// The same messages once more.
+    /// A copy of the list of messages. The messages aren't copied.
     pub(crate) fn again(&self, alloc: Global) -> Result<Self, AllocError>
         ensures { IfOk result (λ copy. copy ≡ self.now) }
     {
@@ -65,7 +65,7 @@ impl<'a, V: Merge> LentMessages<'a, V> {
         Ok(copy)
     }
 
-    /// What the messages to a key make of what it has. The first of them is found by halving.
+    /// The value of a key after the messages to it. The first of them is found by binary search.
     pub(crate) fn effect_at(
         &self,
         alloc: Global,
@@ -82,7 +82,7 @@ impl<'a, V: Merge> LentMessages<'a, V> {
         after_lent(alloc, later, key, value)
     }
 
-    // Adds a message behind the others.
+    // Adds a message after the others.
     fn push(&mut self, key: &'a Key, message: &'a Message<V>) -> Result<(), AllocError>
         ensures { OnOk result (self.new ≡ self.old ++ (key.now, message.now) ∷ []) }
     {
@@ -90,7 +90,7 @@ impl<'a, V: Merge> LentMessages<'a, V> {
         Ok(())
     }
 
-    // Moves other messages behind these.
+    // Moves other messages after these.
     fn append(&mut self, others: LentMessages<'a, V>) -> Result<(), AllocError>
         ensures { OnOk result (self.new ≡ self.old ++ others.entry) }
     {
@@ -107,7 +107,7 @@ impl<'a, V: Merge> LentMessages<'a, V> {
         Some((key, message))
     }
 
-    // Takes off the first message where its key is before a bound.
+    // Takes off the first message if its key is before a bound.
     fn next_before(&mut self, high: Option<&Key>) -> Option<(&'a Key, &'a Message<V>)>
         requires { IsSorted self.old }
         ensures none { MatchOption result (messages_between None (option_copied high.entry) self.old ≡ []) (λ m. is_before_upper (option_copied high.entry) m.0.now ≡ true) }
@@ -120,7 +120,7 @@ impl<'a, V: Merge> LentMessages<'a, V> {
         self.next()
     }
 
-    // Takes off the first message where its key is not past this one.
+    // Takes off the first message if its key is at or before `key`.
     fn next_up_to(&mut self, key: &Key) -> Option<(&'a Key, &'a Message<V>)>
         ensures none { MatchOption result (messages_up_to key.now self.old ≡ []) (λ m. is_before key.now m.0.now ≡ false) }
         ensures first { MatchOption result (self.new ≡ self.old) (λ m. self.old ≡ (m.0.now, m.1.now) ∷ self.new) }
@@ -132,7 +132,7 @@ impl<'a, V: Merge> LentMessages<'a, V> {
         self.next()
     }
 
-    /// Takes off the messages with a key before a bound. After an error some of them are gone.
+    /// Takes off the messages with a key before a bound. After an error some of them are lost.
     pub(crate) fn take_before(
         &mut self,
         alloc: Global,
@@ -149,7 +149,7 @@ impl<'a, V: Merge> LentMessages<'a, V> {
         Ok(taken)
     }
 
-    /// Takes off the messages to the key at which they begin, and gives what they make of what it has.
+    /// Takes off the messages to a key. Returns the value of the key after them. All messages are at or past the key.
     pub(crate) fn take_effect(
         &mut self,
         alloc: Global,
@@ -168,7 +168,7 @@ impl<'a, V: Merge> LentMessages<'a, V> {
         Ok(value)
     }
 
-    // Takes off the messages with a key before this one.
+    // Takes off the messages with a key before `key`.
     fn drop_before(&mut self, key: &Key)
         requires { IsSorted self.old }
         ensures { self.new ≡ from key.now self.old }
@@ -176,7 +176,8 @@ impl<'a, V: Merge> LentMessages<'a, V> {
         while let Some(_) = self.next_before(Some(key)) {}
     }
 
-    /// Takes off the messages up to a key, and gives what those to it make of what it has. Those of keys before it have no effect.
+    /// Takes off the messages up to a key. Returns the value of the key after the messages to it. Messages to earlier keys have no
+    /// effect.
     pub(crate) fn take_up_to(
         &mut self,
         alloc: Global,
@@ -191,7 +192,7 @@ impl<'a, V: Merge> LentMessages<'a, V> {
         self.take_effect(alloc, key, old)
     }
 
-    // Moves the messages with a key before this one from other messages behind these.
+    // Moves the messages with a key before `key` from other messages to the end of these.
     fn move_before(&mut self, others: &mut LentMessages<'a, V>, key: &Key) -> Result<(), AllocError>
         requires { IsSorted others.old }
         ensures moved { OnOk result (self.new ≡ self.old ++ before key.now others.old) }
@@ -204,7 +205,7 @@ impl<'a, V: Merge> LentMessages<'a, V> {
     }
 }
 
-// The messages with a key at or past this one, found by halving.
+// The messages with a key at or past `key`, found by binary search.
 fn lent_from<'e, 'a, V: Merge>(
     entries: &'e [LentMessage<'a, V>],
     key: &Key,
@@ -216,7 +217,7 @@ fn lent_from<'e, 'a, V: Merge>(
     &entries[place..]
 }
 
-// What the messages to the key at which they begin make of what it has.
+// The value of a key after the messages to it. All messages are at or past the key.
 fn after_lent<'a, V: Merge>(
     alloc: Global,
     entries: &[LentMessage<'a, V>],
@@ -237,7 +238,7 @@ fn after_lent<'a, V: Merge>(
     Ok(value)
 }
 
-// Whether a key lies before a bound. A bound that is absent doesn't limit.
+// Whether a key is before a bound. An absent bound doesn't limit.
 pub(crate) fn lies_before(key: &Key, high: Option<&Key>) -> bool
     ensures { result ≡ is_before_upper (option_copied high.entry) key.now }
 {
@@ -247,7 +248,7 @@ pub(crate) fn lies_before(key: &Key, high: Option<&Key>) -> bool
     }
 }
 
-/// Whether a range ends at or before the bound at which it begins. A bound that is absent doesn't limit.
+/// Whether the range ends at or before its lower bound. An absent bound doesn't limit.
 pub(crate) fn is_empty_range(from: Option<&Key>, to: Option<&Key>) -> bool
     ensures { MatchOption from.entry (result ≡ false) (λ low. result ≡ not (is_before_upper (option_copied to.entry) low.now)) }
 {
@@ -257,7 +258,7 @@ pub(crate) fn is_empty_range(from: Option<&Key>, to: Option<&Key>) -> bool
     }
 }
 
-/// Older and newer messages in order, an older one before a newer one of its key.
+/// Older and newer messages in order. Of one key the older ones come first.
 pub(crate) fn with_messages<'a, V: Merge>(
     alloc: Global,
     older: Messages<'a, V>,

@@ -1,4 +1,4 @@
-//! The value at a key, looked up along one path from the root, as far down as it takes.
+//! Looks up the value at a key along one path from the root, only as far down as needed.
 ghost use Rattle.std.specs.Prelude.{◌≡◌, ◌<◌, ◌≤◌, [], IfOk, length, slice_index_or};
 ghost use Rattle.bt_keycode.specs.Keys.{AllFrom, IsSorted};
 ghost use Rattle.bt_messages.specs.Effects.{effect_of};
@@ -15,7 +15,7 @@ use bt_messages::{Bins, Merge, Messages};
 use std::alloc::{AllocError, Global};
 use std::cmp::Ordering;
 
-/// How many of these pivots are at most the key, found by halving.
+/// The number of pivots that are at most the key, found by binary search.
 pub(crate) fn pivots_up_to(pivots: &[Key], key: &Key) -> usize
     requires { AreRising pivots.now }
     ensures count { result ≡ pivots_up_to key.now pivots.now }
@@ -24,8 +24,8 @@ pub(crate) fn pivots_up_to(pivots: &[Key], key: &Key) -> usize
     pivots.partition_point(|pivot| key.compare(pivot) != Ordering::Less)
 }
 
-// The messages to a key in the bin of its child after the last put or del, and what that one leaves: nothing before it counts, here or
-// below. They may be followed by messages to later keys.
+// The messages to a key in the bin of its child after the last put or del, and the value that this one leaves. Nothing before it
+// counts, in this node or below. Messages to larger keys may follow.
 #[derive(Drop)]
 struct Newest<'a, V: Merge> {
     start: Option<ValueSoFar<'a, V>>,
@@ -53,7 +53,7 @@ fn since_reset<'a, V: Merge>(bins: &'a Bins<V>, place: usize, key: &Key) -> Newe
     Newest { start, left }
 }
 
-/// What the messages to a key make of what it has.
+/// The value of a key after the messages to it.
 pub(crate) fn after_messages<'a, V: Merge>(
     alloc: Global,
     messages: Messages<'a, V>,
@@ -74,8 +74,8 @@ pub(crate) fn after_messages<'a, V: Merge>(
     Ok(value)
 }
 
-/// What a key has below a node: what the messages to it, from the last put or del on, make of what that one leaves, or of the value
-/// in its leaf where there is none. A value is lent unless an upsert changes it.
+/// The value at a key below a node. It is the value that the last put or del leaves, or else the value in the leaf, after the
+/// messages that follow. The value is borrowed unless an upsert changes it.
 pub(crate) fn tree_value<'a, V: Merge>(
     alloc: Global,
     node: &'a Node<V>,

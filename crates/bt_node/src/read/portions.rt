@@ -1,4 +1,4 @@
-//! Trees in portions, which may be read side by side.
+//! Trees in portions, which threads can read side by side.
 ghost use Rattle.std.specs.Prelude.{◌≡◌, ◌<◌, ◌∷◌, [], false, IfOk, IfSome, OnOk, None, fold, length, map};
 ghost use Rattle.std.specs.Option.{option_copied, option_to_list};
 ghost use Rattle.bt_messages.specs.Effects.{effect_of};
@@ -23,7 +23,7 @@ use std::alloc::{AllocError, Global};
 use std::cmp::Ordering;
 use std::marker::Model;
 
-/// A part of a tree between two bounds: a subtree with the messages of the nodes above it that are for it, all lent from where they stand.
+/// A part of a tree between two bounds: a subtree with the messages to it in the nodes above, all borrowed.
 #[derive(Drop)]
 pub struct Portion<'a, V: Merge> {
     pub(crate) node: &'a Node<V>,
@@ -50,7 +50,7 @@ impl<'a, V: Merge> Model for Portion<'a, V> {
 }
 
 impl<'a, V: Merge> Portion<'a, V> {
-    /// A tree between two bounds, of which one that is absent doesn't limit.
+    /// A tree between two bounds. An absent bound doesn't limit.
     pub(crate) fn whole(
         alloc: Global,
         node: &'a Node<V>,
@@ -68,7 +68,7 @@ impl<'a, V: Merge> Portion<'a, V> {
         }
     }
 
-    /// Whether a key lies between its bounds.
+    /// Whether a key lies between the bounds.
     pub fn owns(&self, key: &Key) -> bool
         ensures { result ≡ portions.owns key.now self.now }
     {
@@ -79,7 +79,7 @@ impl<'a, V: Merge> Portion<'a, V> {
         from && lies_before(key, self.high)
     }
 
-    /// The value that it has at a key, when all messages have had their effect.
+    /// The value at a key, when all messages have had their effect.
     pub fn get(&self, alloc: Global, key: &Key) -> Result<Option<V>, AllocError>
         ensures { IfOk result (λ value. value ≡ value_in (effect_of V.terms.merged) key.now self.now) }
     {
@@ -87,8 +87,8 @@ impl<'a, V: Merge> Portion<'a, V> {
         self.newer.effect_at(alloc, key, old)?.into_value(alloc)
     }
 
-    /// The values that it has at rising keys, when all messages have had their effect. Each node below is entered once, and the messages from above
-    /// are gone through once.
+    /// The values at rising keys, when all messages have had their effect. Each node below is entered once, and the messages from
+    /// above are read once.
     pub fn values<'k>(
         self,
         alloc: Global,
@@ -118,7 +118,7 @@ impl<'a, V: Merge> Portion<'a, V> {
         Ok(values)
     }
 
-    // The same portion once more.
+    // A copy of the portion. Nothing that it borrows is copied.
     fn again(&self, alloc: Global) -> Result<Portion<'a, V>, AllocError>
         ensures { IfOk result (λ copy. copy ≡ self.now) }
     {
@@ -131,7 +131,7 @@ impl<'a, V: Merge> Portion<'a, V> {
         })
     }
 
-    /// Copies of the rows that it holds between its bounds, when all messages have had their effect, by rising key.
+    /// Copies of the rows between the bounds, when all messages have had their effect, in rising order.
     pub fn rows(&self, alloc: Global) -> Result<Vec<(Key, V)>, AllocError>
         ensures { IfOk result (λ rows. rows.items ≡ rows_of (effect_of V.terms.merged) self.now) }
     {
@@ -140,7 +140,7 @@ impl<'a, V: Merge> Portion<'a, V> {
         Ok(copies.into_rows())
     }
 
-    /// Shows a visitor the rows that it holds between its bounds, when all messages have had their effect, by rising key.
+    /// Shows a visitor the rows between the bounds, when all messages have had their effect, in rising order.
     pub fn visit<S: Visitor<V>>(self, alloc: Global, visitor: &mut S) -> Result<(), AllocError>
         ensures { OnOk result (visitor.new ≡ fold S.visited visitor.old (rows_of (effect_of V.terms.merged) self.entry)) }
     {
@@ -149,8 +149,8 @@ impl<'a, V: Merge> Portion<'a, V> {
     }
 }
 
-/// The first child of an inner node that meets the bounds of a portion of it, with the messages above it that are for it, and what is left of the
-/// portion behind that child. Each is a portion again.
+/// Splits a portion of an inner node into its first child between the bounds, with the messages to it from above, and the rest of
+/// the portion after that child. Both are portions.
 pub(crate) fn first_child<'a, V: Merge>(
     alloc: Global,
     portion: Portion<'a, V>,
@@ -194,7 +194,7 @@ pub(crate) fn first_child<'a, V: Merge>(
     Ok((child, Some(rest)))
 }
 
-// The children between the bounds of a portion, each with the messages above it that are for it. A leaf stays as it is.
+// The children between the bounds of a portion, each with the messages to it from above. A leaf stays as it is.
 fn child_portions<'a, V: Merge>(
     alloc: Global,
     portion: Portion<'a, V>,
@@ -217,7 +217,7 @@ fn child_portions<'a, V: Merge>(
     }
 }
 
-// The portions below all of these, in order.
+// The portions one level below all of these, in order.
 fn portions_below<'a, V: Merge>(
     alloc: Global,
     portions: Vec<Portion<'a, V>>,
@@ -232,7 +232,7 @@ fn portions_below<'a, V: Merge>(
     Ok(parts)
 }
 
-/// A tree in portions: the subtrees at a depth, and leaves at less depth, that meet the bounds.
+/// A tree in portions: the subtrees at a depth, and leaves at a smaller depth, that overlap the bounds.
 pub(crate) fn portions_at<'a, V: Merge>(
     alloc: Global,
     node: &'a Node<V>,

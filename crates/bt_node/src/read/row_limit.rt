@@ -1,9 +1,9 @@
-//! How far rows are shown.
+//! The limit on the rows that are shown.
 ghost use Rattle.std.specs.Prelude.{◌≡◌, ◌↔◌, ◌-◌, IsTrue, MatchOption, None, Some, min};
 
 use std::marker::Model;
 
-/// How many rows may still be shown. A contract sees that number, or none where there is no limit.
+/// The number of rows that may still be shown. A contract sees that number, or `None` if there is no limit.
 #[derive(Drop)]
 pub(crate) struct RowLimit {
     left: Option<usize>,
@@ -18,14 +18,14 @@ impl Model for RowLimit {
 }
 
 impl RowLimit {
-    /// All rows.
+    /// No limit.
     pub(crate) fn none() -> Self
         ensures { result ≡ None }
     {
         RowLimit { left: None }
     }
 
-    /// So many rows.
+    /// A limit of this many rows.
     pub(crate) fn rows(count: usize) -> Self
         ensures { result ≡ Some count }
     {
@@ -39,7 +39,7 @@ impl RowLimit {
         self.left == Some(0)
     }
 
-    /// Counts so many more rows, as far as they may be shown, and gives how many that are.
+    /// Counts more rows, as far as the limit allows. Returns the number that it counted.
     pub(crate) fn count_up_to(&mut self, rows: usize) -> usize
         ensures { MatchOption self.old ((result ≡ rows) × (self.new ≡ None)) (λ left. (result ≡ min left rows) × (self.new ≡ Some (left - rows))) }
     {

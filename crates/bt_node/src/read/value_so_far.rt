@@ -1,4 +1,4 @@
-//! Values that are lent as long as nothing changes them.
+//! Values that are borrowed until something changes them.
 ghost use Rattle.std.specs.Prelude.{◌≡◌, IfOk, IfSome};
 ghost use Rattle.std.specs.Option.{option_copied};
 ghost use Rattle.bt_messages.specs.Effects.{effect_of};
@@ -7,7 +7,7 @@ ghost use Rattle.bt_node.specs.inside.ValuesSoFar.{Resets, option_of};
 use bt_messages::{Merge, Message};
 use std::alloc::{AllocError, Global};
 
-/// What a key has: no value, a value where it stands, in a row or in a put, or a value that an upsert made.
+/// The value of a key: none, one borrowed from a row or a put, or one that an upsert made.
 #[derive(Drop)]
 pub(crate) enum ValueSoFar<'a, V: Merge> {
     Absent,
@@ -16,7 +16,7 @@ pub(crate) enum ValueSoFar<'a, V: Merge> {
 }
 
 impl<'a, V: Merge> ValueSoFar<'a, V> {
-    /// What is found, as it stands.
+    /// The value that was found, borrowed.
     pub(crate) fn of(value: Option<&'a V>) -> Self
         ensures { option_of result ≡ option_copied value.entry }
     {
@@ -26,7 +26,7 @@ impl<'a, V: Merge> ValueSoFar<'a, V> {
         }
     }
 
-    /// The value by itself: what is lent is copied.
+    /// The value as an owned one: a borrowed value is copied.
     pub(crate) fn into_value(self, alloc: Global) -> Result<Option<V>, AllocError>
         ensures { IfOk result (λ value. value ≡ option_of self.entry) }
     {
@@ -37,7 +37,8 @@ impl<'a, V: Merge> ValueSoFar<'a, V> {
         }
     }
 
-    /// What a message makes of it: what is put is lent, and an upsert changes a copy of what is lent, or what was made in its place.
+    /// The value after a message. The value of a put is borrowed. An upsert changes a copy of a borrowed value, and an owned value
+    /// in place.
     pub(crate) fn after(self, alloc: Global, message: &'a Message<V>) -> Result<Self, AllocError>
         ensures { IfOk result (λ new. option_of new ≡ effect_of V.terms.merged (option_of self.entry) message.now) }
     {
@@ -52,7 +53,7 @@ impl<'a, V: Merge> ValueSoFar<'a, V> {
     }
 }
 
-/// What a key has after a message that leaves nothing of its value: a put or a del.
+/// The value after a message that doesn't depend on the old one: a put or a del.
 pub(crate) fn reset<'a, V: Merge>(message: &'a Message<V>) -> Option<ValueSoFar<'a, V>>
     ensures { IfSome result (λ new. Resets (effect_of V.terms.merged) message.now (option_of new)) }
 {

@@ -1,4 +1,4 @@
-//! What is done with rows that are gone through one by one, or in parts side by side.
+//! Visitors take rows one by one, or in parts side by side.
 ghost use Rattle.std.specs.Prelude.{◌≡◌, ◌++◌, ◌∷◌, [], List, ℕ, OnOk, fold};
 ghost use Rattle.bt_node.specs.Folds.{copies_as_one};
 
@@ -7,9 +7,9 @@ use bt_messages::Merge;
 use std::alloc::{AllocError, Global};
 use std::marker::Model;
 
-/// What takes rows one by one, by rising key. A row is lent to it as long as the call lasts.
+/// Takes rows one by one, in rising order of keys. It borrows a row only during the call.
 pub trait Visitor<V>: Drop {
-    /// What a row makes of it.
+    /// The visitor after a row.
     ghost visited: { Self → List ℕ × V → Self };
 
     /// Takes one row.
@@ -17,28 +17,28 @@ pub trait Visitor<V>: Drop {
         ensures { OnOk result (self.new ≡ visited self.old (key.now, value.now)) };
 }
 
-/// A visitor whose rows can be taken in parts, side by side: a fork of it takes those behind, and what the fork made of them is joined to what it made of
-/// those before.
+/// A visitor that can take rows in parts, side by side. A fork of it takes the later rows, and its result is then joined to the
+/// result for the earlier ones.
 pub trait ForkVisitor<V>: Visitor<V> {
-    /// What begins anew, for rows behind.
+    /// The fork of a visitor, for later rows.
     ghost forked: { Self → Self };
 
-    /// What becomes of it and of a fork that took the rows behind.
+    /// The visitor joined with a fork that took the later rows.
     ghost joined: { Self → Self → Self };
 
-    /// One for the rows behind those that it takes. Takes no memory.
+    /// A fork for the rows after those that this one takes. Allocates nothing.
     fn fork(&self, alloc: Global) -> Self
         ensures { result ≡ forked self.now };
 
-    /// Takes in what a fork made of the rows behind.
+    /// Joins the result of a fork for the later rows.
     fn join(&mut self, alloc: Global, behind: Self) -> Result<(), AllocError>
         ensures { OnOk result (self.new ≡ joined self.old behind) };
 
-    /// Rows in two parts are rows in one.
+    /// Taking rows in two parts gives the same result as taking them in one.
     ghost as_one: { (visitor : Self) (rows behind : List (List ℕ × V)) → joined (fold Self.visited visitor rows) (fold Self.visited (forked visitor) behind) ≡ fold Self.visited visitor (rows ++ behind) };
 }
 
-/// Rows that are copied as they come. A contract sees the list of them.
+/// Copies of the rows that it was shown. A contract sees the list of them.
 #[derive(Drop)]
 pub struct Copies<V: Merge> {
     rows: Vec<(Key, V)>,
@@ -53,7 +53,7 @@ impl<V: Merge> Model for Copies<V> {
 }
 
 impl<V: Merge> Copies<V> {
-    /// No row.
+    /// A visitor without copies.
     pub fn new(alloc: Global) -> Self
         ensures { result ≡ [] }
     {
@@ -62,7 +62,7 @@ impl<V: Merge> Copies<V> {
         }
     }
 
-    /// The rows that came.
+    /// The copied rows.
     pub fn into_rows(self) -> Vec<(Key, V)>
         ensures { result.items ≡ self }
     {

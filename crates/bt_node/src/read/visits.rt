@@ -1,4 +1,4 @@
-//! The rows between two bounds, gone through leaf by leaf.
+//! Reads the rows between two bounds, leaf by leaf.
 ghost use Rattle.std.specs.Prelude.{◌≡◌, ◌≤◌, OnOk, fold, length};
 ghost use Rattle.std.specs.Option.{option_copied};
 ghost use Rattle.bt_messages.specs.Effects.{effect_of};
@@ -22,7 +22,7 @@ use bt_keycode::Key;
 use bt_messages::Merge;
 use std::alloc::{AllocError, Global};
 
-/// The place of the first child that may have keys from a bound on.
+/// The place of the first child that may have keys at or past a bound.
 pub(crate) fn first_place(pivots: &[Key], from: Option<&Key>) -> usize
     requires { AreRising pivots.now }
     ensures place { result ≡ first_place (option_copied from.entry) pivots.now }
@@ -34,7 +34,7 @@ pub(crate) fn first_place(pivots: &[Key], from: Option<&Key>) -> usize
     }
 }
 
-/// The pivot behind a child, where there is one and it lies before a bound.
+/// The pivot after a child, if there is one and it is before a bound.
 pub(crate) fn next_pivot<'a>(pivots: &'a [Key], place: usize, to: Option<&Key>) -> Option<&'a Key>
     ensures { option_copied result ≡ next_bound (option_copied to.entry) place pivots.now }
 {
@@ -46,8 +46,8 @@ pub(crate) fn next_pivot<'a>(pivots: &'a [Key], place: usize, to: Option<&Key>) 
     }
 }
 
-/// Shows the rows that a portion holds between its bounds when all messages have had their effect, by rising key, as far as the limit lets. Each
-/// child between the bounds is entered with the messages above it that are for it, unless the limit is reached before it.
+/// Shows the rows of a portion between its bounds, when all messages have had their effect, in rising order, up to the limit. Each
+/// child between the bounds is entered with the messages to it from above, unless the limit is reached first.
 pub(crate) fn visit_portion<V: Merge, S: Visitor<V>>(
     alloc: Global,
     portion: Portion<'_, V>,
@@ -79,7 +79,7 @@ pub(crate) fn visit_portion<V: Merge, S: Visitor<V>>(
     }
 }
 
-/// Shows the rows between the bounds that a node holds when all its messages have had their effect, by rising key, as far as the limit lets.
+/// Shows the rows of a node between the bounds, when all its messages have had their effect, in rising order, up to the limit.
 pub(crate) fn visit_between<V: Merge, S: Visitor<V>>(
     alloc: Global,
     node: &Node<V>,

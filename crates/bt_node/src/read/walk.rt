@@ -1,4 +1,4 @@
-//! What can be seen of a tree, node by node.
+//! Reads a tree node by node.
 ghost use Rattle.std.specs.Prelude.{◌≡◌, ◌<◌, cond, None, Some, fold, length, map, option_map, slice_get, take, true, IfOk, IsTrue, OnOk};
 ghost use Rattle.std.specs.FinMap.{find, is_sorted};
 ghost use Rattle.std.specs.Option.{option_copied};
@@ -23,7 +23,7 @@ use bt_messages::{BufferMessages, Merge};
 use std::alloc::{AllocError, Global};
 use std::marker::Model;
 
-/// A node to be looked at, with all that is below it.
+/// A reference to a node, with everything below it.
 #[derive(Drop)]
 pub struct Walk<'a, V: Merge> {
     node: &'a Node<V>,
@@ -48,7 +48,7 @@ impl<'a, V: Merge> Walk<'a, V> {
         Walk { node }
     }
 
-    /// Whether it is a leaf: it has rows, and no messages and no children.
+    /// Whether this is a leaf: it has rows, and no messages and no children.
     pub fn is_leaf(&self) -> bool
         ensures { result ≡ walk.is_leaf self.now }
     {
@@ -58,7 +58,7 @@ impl<'a, V: Merge> Walk<'a, V> {
         }
     }
 
-    /// The number of rows of a leaf, and 0 of an inner node.
+    /// The number of rows of a leaf, or 0 for an inner node.
     pub fn row_count(&self) -> usize
         ensures { result ≡ length (walk.rows_of self.now) }
     {
@@ -68,7 +68,7 @@ impl<'a, V: Merge> Walk<'a, V> {
         }
     }
 
-    /// The key and the value of a leaf's row, counted from 0.
+    /// The key and the value of a row of a leaf, counted from 0.
     pub fn row(&self, place: usize) -> (&'a Key, &'a V)
         requires { place < length (walk.rows_of self.now) }
         ensures { slice_get (walk.rows_of self.now) place ≡ Some (result.0.now, result.1.now) }
@@ -79,7 +79,7 @@ impl<'a, V: Merge> Walk<'a, V> {
         }
     }
 
-    /// The number of messages in the buffer of an inner node, and 0 of a leaf.
+    /// The number of messages in the buffer of an inner node, or 0 for a leaf.
     pub fn message_count(&self) -> u128
         ensures { result ≡ length (walk.messages_of self.now) }
     {
@@ -89,7 +89,7 @@ impl<'a, V: Merge> Walk<'a, V> {
         }
     }
 
-    /// The messages in the buffer of an inner node with their keys, in order, and none of a leaf.
+    /// The messages in the buffer of an inner node with their keys, in order. A leaf has none.
     pub fn messages(&self) -> BufferMessages<'a, V>
         ensures { result ≡ walk.messages_of self.now }
     {
@@ -99,7 +99,7 @@ impl<'a, V: Merge> Walk<'a, V> {
         bins.iter()
     }
 
-    /// The number of children of an inner node, and 0 of a leaf.
+    /// The number of children of an inner node, or 0 for a leaf.
     pub fn child_count(&self) -> usize
         ensures { result ≡ length (walk.children_of self.now) }
     {
@@ -120,7 +120,7 @@ impl<'a, V: Merge> Walk<'a, V> {
         }
     }
 
-    /// The pivot before a child that is not the first, counted from 0.
+    /// The pivot before a child, counted from 0. The child isn't the first.
     pub fn pivot(&self, place: usize) -> &'a Key
         requires not_first { 0 < place }
         requires within { place < length (walk.children_of self.now) }
@@ -132,7 +132,7 @@ impl<'a, V: Merge> Walk<'a, V> {
         }
     }
 
-    /// The value at a key when all messages here and below have had their effect, found along one path.
+    /// The value at a key, when all messages in this node and below have had their effect. It is found along one path.
     pub fn get(&self, alloc: Global, key: &Key) -> Result<Option<V>, AllocError>
         requires { IsInOrder self.now }
         ensures { IfOk result (λ value. value ≡ find key_cmp key.now (holds (effect_of V.terms.merged) self.now)) }
@@ -140,8 +140,8 @@ impl<'a, V: Merge> Walk<'a, V> {
         tree_value(alloc, self.node, key)?.into_value(alloc)
     }
 
-    /// The values at keys when all messages here and below have had their effect. Neighbours that belong to one child go down together, so
-    /// keys that rise enter each node on the way once.
+    /// The values at keys, when all messages in this node and below have had their effect. Neighbouring keys that belong to one
+    /// child go down together, so rising keys enter each node on the way once.
     pub fn values<'k>(
         &self,
         alloc: Global,
@@ -153,9 +153,9 @@ impl<'a, V: Merge> Walk<'a, V> {
         into_values(alloc, tree_values(alloc, self.node, keys)?)
     }
 
-    /// Shows a visitor the rows with a key at or past `from` and before `to`, when all messages here and below have had their effect, by
-    /// rising key. A bound that is absent doesn't limit. Values are lent from where they stand, and copied where an upsert changes them;
-    /// subtrees outside of the bounds are not entered. An `Err` is the visitor's, or for want of memory.
+    /// Shows a visitor the rows with a key at or past `from` and before `to`, when all messages in this node and below have had
+    /// their effect, in rising order. An absent bound doesn't limit. Values are borrowed, or copied if an upsert changes them.
+    /// Subtrees outside the bounds aren't entered. An `Err` comes from the visitor or from a failed allocation.
     pub fn visit<S: Visitor<V>>(
         &self,
         alloc: Global,
@@ -169,9 +169,9 @@ impl<'a, V: Merge> Walk<'a, V> {
         visit_between(alloc, self.node, from, to, visitor, RowLimit::none())
     }
 
-    /// Shows a visitor the first rows, at most `count`, with a key at or past `from`, when all messages here and below have had their
-    /// effect, by rising key. A bound that is absent doesn't limit. Values are lent and copied as in `visit`. Subtrees behind the last row
-    /// that is shown are not entered. An `Err` is the visitor's, or for want of memory.
+    /// Shows a visitor the first rows, at most `count`, with a key at or past `from`, when all messages in this node and below have
+    /// had their effect, in rising order. An absent bound doesn't limit. Values are borrowed or copied as in `visit`. Subtrees
+    /// after the last row shown aren't entered. An `Err` comes from the visitor or from a failed allocation.
     pub fn visit_first<S: Visitor<V>>(
         &self,
         alloc: Global,
@@ -185,8 +185,8 @@ impl<'a, V: Merge> Walk<'a, V> {
         visit_between(alloc, self.node, from, None, visitor, RowLimit::rows(count))
     }
 
-    /// Copies of the rows with a key at or past `from` and before `to`, when all messages here and below have had their effect, by
-    /// rising key. A bound that is absent doesn't limit. Nothing outside of the bounds is copied.
+    /// Copies of the rows with a key at or past `from` and before `to`, when all messages in this node and below have had their
+    /// effect, in rising order. An absent bound doesn't limit. Nothing outside the bounds is copied.
     pub fn rows(
         &self,
         alloc: Global,
@@ -202,8 +202,9 @@ impl<'a, V: Merge> Walk<'a, V> {
         Ok(copies.into_rows())
     }
 
-    /// The tree in portions, which can be read side by side: the subtrees at a depth, and leaves at less depth, that meet the bounds, each with the
-    /// messages above it that are for it. A bound that is absent doesn't limit. Nothing is copied. There is none where `to` is at or before `from`.
+    /// The tree in portions, which threads can read side by side: the subtrees at a depth, and leaves at a smaller depth, that
+    /// overlap the bounds. Each has the messages to it from above. An absent bound doesn't limit. Nothing is copied. There are no
+    /// portions if `to` is at or before `from`.
     pub fn portions(
         &self,
         alloc: Global,

@@ -20,7 +20,7 @@ few_up_to k (p ∷ ps) = elim (is_before k p) as (λ b. cond b 0 (suc (pivots_up
   | false ↦ omega (arith, few_up_to k ps)
 ]
 
--- no fewer up to a later key
+-- no fewer are up to a larger key
 no_fewer : (k q : Key) (ps : List Key) → is_before q k ≡ false → pivots_up_to k ps ≤ pivots_up_to q ps
 no_fewer k q [] later = omega arith
 no_fewer k q (p ∷ ps) later = elim (is_before k p) as (λ b. is_before k p ≡ b → cond b 0 (suc (pivots_up_to k ps)) ≤ cond (is_before q p) 0 (suc (pivots_up_to q ps))) [
@@ -33,7 +33,7 @@ no_fewer k q (p ∷ ps) later = elim (is_before k p) as (λ b. is_before k p ≡
 same_some : (p q : Key) → Some p ≡ Some q → p ≡ q
 same_some p q e = cc e
 
--- the one behind those up to a key is past it
+-- the pivot after those up to a key is past it
 next_past : (k p : Key) (ps : List Key) → slice_get ps (pivots_up_to k ps) ≡ Some p → is_before k p ≡ true
 next_past k p [] is = absurd (cc is)
 next_past k p (q ∷ qs) is = elim (is_before k q) as (λ b. is_before k q ≡ b → slice_get (q ∷ qs) (cond b 0 (suc (pivots_up_to k qs))) ≡ Some p → is_before k p ≡ true) [
@@ -41,7 +41,7 @@ next_past k p (q ∷ qs) is = elim (is_before k q) as (λ b. is_before k q ≡ b
   | false ↦ λ e at. next_past k p qs at
 ] refl is
 
--- keys behind the first of rising ones rise
+-- rising keys without the first are rising
 pub rest_rises : (p : Key) (ps : List Key) → AreRising (p ∷ ps) → AreRising ps
 rest_rises p [] rising = tt
 rest_rises p (q ∷ qs) rising = rising.1
@@ -55,7 +55,7 @@ first_not_past p q [] i rising at = absurd (cc at)
 first_not_past p q (r ∷ rs) zero rising at = ap (λ x. is_before x p) (sym (same_some r q at)) ∙ not_after p r rising.0
 first_not_past p q (r ∷ rs) (suc i) rising at = later_chain p r q (not_after p r rising.0) (first_not_past r q rs i rising.1 at)
 
--- up to a pivot are those to its place, and itself
+-- the pivots up to a pivot are those before its place, and itself
 pub up_to_pivot : (p : Key) (ps : List Key) (i : ℕ) → AreRising ps → slice_get ps i ≡ Some p → pivots_up_to p ps ≡ suc i
 up_to_pivot p [] i rising at = absurd (cc at)
 up_to_pivot p (q ∷ qs) zero rising at =
@@ -64,7 +64,7 @@ up_to_pivot p (q ∷ qs) zero rising at =
 up_to_pivot p (q ∷ qs) (suc i) rising at =
     ap (λ b. cond b 0 (suc (pivots_up_to p qs))) (first_not_past q p qs i rising at) ∙ ap suc (up_to_pivot p qs i (rest_rises q qs rising) at)
 
--- no more than its place are up to what is before a pivot
+-- no more than its place are up to a key before a pivot
 no_more : (q p : Key) (ps : List Key) (i : ℕ) → slice_get ps i ≡ Some p → is_before q p ≡ true → pivots_up_to q ps ≤ i
 no_more q p [] i at before = omega arith
 no_more q p (r ∷ rs) zero at before = omega (arith, ap (λ b. cond b 0 (suc (pivots_up_to q rs))) (ap (is_before q) (same_some r p at) ∙ before))
@@ -109,7 +109,7 @@ belongs low to next high ps place q begins is_next is_high inside =
     let below = no_more_below to ps place q (slice_get ps place) refl upper in
     omega (arith, begins, from, below)
 
--- ---- the next pivot, where it lies before the upper bound
+-- ---- the next pivot, if it is before the upper bound
 
 next_is : (to : Option Key) (p : Key) (at : Option Key) → where_before to at ≡ Some p → (at ≡ Some p) × (is_before_upper to p ≡ true)
 next_is to p None is = absurd (cc is)
@@ -143,7 +143,7 @@ pub or_copied : (a b : Option (Bor Key)) → option_copied (option_or a b) ≡ o
 or_copied None b = refl
 or_copied (Some a) b = refl
 
--- a bound that is not absent is a key
+-- a bound that isn't absent is a key
 pub present : (a : Option (Bor Key)) → is_none a ≡ false → (p : Key) × (option_copied a ≡ Some p)
 present None e = absurd (true≢false e)
 present (Some a) e = (a.now, refl)

@@ -1,4 +1,4 @@
--- Children are their nodes behind their pivots, beside their bins.
+-- Children are their nodes with their pivots and their bins.
 use Rattle.std.proofs.Common.{◌≡◌, ◌≤◌, ◌<◌, ◌+◌, ◌-◌, ◌==◌, ℕ, zero, suc, Bool, true, false, List, [], ◌∷◌, ◌++◌, drop, length, map, replicate, refl, sym, ap, subst, ◌∙◌, append-nil, append_assoc, arith, length-append}
 use Rattle.std.proofs.lemmas.Bool.{ne_eqb}
 use Rattle.std.proofs.lemmas.List.{nil_from_length}
@@ -32,7 +32,7 @@ module _ {V M : Type 0} where
   with_pending-append (k ∷ ks) ls (t ∷ ts) us (b ∷ bs) cs same long =
       ap (λ z. record { pivot = k; tree = t; pending = b } ∷ z) (with_pending-append ks ls ts us bs cs (omega (arith, same)) (omega (arith, long)))
 
-  -- The pivot before the first of more children: it comes first where there is none before it, and else behind the others.
+  -- The pivot before the first of more children: it comes first if there is none before it, and after the others otherwise.
   pub record IsNext (first : Key) (ps : List Key) (ts : List (Tree V M)) (k now : Key) (qs : List Key) : Type 0 where
     pub begins : length ts ≡ 0 → (now ≡ k) × (qs ≡ ps)
     pub goes_on : 0 < length ts → (now ≡ first) × (qs ≡ ps ++ k ∷ [])
@@ -86,7 +86,7 @@ module _ {V M : Type 0} where
       ∙ ap (λ ds. with_pending (zip (now ∷ qs ++ []) (ts ++ t ∷ [])) ds) bins_are
       ∙ more first ps ts bs k now qs [] (t ∷ []) (b ∷ []) long fewer next
 
-  -- nothing is pending for siblings behind empty bins
+  -- nothing is pending for siblings with empty bins
   empty-with_pending : (xs : Siblings V M) → with_pending xs (replicate (length xs) []) ≡ none_pending xs
   empty-with_pending [] = refl
   empty-with_pending (x ∷ xs) = ap (λ z. record { pivot = x.0; tree = x.1; pending = [] } ∷ z) (empty-with_pending xs)
@@ -100,7 +100,7 @@ module _ {V M : Type 0} where
       ap (λ n. record { pivot = k; tree = u; pending = p } ∷ with_pending (zip ls us) (replicate n [])) count
       ∙ ap (λ z. record { pivot = k; tree = u; pending = p } ∷ z) (empty-with_pending (zip ls us))
 
-  -- siblings behind the empty key, for which nothing is pending
+  -- siblings with the empty key, without pending messages
   pub behind_pivot-nothing : (xs : Siblings V M) (k : Key) (p : Messages M) → k ≡ [] → p ≡ [] → IsLed xs → behind_pivot k p xs ≡ none_pending xs
   behind_pivot-nothing [] k p none empty led = absurd led
   behind_pivot-nothing (x ∷ xs) k p none empty led =
@@ -143,7 +143,7 @@ module _ {V M : Type 0} where
     pub bins-whole : map (λ c. c.pending) whole ≡ bs
     bins-whole = pending-with_pending (zip (first ∷ ps) ts) bs same
 
-  -- the pivots behind the first
+  -- the pivots after the first
   pub pivots-whole : (first : Key) (ps : List Key) (ts : List (Tree V M)) (bs : List (Messages M)) → length bs ≡ length ts → length ps ≡ length ts - 1 →
       map (λ c. c.pivot) (drop 1 (with_pending (zip (first ∷ ps) ts) bs)) ≡ ps
   pivots-whole first ps [] bs long fewer = sym (nil_from_length ps (omega (arith, fewer)))

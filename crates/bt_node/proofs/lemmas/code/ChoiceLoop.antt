@@ -1,4 +1,4 @@
--- To empty the fullest in turn is to take the plan.
+-- Emptying the fullest repeatedly gives the plan.
 use Rattle.std.proofs.Common.{◌≡◌, ℕ, zero, suc, ◌+◌, ◌<◌, ◌≤◌, ◌≢◌, Bool, true, false, nat_le, cond, ltb, List, [], ◌∷◌, length, get_or, set, refl, sym, ap, ◌∙◌, subst, arith, inl, inr}
 use Rattle.std.proofs.lemmas.Bool.{leb-true, leb-false, le-leb, lt-leb, cond-true, cond-false, lt-ltb, le-ltb}
 use Rattle.std.proofs.lemmas.List.{get_or_past}
@@ -8,7 +8,7 @@ use Rattle.bt_node.proofs.lemmas.plans.RenewedChoice.{le_or_lt, nothing, most-he
 
 -- ---- the fullest
 
--- the fullest from place k on, where so far n is the most, at the place `best`
+-- the fullest from place k on, if n is the most so far, at the place `best`
 abbrev pub fullest_from : ℕ → ℕ → ℕ → List ℕ → ℕ
 fullest_from best n k [] = best
 fullest_from best n k (m ∷ ms) = cond (ltb n m) (fullest_from k m (suc k) ms) (fullest_from best n (suc k) ms)
@@ -45,11 +45,11 @@ get_or-fullest (n ∷ ns) = elim (le_or_lt (most ns) n) [
   | inr later ↦ ap (λ i. get_or (n ∷ ns) i 0) (fullest-later n ns later) ∙ get_or-fullest ns ∙ sym (most-later n ns later)
 ]
 
--- no count above 0 is past the end
+-- no place past the end has a load above 0
 place-below : (ns : List ℕ) (i : ℕ) → 0 < get_or ns i 0 → i < length ns
 place-below ns i l = elim (le_or_lt (length ns) i) [ inl past ↦ absurd (omega (arith, get_or_past ns i 0 past)) | inr h ↦ h ]
 
--- ---- one turn
+-- ---- one step
 
 heavy : (ns : List ℕ) (capacity : ℕ) → capacity < total ns → 0 < most ns
 heavy ns capacity over = elim (le_or_lt (most ns) 0) [ inl none ↦ omega (arith, nothing ns (omega arith)) | inr h ↦ h ]
@@ -60,22 +60,22 @@ fullest-below ns capacity over = place-below ns (fullest ns) (omega (arith, get_
 pub fullest-some : (ns : List ℕ) (capacity : ℕ) → capacity < total ns → 0 < get_or ns (fullest ns) 0
 fullest-some ns capacity over = omega (arith, get_or-fullest ns, heavy ns capacity over)
 
--- when the fullest is emptied, the others are left
+-- when the fullest is emptied, the loads of the others are left
 pub total-emptied : (ns : List ℕ) (capacity : ℕ) → capacity < total ns → get_or ns (fullest ns) 0 + total (set ns (fullest ns) 0) ≡ total ns
 total-emptied ns capacity over = omega (arith, get_or-fullest ns, total-rest ns (heavy ns capacity over))
 
--- nothing is planned within capacity
+-- nothing is planned if the loads are within the capacity
 pub planned-within : (ns : List ℕ) (capacity : ℕ) → total ns ≤ capacity → planned ns capacity ≡ []
 planned-within ns capacity within = sym (renewed-planned capacity (suc (total ns)) ns (omega arith)) ∙ cond-true _ _ _ (le-leb _ _ within)
 
--- over capacity the fullest is planned, and then what is planned without it
+-- over capacity, the fullest is planned first, and then what is planned without it
 pub planned-over : (ns : List ℕ) (capacity : ℕ) → capacity < total ns → planned ns capacity ≡ fullest ns ∷ planned (set ns (fullest ns) 0) capacity
 planned-over ns capacity over =
     sym (renewed-planned capacity (suc (total ns)) ns (omega arith))
     ∙ cond-false _ _ _ (lt-leb _ _ over)
     ∙ ap (λ is. fullest ns ∷ is) (renewed-planned capacity (total ns) (set ns (fullest ns) 0) (omega (arith, total-emptied ns capacity over)))
 
--- a turn, at place i
+-- a step, at place i
 pub record Turn (ns : List ℕ) (capacity i : ℕ) : Type 0 where
   pub over : capacity < total ns
   pub place : i ≡ fullest ns
@@ -88,7 +88,7 @@ pub turn_taken : (ns : List ℕ) (capacity place : ℕ) (test : Bool) → test �
 turn_taken ns capacity place test past is fullest_there = record { over = leb-false _ _ (sym is ∙ past); place = fullest_there }
 
 module _ (ns : List ℕ) (capacity place : ℕ) (turn : Turn ns capacity place) where
-  -- its place is one of a child
+  -- its place is that of a child
   pub turn-below : place < length ns
   turn-below = omega (arith, turn.place, fullest-below ns capacity turn.over)
 
@@ -106,7 +106,7 @@ all-map : (P Q : ℕ → Type 0) → ((i : ℕ) → P i → Q i) → (is : List 
 all-map P Q f [] all = tt
 all-map P Q f (i ∷ is) all = (f i all.0, all-map P Q f is all.1)
 
--- what still has a count is not the place that was emptied, and had the count before
+-- what still has a load is not the place that was emptied, and had the load before
 still-some : (ns : List ℕ) (i j : ℕ) → 0 < get_or (set ns i 0) j 0 → (i ≢ j) × (0 < get_or ns j 0)
 still-some [] i j l = absurd (omega arith)
 still-some (n ∷ ns) zero zero l = absurd (omega arith)
@@ -114,7 +114,7 @@ still-some (n ∷ ns) zero (suc j) l = (omega arith, l)
 still-some (n ∷ ns) (suc i) zero l = (omega arith, l)
 still-some (n ∷ ns) (suc i) (suc j) l = let h = still-some ns i j l in (omega (arith, h.0), h.1)
 
--- each planned place has a count above 0
+-- each planned place has a load above 0
 planned-some : (turns : ℕ) (ns : List ℕ) (capacity : ℕ) → total ns ≤ turns → AllByRecursion (λ i. 0 < get_or ns i 0) (planned ns capacity)
 planned-some zero ns capacity l = subst (AllByRecursion (λ i. 0 < get_or ns i 0)) (sym (planned-within ns capacity (omega arith))) tt
 planned-some (suc turns) ns capacity l = elim (le_or_lt (total ns) capacity) [
@@ -132,7 +132,7 @@ all-at P [] all k d l = absurd (omega arith)
 all-at P (i ∷ is) all zero d l = all.0
 all-at P (i ∷ is) all (suc k) d l = all-at P is all.1 k d (omega arith)
 
--- Each planned place is one of a count.
+-- Each planned place is that of a load.
 pub planned-below : (counts : List ℕ) (capacity : ℕ) → All (λ i. i < length counts) (planned counts capacity)
 planned-below counts capacity k d l =
     place-below counts _ (all-at _ (planned counts capacity) (planned-some (total counts) counts capacity (omega arith)) k d l)

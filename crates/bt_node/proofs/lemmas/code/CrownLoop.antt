@@ -1,4 +1,4 @@
--- Siblings put under inner nodes, as the code does it: fewer, and with the same crown.
+-- Siblings put under inner nodes, as the code does it: there are fewer, with the same crown.
 use Rattle.std.proofs.Common.{◌≡◌, ◌<◌, ◌≤◌, List, [], ◌∷◌, length, map, refl, sym, ap, subst, ◌∙◌, arith}
 use Rattle.std.proofs.lemmas.List.{length-map}
 use Rattle.bt_value.specs.Lists.{concatenation}
@@ -13,7 +13,7 @@ nothing-pending [] = refl
 nothing-pending (x ∷ xs) = nothing-pending xs
 
 module _ {V M : Type 0} (cs : List (Child V M)) (xs : Siblings V M) (is : cs ≡ none_pending xs) where
-  -- nothing is pending, which lies between any pivots
+  -- no pending messages, which lie between any pivots
   pub none_divided : AreDivided cs
   none_divided = subst AreDivided (sym is) (divided-none (none_pending xs) (nothing-pending xs))
 

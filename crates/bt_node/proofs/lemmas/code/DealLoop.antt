@@ -6,7 +6,7 @@ use Rattle.std.specs.Int.{div_ceil}
 use Rattle.bt_node.specs.Deals.{deal, even, parted, sizes}
 use Rattle.bt_node.proofs.lemmas.deals.PartSizes.{length-even}
 
--- where no item is left
+-- if no item is left
 pub taken_from_none : {X : Type 0} (k n : ℕ) (part rest next all : List X) → length rest ≡ 0 → length next ≡ 0 → part ++ take k rest ≡ all → part ++ take n next ≡ all
 taken_from_none k n part rest next all e f h =
     ap (λ zs. part ++ take n zs) (nil_from_length next f) ∙ ap (λ zs. part ++ zs) (take-nil n ∙ sym (take-nil k)) ∙ sym (ap (λ zs. part ++ take k zs) (nil_from_length rest e)) ∙ h

@@ -1,4 +1,4 @@
--- Sorted entries searched by steps that double, and what is found from a key on.
+-- A search of sorted entries by steps that double, and its result from a key on.
 use Rattle.std.proofs.Common.{◌≡◌, ◌<◌, ◌≤◌, ◌-◌, ℕ, zero, suc, true, false, not, cond, List, [], ◌∷◌, ap, arith, drop, get_or, length, refl, subst, sym, take, ◌∙◌, true≢false, inl, inr}
 use Rattle.std.proofs.lemmas.List.{map-id, take_rest}
 use Rattle.std.specs.FinMap.{find, nat_cmp-IsAntisymmetric, slice_cmp-IsAntisymmetric}
@@ -10,7 +10,7 @@ use Rattle.bt_node.specs.Messages.{from}
 use Rattle.bt_keycode.proofs.offered.Order.{before_later, from_earlier, not_before_itself, sides}
 use Rattle.bt_node.proofs.lemmas.code.LentMessages.{halves, none_before_all}
 
--- what comes no later than something before a key is before it too
+-- a key that is not past one before a key is before it too
 earlier_too : (k a b : Key) → is_before b a ≡ false → is_before b k ≡ true → is_before a k ≡ true
 earlier_too k a b later e = elim (sides a k) [
   | inl less ↦ less
@@ -46,11 +46,11 @@ module _ {X : Type 0} where
     one_before : (x : Key × X) (xs : List (Key × X)) → is_before x.0 k ≡ true → from k xs ≡ from k (x ∷ xs)
     one_before x xs e = sym (ap (λ b. cond (not b) (x ∷ from k xs) (from k xs)) e)
 
-    -- what is before the key stands first
+    -- the entries before the key come first
     pub splits : (xs : List (Key × X)) → IsSorted xs → IsPartitionedBy (λ x. is_before x.0 k) xs
     splits xs sorted = (halves (λ x. x) k xs (subst (IsSorted {X = X}) (sym (map-id xs)) sorted))
 
-    -- a step to an entry before the key passes none from it on
+    -- a step to an entry before the key skips none at or past it
     passed : (n : ℕ) (xs : List (Key × X)) (d : Key × X) → IsSorted xs → n < length xs → is_before (get_or xs n d).0 k ≡ true → from k (drop n xs) ≡ from k xs
     passed n [] d sorted within e = absurd (omega (arith, within))
     passed zero (x ∷ xs) d sorted within e = refl
@@ -66,7 +66,7 @@ module _ {X : Type 0} where
     later_part zero (x ∷ xs) d sorted within e = (e, from_earlier k x.0 xs e sorted.0)
     later_part (suc n) (x ∷ xs) d sorted within e = later_part n xs d sorted.1 (omega (arith, within)) e
 
-    -- behind an entry that is not before the key none is
+    -- after an entry that is not before the key, no entry is
     pub none_behind : (n : ℕ) (xs : List (Key × X)) (x : Key × X) → IsSorted xs → n < length xs → x ≡ get_or xs n x → is_before x.0 k ≡ false → AllFrom k (drop n xs)
     none_behind n xs x sorted within is e = later_part n xs x sorted within (ap (λ (y : Key × X). is_before y.0 k) (sym is) ∙ e)
 
@@ -91,7 +91,7 @@ module _ {X : Type 0} where
         from_point last n xs (omega (arith, few)) ((λ j d up within. point.0 (suc j) d (omega arith) (omega (arith, within))), (λ j d up within. point.1 (suc j) d (omega (arith, up)) (omega (arith, within)))) rest
         ∙ one_before x xs (point.0 0 x (omega arith) (omega arith))
 
-    -- the place that is found among the first is that among all, where none of the others is before the key
+    -- the place found among the first entries is that among all, if none of the others is before the key
     pub found_place : (last n : ℕ) (xs near all : List (Key × X)) → near ≡ take last xs → n ≤ length near → IsPartitionPoint (λ x. is_before x.0 k ≡ true) (λ x. is_before x.0 k ≡ false) near n → AllFrom k (drop last xs) →
         from k xs ≡ from k all → take (length xs - n) (drop n xs) ≡ from k all
     found_place last n xs near all is few point rest so_far =
@@ -99,7 +99,7 @@ module _ {X : Type 0} where
         ∙ from_point last n xs (subst (λ ys. n ≤ length ys) is few) (subst (λ ys. IsPartitionPoint (λ x. is_before x.0 k ≡ true) (λ x. is_before x.0 k ≡ false) ys n) is point) rest
         ∙ so_far
 
-  -- what is found among those from a key on is found among all
+  -- what is found among the entries from a key on is found among all
   pub found_from : (k : Key) (xs later : List (Key × X)) → later ≡ from k xs → find key_cmp k later ≡ find key_cmp k xs
   found_from k xs later is =
       ap (find key_cmp k) is

@@ -1,4 +1,4 @@
--- The first child of a portion, and what is left of the portion behind it.
+-- The first child of a portion, and the rest of the portion after it.
 use Rattle.std.proofs.Common.{◌≡◌, ◌∙◌, ◌<◌, ◌≤◌, ◌+◌, ◌-◌, ◌++◌, ◌∷◌, ℕ, List, None, Option, Some, [], true, false, cond, ap, arith, drop, get_or, length, length-drop, map, not, subst, sym}
 use Rattle.std.proofs.lemmas.List.{append-nil, length-map}
 use Rattle.std.specs.Option.{option_or}
@@ -70,7 +70,7 @@ pub record FirstChild {V D : Type 0} (portion : Portion V (Message V D)) : Type 
   pub own_sorted : IsSorted own
   pub merged_is : merged ≡ with_messages above own
 
--- from what the code knows of it
+-- from what the code knows about it
 abbrev pub first_child : {V D : Type 0} {portion : Portion V (Message V D)} {low to next high : Option Key} {tree child : Tree V (Message V D)} {newer above own merged : Messages (Message V D)} {kind : NodeKind V D}
     {xs : Siblings V (Message V D)} {bins : List (Messages (Message V D))} {ts : List (Tree V (Message V D))} {ps : List Key} {place : ℕ} →
     portion_of low to tree newer ≡ portion → IsInOrder tree × IsSorted newer × AllWithin low to newer → tree ≡ tree_of kind → HasBins kind → kind ≡ Inner xs bins →
@@ -120,7 +120,7 @@ module _ {V D : Type 0} {portion : Portion V (Message V D)} (f : FirstChild port
   in_order : IsInOrder f.child
   in_order = child_in_order f.tree f.xs (concatenation f.bins) f.here f.ts f.items f.place f.child there f.at f.order
 
-  -- the child stands lower, and what is said of portions holds of it
+  -- the child is lower, and the statements about portions hold for it
   pub lower : height f.child < height portion.tree
   lower = subst (λ n. height f.child < n) (ap (λ p. height p.tree) f.seen) (child_lower f.tree f.xs (concatenation f.bins) f.here f.ts f.items f.place f.child there f.at)
 
@@ -161,7 +161,7 @@ module _ {V D : Type 0} {portion : Portion V (Message V D)} (f : FirstChild port
       chained = λ from end chain. (chain.0, last ∙ chain.1);
     }
 
-  -- the next child begins at a key, with the messages that are left
+  -- the next child begins at a key, with the rest of the messages
   module _ (left : Messages (Message V D)) (left_is : left ≡ outside None f.high f.newer) (key : (p : Key) × (f.next ≡ Some p)) where
     abbrev p : Key
     p = key.0

@@ -21,7 +21,7 @@ module _ {X : Type 0} (n : ℕ) (ns shares : List ℕ) (ms stream : List X) (fir
   same_left : (whole : List X) → drop (total shares) stream ≡ whole → drop (total ns) ms ≡ whole
   same_left whole kept = ap (drop (total ns)) left ∙ drop-drop (total ns) n stream ∙ sym (ap (λ ks. drop (total ks) stream) first) ∙ kept
 
--- the siblings of a child that is flushed, for which nothing is pending
+-- the siblings of a flushed child, without pending messages
 pub behind_pivot-flushed : {V M : Type 0} (k : Key) (xs : Siblings V M) → behind_pivot k [] xs ≡ none_pending (pivot_first k xs)
 behind_pivot-flushed k [] = refl
 behind_pivot-flushed k (x ∷ xs) = refl
@@ -35,7 +35,7 @@ module _ {V D : Type 0} (meaning : Meaning V (Message V D)) (mode : Mode) (s : S
   abbrev rest : Messages (Message V D) → List (Child V (Message V D))
   rest zs = pass meaning mode s (zip (with_shares cs ns zs) marks_left)
 
-  -- what it becomes, and then what the others do
+  -- what replaces it, followed by the result for the others
   next : (part : List (Child V (Message V D))) (marks : List Bool) (m : Bool) → marks ≡ m ∷ marks_left → now ≡ done ++ part →
       done ++ (part ++ rest (drop n stream)) ≡ done ++ pass meaning mode s (zip (with_shares (c ∷ cs) (n ∷ ns) stream) (m ∷ marks_left)) →
       now ++ rest ms ≡ done ++ pass meaning mode s (zip (with_shares all shares stream) marks)
@@ -54,8 +54,8 @@ module _ {V D : Type 0} (meaning : Meaning V (Message V D)) (mode : Mode) (s : S
   one_kept : (marks : List Bool) → marks ≡ false ∷ marks_left → now ≡ done ++ with_share ∷ [] → now ++ rest ms ≡ done ++ pass meaning mode s (zip (with_shares all shares stream) marks)
   one_kept marks mark pushed = next (with_share ∷ []) marks false mark pushed refl
 
--- A pass over children beside their shares and marks: what it has made so far, and then what it makes of those that are left, is what is wanted, and what they
--- leave of the stream is what is left over.
+-- A pass over children with their shares and marks: what it has made so far, followed by what it makes of the others, is what is wanted, and what they leave
+-- of the stream is what is left over.
 pub record UnderWay {V D : Type 0} (meaning : Meaning V (Message V D)) (mode : Mode) (s : Shape) (wanted : List (Child V (Message V D))) (over : Messages (Message V D)) (bound : ℕ)
     (done cs : List (Child V (Message V D))) (those : List Share) (stream : Messages (Message V D)) (bs : List Bool) : Type 0 where
   pub parts : done ++ pass meaning mode s (zip (with_shares cs (counts those) stream) bs) ≡ wanted

@@ -57,7 +57,7 @@ module _ {V M : Type 0} where
         ap (λ xs. xs ++ groups_of ns rest) pushed ∙ append_assoc made ((k, t) ∷ []) (groups_of ns rest)
         ∙ ap (λ x. made ++ x ∷ groups_of ns rest) group ∙ ap (λ ds. made ++ gathered (take n cs) ∷ groups_of ns ds) is ∙ sym (ap (λ ms. made ++ groups_of ms cs) next)
 
-    -- the first group, which stands behind the empty key
+    -- the first group, which has the empty key
     pub first_made : (made : Siblings V M) (k : Key) (t : Tree V M) (rest : List (Child V M)) → (k, t) ≡ gathered (take n cs) → rest ≡ drop n cs → made ≡ ([], t) ∷ [] →
         made ++ groups_of ns rest ≡ pivot_first [] (groups_of all cs)
     first_made made k t rest group is begun =
@@ -73,7 +73,7 @@ module _ {V M : Type 0} where
   pub one_group : (s : Shape) (cs : List (Child V M)) (k : Key) (t : Tree V M) → 1 ≤ s.fanout → length cs ≤ s.fanout → (k, t) ≡ gathered cs → ([], t) ∷ [] ≡ grouped s cs
   one_group s cs k t some few is = ap (λ (x : Key × Tree V M). ([], x.1) ∷ []) is ∙ sym (ap (λ gs. pivot_first [] (map gathered gs)) (deal-one s.fanout cs some few))
 
-  -- and more are as many groups as it takes
+  -- more children give as many groups as needed
   pub many_groups : (s : Shape) (cs : List (Child V M)) (n m k : ℕ) → n ≡ length cs → m ≡ s.fanout → k ≡ div_ceil n m → 1 ≤ k → pivot_first [] (groups_of (even (length cs) k) cs) ≡ grouped s cs
   many_groups s cs n m k same most parts some =
       ap (λ j. pivot_first [] (groups_of (even (length cs) j) cs)) (of k (div_ceil (length cs) s.fanout) (parts ∙ ap (λ j. div_ceil j m) same ∙ ap (div_ceil (length cs)) most) some)

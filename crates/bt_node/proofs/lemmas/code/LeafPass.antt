@@ -22,11 +22,11 @@ itself : (k : Key) → key_cmp k k ≡ Equal
 itself k = tied_itself total_keys k
 
 module _ {V : Type 0} where
-  -- the row of a key, where it has a value
+  -- the row of a key, if it has a value
   abbrev pub row_at : Key → Option V → Rows V
   row_at k value = option_to_list (option_map (λ v. (k, v)) value)
 
-  -- with a lower bound alone these are the rows from it on
+  -- with only a lower bound, these are the rows from it on
   pub from_is : (k : Key) (rs : Rows V) → between (Some k) None rs ≡ from k rs
   from_is k [] = refl
   from_is k (r ∷ rs) = elim (is_before r.0 k) as (λ b. cond (not b && true) (r ∷ between (Some k) None rs) (between (Some k) None rs) ≡ cond (not b) (r ∷ from k rs) (from k rs)) [
@@ -54,7 +54,7 @@ module _ {V : Type 0} where
             ap (below_all key_cmp k) (sym kept.1) ∙ above_first k r rs sorted none (λ f. cc (e, f)),
           )
 
-  -- what stands in front of the other rows is found, and is changed there
+  -- a row in front of the others is found, and is changed there
   front_found : (k : Key) (value : Option V) (others : Rows V) → below_all key_cmp k others ≡ true → find key_cmp k (row_at k value ++ others) ≡ value
   front_found k None others low = (not_among k others low).0
   front_found k (Some v) others low = ap (λ o. cond (is_eq o) (Some v) (find key_cmp k others)) (itself k)
@@ -71,7 +71,7 @@ module _ {V : Type 0} where
   front_changed k (Some u) (Some v) others low = ap (λ o. by_order o ((k, v) ∷ (k, u) ∷ others) ((k, v) ∷ others) ((k, u) ∷ put key_cmp k v others)) (itself k)
 
 module _ {V M : Type 0} (effect : Option V → M → Option V) where
-  -- messages to later keys leave the row in front
+  -- messages to larger keys leave the row in front
   front_stays : (k : Key) (m : Key × M) (ms : Messages M) (value : Option V) (others : Rows V) → is_before k m.0 ≡ true → IsSorted (m ∷ ms) →
       rows_after effect (m ∷ ms) (row_at k value ++ others) ≡ row_at k (value_after effect k (m ∷ ms) value) ++ rows_after effect (m ∷ ms) others
   front_stays k m ms value others later sorted =
@@ -82,7 +82,7 @@ module _ {V M : Type 0} (effect : Option V → M → Option V) where
       stays None all = refl
       stays (Some v) all = first_stays effect m.0 (k, v) (m ∷ ms) others later all
 
-  -- what messages from a key on make of the row in front
+  -- the row in front after messages at or past its key
   in_front : (k : Key) (ms : Messages M) (value : Option V) (others : Rows V) → IsSorted ms → AllFrom k ms → below_all key_cmp k others ≡ true →
       rows_after effect ms (row_at k value ++ others) ≡ row_at k (value_after effect k ms value) ++ rows_after effect (messages_past k ms) others
   in_front k [] value others sorted all low = refl
@@ -98,7 +98,7 @@ module _ {V M : Type 0} (effect : Option V → M → Option V) where
             ∙ ap (λ b. row_at k (value_after effect k ms (cond b (effect value m.1) value)) ++ rows_after effect (messages_past k ms) others) (sym (ties k m.0 (sym same)))
       ] refl
 
-  -- the rows before the key of the first message, what its messages make of the row there, and then the others
+  -- the rows before the key of the first message, the row there after its messages, and then the others
   pub pass_at : (m : Key × M) (ms : Messages M) (rs : Rows V) → IsSorted (m ∷ ms) → is_sorted key_cmp rs ≡ true →
       rows_after effect (m ∷ ms) rs ≡ before m.0 rs
       ++ (row_at m.0 (value_after effect m.0 ms (effect (find key_cmp m.0 (from m.0 rs)) m.1)) ++ rows_after effect (messages_past m.0 ms) (with_value m.0 None (from m.0 rs)))
@@ -116,11 +116,11 @@ module _ {V M : Type 0} (effect : Option V → M → Option V) where
 
   module _ {S : Type 0} (visited : S → Key × V → S) (m : Key × M) (ms messages : Messages M) (rs earlier : Rows V) (start first_shown wanted : S) (here : messages ≡ m ∷ ms) (sorted : IsSorted messages)
       (rising : is_sorted key_cmp rs ≡ true) (so_far : wanted ≡ fold visited start (rows_after effect messages rs)) (at_first : earlier ≡ before m.0 rs) (show_first : first_shown ≡ fold visited start earlier) where
-    -- what the messages make of the rows from the key of the first message on
+    -- the rows after the messages, from the key of the first message on
     abbrev from_first : Rows V
     from_first = row_at m.0 (value_after effect m.0 ms (effect (find key_cmp m.0 (from m.0 rs)) m.1)) ++ rows_after effect (messages_past m.0 ms) (with_value m.0 None (from m.0 rs))
 
-    -- that is still to be shown when the rows before this key are
+    -- these are still to be shown when the rows before this key have been
     past_first : wanted ≡ fold visited first_shown from_first
     past_first =
         so_far ∙ ap (λ zs. fold visited start (rows_after effect zs rs)) here
@@ -129,7 +129,7 @@ module _ {V M : Type 0} (effect : Option V → M → Option V) where
         ∙ fold-append visited start earlier from_first
         ∙ ap (λ s. fold visited s from_first) (sym show_first)
 
-    -- the end of the pass where nothing more is shown
+    -- the end of the pass if nothing more is shown
     pub shown_end : ((rows : Rows V) → fold visited first_shown rows ≡ first_shown) → first_shown ≡ wanted
     shown_end none = sym (past_first ∙ none from_first)
 

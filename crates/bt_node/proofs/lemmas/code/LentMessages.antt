@@ -1,4 +1,4 @@
--- Lent messages, taken off one by one and merged with others.
+-- Borrowed messages, taken off one by one and merged with others.
 use Rattle.std.proofs.Common.{◌≡◌, ◌<◌, ◌≤◌, ◌+◌, ◌-◌, ℕ, zero, suc, Bool, true, false, not, cond, List, [], ◌∷◌, ◌++◌, append_assoc, append-nil, arith, drop, get_or, length, map, refl, sym, ap, subst, take, ◌∙◌, true≢false}
 use Rattle.std.proofs.lemmas.List.{at_drop_more, map-append, take_rest}
 use Rattle.std.specs.List.Sorted.{IsPartitionedBy, IsPartitionPoint}
@@ -16,7 +16,7 @@ use Rattle.bt_messages.proofs.offered.Rows.{value_before}
 use Rattle.bt_node.proofs.lemmas.keys.SortedLists.{sorted-where}
 use Rattle.bt_node.proofs.lemmas.rows.Between.{none-over}
 
--- a key ties with itself
+-- a key equals itself
 pub ties : (k j : Key) → k ≡ j → eq_by_cmp key_cmp k j ≡ true
 ties k j same = ap (λ i. eq_by_cmp key_cmp k i) (sym same) ∙ ap is_eq (tied_itself total_keys k)
 
@@ -27,7 +27,7 @@ module _ {M : Type 0} where
   upper_stops None m ms sorted past = absurd (true≢false past)
   upper_stops (Some t) m ms sorted past = none-over t m.0 None None (m ∷ ms) past (record { from = not_before_itself m.0; below = refl }, all_within-from m.0 ms sorted.0)
 
-  -- none is before a bound where the first is not
+  -- if the first isn't before a bound, none is
   pub first_stops : {R : Type 0} (seen : R → Key × M) (items : List R) (first : R) (ms : Messages M) (high : Option Key) → map seen items ≡ ms → first ≡ get_or items 0 first → IsSorted ms →
       is_before_upper high (seen first).0 ≡ false → between None high ms ≡ []
   first_stops seen [] first ms high is at sorted past = ap (between None high) (sym is)
@@ -130,7 +130,7 @@ module _ {M : Type 0} where
       ap (λ zs. start ++ zs) (sym (alone newer sorted)) ∙ ap (λ zs. start ++ with_messages newer zs) (sym none) ∙ so_far
 
 module _ {V M : Type 0} (effect : Option V → M → Option V) where
-  -- a message that is not past the key has its effect
+  -- a message at or before the key has its effect
   pub one_applied : (k : Key) (m : Key × M) (ms rest : Messages M) (value changed wanted : Option V) → ms ≡ m ∷ rest → is_before k m.0 ≡ false → AllFrom k ms → changed ≡ effect value m.1 →
       wanted ≡ value_after effect k ms value → wanted ≡ value_after effect k rest changed
   one_applied k m ms rest value changed wanted here up all is so_far =
@@ -139,7 +139,7 @@ module _ {V M : Type 0} (effect : Option V → M → Option V) where
       ∙ ap (λ b. value_after effect k rest (cond b (effect value m.1) value)) (ties k m.0 (neither_before k m.0 up low))
       ∙ ap (value_after effect k rest) (sym is)
 
-  -- at a later key those up to this one have none
+  -- at a larger key those up to this one have no effect
   pub value_past : (k j : Key) (ms : Messages M) (value : Option V) → is_before k j ≡ true → value_after effect j (messages_past k ms) value ≡ value_after effect j ms value
   value_past k j [] value later = refl
   value_past k j (m ∷ ms) value later = elim (is_before k m.0) as (λ b. is_before k m.0 ≡ b →
@@ -152,7 +152,7 @@ module _ {V M : Type 0} (effect : Option V → M → Option V) where
       elsewhere up true is = absurd (true≢false (sym later ∙ ap (is_before k) (same_key j m.0 is) ∙ up))
       elsewhere up false is = is
 
-  -- those past the key have none
+  -- those past the key have no effect
   pub none_applied : (k : Key) (ms : Messages M) (value wanted : Option V) → messages_up_to k ms ≡ [] → IsSorted ms → wanted ≡ value_after effect k ms value → value ≡ wanted
   none_applied k [] value wanted none sorted so_far = sym so_far
   none_applied k (m ∷ ms) value wanted none sorted so_far = go (is_before k m.0) refl
@@ -165,7 +165,7 @@ module _ {V M : Type 0} (effect : Option V → M → Option V) where
 pub rest_sorted_from : {M : Type 0} (k : Key) (ms rest : Messages M) → IsSorted ms → rest ≡ from k ms → IsSorted rest
 rest_sorted_from {M} k ms rest sorted is = subst (IsSorted {X = M}) (sym is) (sorted-where (λ x. not (is_before x k)) ms sorted)
 
--- ---- found by halving
+-- ---- found by binary search
 
 module _ {R M : Type 0} (seen : R → Key × M) where
   -- the messages of a list in two parts
@@ -186,7 +186,7 @@ module _ {R M : Type 0} (seen : R → Key × M) where
     earlier_too a b true e later before = e
     earlier_too a b false e later before = absurd (true≢false (sym before ∙ later_chain k a b e later))
 
-    -- what is before a key stands first
+    -- the messages before a key come first
     pub halves : (rs : List R) → IsSorted (map seen rs) → IsPartitionedBy (λ r. is_before (seen r).0 k) rs
     halves [] sorted i j d up within e = absurd (omega (arith, within))
     halves (r ∷ rs) sorted zero zero d up within e = e
@@ -200,7 +200,7 @@ module _ {R M : Type 0} (seen : R → Key × M) where
         ap (λ zs. seen r ∷ zs) (all_kept rs (λ j d up within. later (suc j) d (omega arith) (omega (arith, within))))
         ∙ sym (ap (λ b. cond (not b) (seen r ∷ from k (map seen rs)) (from k (map seen rs))) (later 0 r (omega arith) (omega arith)))
 
-    -- what stands from there on
+    -- the messages from there on
     from_point : (rs : List R) (n : ℕ) → IsPartitionPoint (λ r. is_before (seen r).0 k ≡ true) (λ r. is_before (seen r).0 k ≡ false) rs n → map seen (drop n rs) ≡ from k (map seen rs)
     from_point rs zero point = all_kept rs point.1
     from_point [] (suc n) point = refl

@@ -1,4 +1,4 @@
--- How much is pending for each child is known without moving messages: what is in its bin, and its share of those that come.
+-- The load of each child is known without moving messages: that of its bin plus that of its share of the incoming ones.
 use Rattle.std.proofs.Common.{◌≡◌, ◌<◌, ◌≤◌, ◌+◌, ℕ, zero, suc, Bool, true, false, nat_le, List, [], ◌∷◌, ◌++◌, ◌∙◌, arith, ap, drop, get_or, length, map, refl, replicate, subst, sym, take}
 use Rattle.std.proofs.lemmas.List.{length-drop, length-map, length-take, take_all}
 use Rattle.bt_keycode.specs.Keys.{Key}
@@ -33,7 +33,7 @@ part-within [] ms i = omega arith
 part-within (n ∷ ns) ms zero = omega (arith, length-take n ms)
 part-within (n ∷ ns) ms (suc i) = omega (arith, part-within ns (drop n ms) i, length-drop n ms)
 
--- messages that a list of the code's can hold, and a part of them
+-- messages that fit in a list in the code, and a part of them
 load-small : {V D : Type 0} (terms : Terms V D) (measure : Measure) (ms : Messages (Message V D)) → length ms < 9223372036854775808 →
     load (weigh_of terms) measure ms < 154742504910672534362390528
 load-small terms measures.Messages ms l = omega (arith, l)
@@ -44,7 +44,7 @@ part-small : {V D : Type 0} (terms : Terms V D) (measure : Measure) (ns : List �
 part-small terms measure ns ms i l = load-small terms measure _ (omega (arith, part-within ns ms i, l))
 
 module _ {M : Type 0} (weigh : Key × M → ℕ) (measure : Measure) where
-  -- how much room each bin takes with its share
+  -- the load of each bin with its share
   abbrev pub loads : List (Messages M) → List (Messages M) → List ℕ
   loads parts bins = map (load weigh measure) (each_with parts bins)
 
@@ -53,7 +53,7 @@ module _ {M : Type 0} (weigh : Key × M → ℕ) (measure : Measure) where
   loads_long (p ∷ ps) [] e = absurd (omega (arith, e))
   loads_long (p ∷ ps) (b ∷ bs) e = omega (arith, loads_long ps bs (omega (arith, e)))
 
-  -- a share tells how much room its messages take
+  -- the load of a share is that of its messages
   one-share : (p : Messages M) → load_of measure (share_of weigh measure p) ≡ load weigh measure p
   one-share p = elim measure as (λ m. load_of m (share_of weigh m p) ≡ load weigh m p) [ measures.Messages ↦ refl | measures.Bytes ↦ refl ]
 
@@ -75,7 +75,7 @@ module _ {M : Type 0} (weigh : Key × M → ℕ) (measure : Measure) where
   all_loads : (parts bins : List (Messages M)) (i : ℕ) → length parts ≤ i → length parts ≡ length bins → take i (loads parts bins) ≡ loads parts bins
   all_loads parts bins i past e = take_all i (loads parts bins) (omega (arith, past, loads_long parts bins e))
 
--- The shares of a stream that the code goes through beside the bins. Each tells how much room its messages take.
+-- The shares of a stream that the code reads along with the bins. The load of each is that of its messages.
 module _ {V D : Type 0} (terms : Terms V D) (measure : Measure) (shares : List Share) (ms : Messages (Message V D)) (bins : List (Messages (Message V D)))
     (weighed : shares ≡ map (share_of (weigh_of terms) measure) (parted (counts shares) ms)) where
   abbrev divided : List (Messages (Message V D))
@@ -90,7 +90,7 @@ module _ {V D : Type 0} (terms : Terms V D) (measure : Measure) (shares : List S
   own-share : (i n : ℕ) (none : Share) → i < length shares → n ≡ load_of measure (get_or shares i none) → n ≡ load (weigh_of terms) measure (get_or divided i [])
   own-share i n none within is = is ∙ ap (λ ss. load_of measure (get_or ss i none)) weighed ∙ share-load (weigh_of terms) measure divided i none (omega (arith, within, divided-long))
 
-  -- it is no more than a list of the code's can take
+  -- it is at most the load of a list in the code
   pub one_small : (i n : ℕ) (none : Share) → i < length shares → n ≡ load_of measure (get_or shares i none) → length ms < 9223372036854775808 → n < 154742504910672534362390528
   one_small i n none within is few = omega (arith, own-share i n none within is, part-small terms measure (counts shares) ms i few)
 
@@ -106,7 +106,7 @@ module _ {V D : Type 0} (terms : Terms V D) (measure : Measure) (shares : List S
   pub all_made : (i : ℕ) (made : List ℕ) → length shares ≡ length bins → length shares ≤ i → made ≡ take i all → made ≡ all
   all_made i made each past so_far = so_far ∙ all_loads (weigh_of terms) measure divided bins i (omega (arith, past, divided-long)) (omega (arith, each, divided-long))
 
--- ---- a node that messages come to
+-- ---- a node that takes messages
 
 pub has_room-absorb : (mode : Mode) (s : Shape) (n : ℕ) {b : Bool} → mode ≡ Absorb → nat_le n s.buffer ≡ b → has_room mode s n ≡ b
 has_room-absorb mode s n is room = ap (λ m. has_room m s n) is ∙ room
@@ -114,7 +114,7 @@ has_room-absorb mode s n is room = ap (λ m. has_room m s n) is ∙ room
 pub has_room-drain : (mode : Mode) (s : Shape) (n : ℕ) → mode ≡ Drain → has_room mode s n ≡ false
 has_room-drain mode s n is = ap (λ m. has_room m s n) is
 
--- Its children, its bins, and the shares of the messages that come, as the code finds them. The code knows the measure and the pivots of the children.
+-- Its children, its bins, and the shares of the incoming messages, as the code finds them. The code knows the measure and the pivots of the children.
 pub record Come {V D : Type 0} (weigh : Key × Message V D → ℕ) (s : Shape) (xs : Siblings V (Message V D)) (bins : List (Messages (Message V D))) (stream : Messages (Message V D)) (count : ℕ)
     (measure : Measure) (ks : List Key) (shares : List Share) : Type 0 where
   pub measured : measure ≡ s.measure
@@ -149,7 +149,7 @@ module _ {V D : Type 0} {weigh : Key × Message V D → ℕ} {s : Shape} {xs : S
   pub after_joined : (made : List (Messages (Message V D))) → made ≡ each_with (parted (counts shares) stream) bins → concatenation made ≡ with_messages (take count stream) (concatenation bins)
   after_joined made is = ap concatenation (is ∙ bins_after) ∙ concatenation-added (pivots_of xs) (take count stream) bins come.lie
 
-  -- how much is pending for each child then, and for all
+  -- the load of each child then, and their total
   pub loads_after : (made : List ℕ) → made ≡ map (load weigh measure) (each_with (parted (counts shares) stream) bins) → made ≡ of_children weigh s (shared xs (with_messages (take count stream) (concatenation bins)))
   loads_after made is =
       is ∙ ap (λ m. map (load weigh m) (each_with (parted (counts shares) stream) bins)) come.measured

@@ -1,4 +1,4 @@
--- The path to a key, and what the messages on it make of the value there.
+-- The path to a key, and the effect of the messages on it on the value there.
 use Rattle.std.proofs.Common.{◌≡◌, ◌≤◌, map, ℕ, suc, true, false, cond, not, List, [], ◌∷◌, ◌++◌, get_or, length, drop, refl, sym, ap, subst, ◌∙◌, true≢false, arith}
 use Rattle.std.specs.Bool.{◌==◌}
 use Rattle.std.specs.Ordering.{eq_by_cmp, is_eq, is_lt, ordering_index, ordering_reverse}
@@ -16,7 +16,7 @@ use Rattle.bt_node.specs.declared.read.value_so_far.ValueSoFar.{ValueSoFar}
 use Rattle.bt_keycode.proofs.offered.Order.{all_within-from, apart_back, not_before_itself, total_keys}
 use Rattle.bt_node.proofs.lemmas.rows.Values.{value-above, value-append}
 
--- what a comparison says of the keys the other way round
+-- a comparison of the keys the other way round
 tied : (k at : Key) (o : Ordering) → o ≡ key_cmp at k → false ≡ not (ordering_index o == 1) → eq_by_cmp key_cmp k at ≡ true
 tied k at Less e t = absurd (true≢false (sym t))
 tied k at Equal e t = ap is_eq (total_keys.antisymm k at ∙ ap ordering_reverse (sym e))
@@ -30,7 +30,7 @@ past k at Greater e t l = ap is_lt (total_keys.antisymm k at ∙ ap ordering_rev
 module _ {V D : Type 0} (effect : Option V → Message V D → Option V) where
   -- ---- children
 
-  -- what is below a node is found in the child with the last pivot that is at most the key
+  -- a value below a node is found in the child with the last pivot that is at most the key
   one_child : (k : Key) (x : Key × Tree V (Message V D)) (xs : Siblings V (Message V D)) (d : Tree V (Message V D)) →
       value_below effect k (nodes (x ∷ xs)) ≡ tree_value effect k (get_or (map (λ y. y.1) (x ∷ xs)) (pivots_up_to k (map (λ y. y.0) xs)) d)
   one_child k x [] d = refl
@@ -45,7 +45,7 @@ module _ {V D : Type 0} (effect : Option V → Message V D → Option V) where
   child_at k [] d some = absurd (omega (arith, some))
   child_at k (x ∷ xs) d some = one_child k x xs d
 
-  -- the value at a key in an inner node, from the one in that child
+  -- the value at a key in an inner node, from the value in that child
   pub along : (k : Key) (xs : Siblings V (Message V D)) (buffer : Messages (Message V D)) (node : Tree V (Message V D)) (ts : List (Tree V (Message V D))) (ps : List Key) (place : ℕ) (child : Tree V (Message V D)) (old : Option V) →
       node ≡ inner (nodes xs) buffer → ts ≡ map (λ y. y.1) xs → ps ≡ map (λ y. y.0) (drop 1 xs) → 1 ≤ length xs → place ≡ pivots_up_to k ps → child ≡ get_or ts place child → old ≡ tree_value effect k child →
       value_after effect k buffer old ≡ tree_value effect k node
@@ -57,21 +57,21 @@ module _ {V D : Type 0} (effect : Option V → Message V D → Option V) where
 
   -- ---- messages
 
-  -- what messages with a start make of the value below
+  -- messages with a start, applied to the value below
   pub begins_at : (k : Key) (buffer left : Messages (Message V D)) (start at : Option (ValueSoFar V D)) (value : Option V) → BeginsWith effect k buffer start left → start ≡ at →
       value_after effect k left (start_value at value) ≡ value_after effect k buffer value
   begins_at k buffer left start at value begins is = sym (begins value ∙ ap (λ s. value_after effect k left (start_value s value)) is)
 
-  -- the value in an inner node whose messages leave nothing of the one below
+  -- the value in an inner node whose messages don't depend on the value below
   pub along_reset : (k : Key) (xs : Siblings V (Message V D)) (buffer left : Messages (Message V D)) (node : Tree V (Message V D)) (start : Option (ValueSoFar V D)) (held : ValueSoFar V D) →
       node ≡ inner (nodes xs) buffer → BeginsWith effect k buffer start left → start ≡ Some held → value_after effect k left (option_of held) ≡ tree_value effect k node
   along_reset k xs buffer left node start held here begins is = begins_at k buffer left start (Some held) (value_below effect k (nodes xs)) begins is ∙ sym (ap (tree_value effect k) here)
 
-  -- what all messages make of a value at a key, those that are left make of some value
+  -- all messages give for a value at a key what the messages that are left give for some value
   abbrev pub LeadsTo : Key → Messages (Message V D) → Messages (Message V D) → Type 0
   LeadsTo k ms left = (old : Option V) → (value : Option V) × (value_after effect k ms old ≡ value_after effect k left value)
 
-  -- those before a key change nothing at it or past it
+  -- messages before a key change nothing at it or past it
   pub value_after-later : (p k : Key) (ms : Messages (Message V D)) (o : Option V) → is_before k p ≡ false → value_after effect k (from p ms) o ≡ value_after effect k ms o
   value_after-later p k [] o later = refl
   value_after-later p k (m ∷ ms) o later = elim (is_before m.0 p) as (λ b. is_before m.0 p ≡ b →
@@ -80,7 +80,7 @@ module _ {V D : Type 0} (effect : Option V → Message V D → Option V) where
         | false ↦ λ t. value_after-later p k ms (cond (eq_by_cmp key_cmp k m.0) (effect o m.1) o) later
       ] refl
 
-  -- those of earlier keys change nothing
+  -- messages to smaller keys change nothing
   pub value_after-from : (k : Key) (ms : Messages (Message V D)) (o : Option V) → value_after effect k (from k ms) o ≡ value_after effect k ms o
   value_after-from k ms o = value_after-later k k ms o (not_before_itself k)
 
@@ -92,7 +92,7 @@ module _ {V D : Type 0} (effect : Option V → Message V D → Option V) where
   ] refl
 
   module _ (k : Key) (ms rest : Messages (Message V D)) (at : Key) (m : Message V D) (here : ms ≡ (at, m) ∷ rest) (o : Ordering) (compared : o ≡ key_cmp at k) where
-    -- from a message past the key on nothing changes
+    -- from a message past the key on, nothing changes
     pub none_left : true ≡ not (ordering_index o == 1) → (value : Option V) → AllFrom k ms → IsSorted ms → value ≡ value_after effect k ms value
     none_left test value all sorted =
         let low = (subst (AllFrom k) here all).0 in
@@ -107,11 +107,11 @@ module _ {V D : Type 0} (effect : Option V → Message V D → Option V) where
         ∙ ap (λ b. value_after effect k rest (cond b (effect value m) value)) (tied k at o compared test)
         ∙ ap (value_after effect k rest) (sym is)
 
-    -- so it goes on with the others
+    -- so the pass continues with the others
     pub goes_on : false ≡ not (ordering_index o == 1) → (buffer : Messages (Message V D)) → LeadsTo k buffer ms → LeadsTo k buffer rest
     goes_on test buffer leads old = let so_far = leads old in (effect so_far.0 m, so_far.1 ∙ one_more test so_far.0 (effect so_far.0 m) refl)
 
-    -- and begins anew where the message leaves nothing of the value
+    -- and starts again if the message doesn't depend on the old value
     pub begins_anew : false ≡ not (ordering_index o == 1) → (buffer left : Messages (Message V D)) (held : ValueSoFar V D) → LeadsTo k buffer ms → Resets effect m (option_of held) → left ≡ rest →
         BeginsWith effect k buffer (Some held) left
     begins_anew test buffer left held leads resets is old =
@@ -124,11 +124,11 @@ module _ {V D : Type 0} (effect : Option V → Message V D → Option V) where
     pub rest_sorted : IsSorted ms → IsSorted rest
     rest_sorted sorted = (subst IsSorted here sorted).1
 
-  -- what the messages from the key on make of a value, in order and from the key on
+  -- the value after the messages from the key on
   pub all_left : (k : Key) (buffer ms : Messages (Message V D)) (old : Option V) → ms ≡ from k buffer → value_after effect k buffer old ≡ value_after effect k ms old
   all_left k buffer ms old is = sym (ap (λ xs. value_after effect k xs old) is ∙ value_after-from k buffer old)
 
-  -- in two parts, of each of which those before the key are left out
+  -- in two parts, and in each of them those before the key are left out
   pub two_parts : (k : Key) (first second ms these those : Messages (Message V D)) (old value wanted : Option V) → first ++ second ≡ ms → these ≡ from k first → those ≡ from k second →
       value ≡ value_after effect k these old → wanted ≡ value_after effect k those value → wanted ≡ value_after effect k ms old
   two_parts k first second ms these those old value wanted parts these_are those_are value_is wanted_is =
@@ -137,7 +137,7 @@ module _ {V D : Type 0} (effect : Option V → Message V D → Option V) where
       ∙ sym (value-append effect k first second old)
       ∙ ap (λ zs. value_after effect k zs old) parts
 
-  -- before any is looked at
+  -- before any is read
   pub leads_from : (k : Key) (buffer ms : Messages (Message V D)) → ms ≡ from k buffer → LeadsTo k buffer ms
   leads_from k buffer ms is old = (old, all_left k buffer ms old is)
 

@@ -1,4 +1,4 @@
--- What the code makes of an inner node that messages enter is what becomes of it.
+-- The code's result for an inner node that takes messages is the node's flush.
 use Rattle.std.proofs.Common.{◌≡◌, ◌≤◌, ◌<◌, ◌+◌, ◌*◌, ℕ, Bool, true, false, List, [], ◌∷◌, ◌++◌, drop, length, refl, take, sym, ap, subst, ◌∙◌, arith, true≢false}
 use Rattle.std.proofs.lemmas.Bool.{leb-true}
 use Rattle.std.proofs.lemmas.List.{length-map}
@@ -41,7 +41,7 @@ use Rattle.bt_node.proofs.lemmas.flushes.Shares.{length-shared, shared-lie}
 use Rattle.bt_node.proofs.lemmas.flushes.Widest.{siblings_widest}
 use Rattle.bt_node.proofs.lemmas.plans.Marks.{length-flush_marks}
 
--- one pass over children beside marks
+-- one pass over children with marks
 abbrev pub pass : {V D : Type 0} → Meaning V (Message V D) → Mode → Shape → List (Child V (Message V D) × Bool) → List (Child V (Message V D))
 pass meaning mode s = after_pass (flushed (flush_in meaning mode s))
 
@@ -53,7 +53,7 @@ highest cs = height_below (nodes (stripped cs))
 pub among : {V M : Type 0} (c : Child V M) (cs ds : List (Child V M)) (bound : ℕ) → ds ≡ c ∷ cs → highest ds ≤ bound → (height c.tree ≤ bound) × (highest cs ≤ bound)
 among c cs ds bound e h = let all = ap highest e in (omega (arith, all, h), omega (arith, all, h))
 
--- an inner node that so many messages of a stream enter, and a shape whose nodes have room for two children and for a row
+-- an inner node that takes the first messages of a stream, and a shape whose nodes have room for two children and for a row
 pub record Enters {V D : Type 0} (mode : Mode) (s : Shape) (xs : Siblings V (Message V D)) (bins : List (Messages (Message V D))) (ms : Messages (Message V D)) (count : ℕ) (node : Tree V (Message V D)) : Type 0 where
   pub fanout : 2 ≤ s.fanout
   pub leaf : 1 ≤ s.leaf
@@ -70,7 +70,7 @@ module _ {V D : Type 0} (meaning : Meaning V (Message V D)) {mode : Mode} {s : S
   abbrev after : Messages (Message V D)
   after = with_messages (take count ms) (concatenation bins)
 
-  -- its children with what is pending for each then
+  -- its children with their pending messages then
   abbrev cs : List (Child V (Message V D))
   cs = shared xs after
 
@@ -109,7 +109,7 @@ module _ {V D : Type 0} (meaning : Meaning V (Message V D)) {mode : Mode} {s : S
     pub shares_weighed : AreShares meaning.weigh left o.shares.items
     shares_weighed = subst (λ zs. AreShares meaning.weigh zs o.shares.items) (sym opens.0) opened.weighed
 
-    -- so many messages are gone from it when the shares are
+    -- that many messages are gone from it when the shares are
     pub shares_gone : drop (total (counts o.shares.items)) left ≡ drop count ms
     shares_gone = ap (drop (total (counts o.shares.items))) opens.0 ∙ ap (λ n. drop n ms) opened.total
 

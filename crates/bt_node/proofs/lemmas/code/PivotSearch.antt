@@ -37,12 +37,12 @@ not_false : (b : Bool) → not b ≡ false → b ≡ true
 not_false true e = refl
 not_false false e = cc e
 
--- those that are at most a key stand first
+-- those that are at most a key come first
 pub parted : (k : Key) (ps : List Key) → AreRising ps → IsPartitionedBy (is_up_to k) ps
 parted k ps rising i j d up within at_most =
     ap not (later_chain (get_or ps i d) (get_or ps j d) k (in_order ps i j d rising up within) (not_true _ at_most))
 
--- they are as many as are counted
+-- there are as many of them as are counted
 pub point_is : (k : Key) (ps : List Key) (n : ℕ) → n ≤ length ps → IsPartitionPoint (λ p. is_up_to k p ≡ true) (λ p. is_up_to k p ≡ false) ps n → n ≡ pivots_up_to k ps
 point_is k [] zero few point = refl
 point_is k [] (suc n) few point = absurd (omega (arith, few))

@@ -36,17 +36,17 @@ on_one_side low to p q from below = go (is_before q p) refl
         let second : is_between (Some p) to q ≡ is_between low to q = ap (λ b. not b && is_before_upper to q) (e ∙ sym (later_from low p q from e)) in
         omega (arith, ap {B = ℕ} (λ b. cond b 1 0) first, ap {B = ℕ} (λ b. cond b 1 0) second)
 
--- what one of some owns, their whole owns
+-- if a part owns a key, so does the whole
 pub one_owns : (n : ℕ) (b d : Bool) → n + cond b 1 0 ≡ cond d 1 0 → b ≡ true → d ≡ true
 one_owns n b true count is = refl
 one_owns n b false count is = absurd (omega (arith, count, ap {B = ℕ} (λ x. cond x 1 0) is))
 
--- a bound before which another one lies
+-- a bound before another one
 module _ (low high to : Option Key) (p : Key) (is : high ≡ Some p) (from : is_before_lower low p ≡ false) (below : is_before_upper to p ≡ true) where
   sides : (q : Key) → cond (is_between low high q) 1 0 + cond (is_between (Some p) to q) 1 0 ≡ cond (is_between low to q) 1 0
   sides q = ap {B = ℕ} (λ h. cond (is_between low h q) 1 0 + cond (is_between (Some p) to q) 1 0) is ∙ on_one_side low to p q from below
 
-  -- what lies before it, and what lies from it on, lies between the outer bounds
+  -- keys before it, and keys at or past it, lie between the outer bounds
   pub child_inside : (q : Key) → is_between low high q ≡ true → is_between low to q ≡ true
   child_inside q = one_owns (cond (is_between (Some p) to q) 1 0) (is_between low high q) (is_between low to q) (omega (arith, sides q))
 
@@ -117,7 +117,7 @@ module _ {V M : Type 0} (effect : Option V → M → Option V) where
         chained-append low first.0 high before (qs ++ after) first.1 (chained-append first.0 second.0 high qs after (divided.chained first.0 second.0 second.1) second.2);
   }
 
-  -- one more child of a portion, and what is left of it
+  -- one more child of a portion, and the rest of it
   pub child_added : (whole parts more : List (Portion V M)) (rest child : Portion V M) (left : List (Portion V M)) → more ≡ parts ++ child ∷ [] → Divide effect (rest ∷ []) (child ∷ left) →
       Divide effect whole (parts ++ rest ∷ []) → Divide effect whole (more ++ left)
   child_added whole parts more rest child left more_is one so_far =
@@ -142,7 +142,7 @@ rises_past k j [] rising = tt
 rises_past k j (l ∷ ks) rising = (before_chain k j l rising.0 rising.1.0, rising.1.1)
 
 module _ {V D : Type 0} (effect : Option V → Message V D → Option V) (newer : Messages (Message V D)) where
-  -- messages up to a key do nothing at keys that rise from it
+  -- messages up to a key do nothing at larger rising keys
   values_past : (k : Key) (ks : List Key) (olds : List (Option V)) → AreRising (k ∷ ks) → values_after effect (messages_past k newer) ks olds ≡ values_after effect newer ks olds
   values_past k [] olds rising = refl
   values_past k (j ∷ ks) [] rising = refl
@@ -169,7 +169,7 @@ module _ {V D : Type 0} (effect : Option V → Message V D → Option V) (newer 
   pub values_end : (ks : List Key) (olds : List (Option V)) (values wanted : List (Option V)) → olds ≡ [] → values ++ values_after effect newer ks olds ≡ wanted → values ≡ wanted
   values_end ks olds values wanted none so_far = sym (append-nil values) ∙ ap (λ vs. values ++ vs) (sym (none_left ks)) ∙ ap (λ os. values ++ values_after effect newer ks os) (sym none) ∙ so_far
 
-  -- what the messages make of what keys have below
+  -- values at keys after the messages, applied to what the keys have below
   pub values_held : {K : Type 0} (key : K → Key) (t : Tree V (Message V D)) (levels : ℕ) (low high : Option Key) → Lies levels low high t → (ks : List K) →
       values_after effect newer (map key ks) (tree_values effect (map key ks) t) ≡ map (λ k. find key_cmp (key k) (rows_after effect newer (holds effect t))) ks
   values_held key t levels low high lies [] = refl

@@ -1,4 +1,4 @@
--- One pass that changes rows by messages.
+-- One pass that applies messages to rows.
 use Rattle.std.proofs.Common.{◌≡◌, ◌∙◌, ◌-◌, ◌≤◌, ℕ, zero, suc, Bool, true, false, not, ◌&&◌, cond, T, List, [], ◌∷◌, ◌++◌, append_assoc, length, get_or, take, drop, append-nil, refl, sym, ap, subst, true≢false, arith, option_to_list, option_map}
 use Rattle.std.proofs.lemmas.Bool.{and_parts}
 use Rattle.std.proofs.lemmas.List.{take_rest}
@@ -33,7 +33,7 @@ module _ {V : Type 0} where
       let parts = and_parts _ _ h in
       both _ _ (before_chain a b r.0 l parts.0) (all_above a b rs l parts.1)
 
-  -- a key before all of the rows has no value there
+  -- a key before all rows has no value
   pub not_among : (k : Key) (rs : Rows V) → below_all key_cmp k rs ≡ true → (find key_cmp k rs ≡ None) × (with_value k None rs ≡ rs)
   not_among k [] h = (refl, refl)
   not_among k (r ∷ rs) h =
@@ -56,7 +56,7 @@ module _ {V : Type 0} where
         ap (λ b. cond (not b) (s ∷ from k rs) (from k rs)) here ∙ ap (λ zs. s ∷ zs) others.1,
       )
 
-  -- where the first row is not before the key, none is
+  -- if the first row isn't before the key, none is
   stops : (k : Key) (r : Key × V) (rs : Rows V) → is_sorted key_cmp (r ∷ rs) ≡ true → is_before r.0 k ≡ false → (before k (r ∷ rs) ≡ []) × (from k (r ∷ rs) ≡ r ∷ rs)
   stops k r rs h e =
       let others = none_before k r rs e (and_parts _ _ h).0 in (
@@ -87,7 +87,7 @@ module _ {V : Type 0} where
     | false ↦ λ e. refl
   ]
 
-  -- ---- the first row, where none is before the key
+  -- ---- the first row, if none is before the key
 
   pub same_key_above : (k : Key) (r : Key × V) (rs : Rows V) → is_sorted key_cmp (r ∷ rs) ≡ true → key_cmp r.0 k ≡ Equal → below_all key_cmp k rs ≡ true
   same_key_above k r rs h e = subst (λ j. below_all key_cmp j rs ≡ true) (slice_cmp-IsAntisymmetric nat_cmp-IsAntisymmetric r.0 k e) (and_parts _ _ h).0
@@ -119,7 +119,7 @@ module _ {V : Type 0} where
       let taken = first_taken k r rest (subst (λ zs. is_sorted key_cmp zs ≡ true) e h) tied in
       (taken.0 ∙ sym (ap (find key_cmp k) e), taken.1 ∙ sym (ap (with_value k None) e))
 
-  -- the same of a list that has a first row, and the others
+  -- the same for a list with a first row and others
   pub first_of_rows : (k : Key) (first : Key × V) (rs : Rows V) → is_sorted key_cmp rs ≡ true → 1 ≤ length rs → first ≡ get_or rs 0 first → key_cmp first.0 k ≡ Equal →
       (Some first.1 ≡ find key_cmp k rs) × (take (length rs - 1) (drop 1 rs) ≡ with_value k None rs)
   first_of_rows k first [] h some f same = absurd (omega (arith, some))
@@ -235,7 +235,7 @@ module _ {V M : Type 0} (effect : Option V → M → Option V) where
   without_row m rs later changed old new l f e is c =
       c ∙ ap (with_value m.0 None) l ∙ ap (λ w. with_value m.0 w (from m.0 rs)) (sym is ∙ effect_is m rs later old new l f e)
 
-  -- what a message makes of the value is put in front of the others, where it makes one
+  -- the new value after a message is put in front of the others, if there is one
   pub put_in_front : (m : Key × M) (rs later others changed : Rows V) (old new : Option V) → is_sorted key_cmp rs ≡ true → later ≡ from m.0 rs → old ≡ find key_cmp m.0 later → new ≡ effect old m.1 →
       others ≡ with_value m.0 None later → changed ≡ option_to_list (option_map (λ v. (m.0, v)) new) ++ others → changed ≡ changed_by m rs
   put_in_front m rs later others changed old (Some v) s l f e o c = with_row m rs later others changed old (Some v) v s l f e refl o c

@@ -25,7 +25,7 @@ module _ {V : Type 0} where
   below_at k (r ∷ rs) zero d h l = is_less _ (and_parts _ _ h).0
   below_at k (r ∷ rs) (suc i) d h l = below_at k rs i d (and_parts _ _ h).1 (omega arith)
 
-  -- the comparisons with a key rise with the keys
+  -- comparisons with a key rise with the keys
   rises : (k : Key) (rs : Rows V) → is_sorted key_cmp rs ≡ true → IsNonDecreasingBy (λ r. ordering_index (key_cmp r.0 k)) rs
   rises k [] h i j d le lt = absurd (omega arith)
   rises k (r ∷ rs) h zero zero d le lt = omega arith

@@ -1,4 +1,4 @@
--- Rows that are shown as far as a limit goes.
+-- Rows shown up to a limit.
 use Rattle.std.proofs.Common.{◌≡◌, ◌-◌, ℕ, zero, suc, List, [], ◌∷◌, arith, fold, length, take, refl, sym, ap, ◌∙◌}
 use Rattle.std.proofs.Math.Seq.{take-length}
 use Rattle.std.proofs.lemmas.List.{take_min}
@@ -12,16 +12,16 @@ module _ {S R : Type 0} (visited : S → R → S) where
   none_at_zero s [] = refl
   none_at_zero s (r ∷ rs) = none_at_zero s rs
 
-  -- none, where the limit is reached
+  -- none, if the limit is reached
   pub none_shown : (s : S) (limit : Option ℕ) (rows : List R) → limit ≡ Some 0 → fold (limited visited) (s, limit) rows ≡ (s, limit)
   none_shown s limit rows reached = ap (λ l. fold (limited visited) (s, l) rows) reached ∙ none_at_zero s rows ∙ ap (λ l. (s, l)) (sym reached)
 
-  -- all, where there is none
+  -- all, if there is no limit
   all_shown : (s : S) (rows : List R) → fold (limited visited) (s, None) rows ≡ (fold visited s rows, None)
   all_shown s [] = refl
   all_shown s (r ∷ rs) = all_shown (visited s r) rs
 
-  -- else the first ones
+  -- otherwise the first ones
   first_shown : (s : S) (n : ℕ) (rows : List R) → fold (limited visited) (s, Some n) rows ≡ (fold visited s (take n rows), Some (n - length rows))
   first_shown s zero [] = refl
   first_shown s (suc n) [] = ap (λ m. (s, Some m)) (omega arith)
@@ -41,7 +41,7 @@ module _ {S R : Type 0} (visited : S → R → S) where
       ∙ ap (λ x. (x, Some (n - length rows))) (show ∙ ap (λ m. fold visited s (take m rows)) counted.0 ∙ ap (fold visited s) (take_min n rows))
       ∙ sym (first_shown s n rows)
 
-  -- what is shown are the first rows, as many as the limit lets
+  -- the rows shown are the first ones, as many as the limit allows
   pub first_rows_shown : (s shown : S) (limit left : Option ℕ) (rows : List R) → (shown, left) ≡ fold (limited visited) (s, limit) rows → shown ≡ fold visited s (first_rows limit rows)
   first_rows_shown s shown None left rows show = ap (λ x. x.0) (show ∙ all_shown s rows)
   first_rows_shown s shown (Some n) left rows show = ap (λ x. x.0) (show ∙ first_shown s n rows)

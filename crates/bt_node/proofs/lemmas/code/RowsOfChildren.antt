@@ -8,7 +8,7 @@ use Rattle.bt_node.specs.Messages.{Messages}
 use Rattle.bt_node.specs.Trees.{Nodes, Shape, Siblings, Tree, children, height, height_below, inner, nodes}
 use Rattle.bt_node.proofs.lemmas.flushes.Groups.{children-nodes}
 
--- what stands side by side reaches from some key to some key
+-- items side by side reach from some key to some key
 side_at : {X : Type 0} (key : X → Key) (Reaches : Option Key → Option Key → X → Type 0) (low high : Option Key) (xs : List X) (i : ℕ) (x : X) →
     i < length xs → x ≡ get_or xs i x → SideBySide key Reaches low high xs → (l : Option Key) × (h : Option Key) × Reaches l h x
 side_at key Reaches low high [] i x within is side = absurd (omega arith)

@@ -24,7 +24,7 @@ use Rattle.bt_node.proofs.lemmas.code.LookupPath.{child_at, value_after-later}
 use Rattle.bt_node.proofs.lemmas.code.RowsOfChildren.{child_in_order, siblings_lie}
 
 module _ {V D : Type 0} (effect : Option V → Message V D → Option V) where
-  -- what a tree in order holds is sorted
+  -- the rows of a tree in order are sorted
   held-sorted : (t : Tree V (Message V D)) → IsInOrder t → T (is_sorted key_cmp (holds effect t))
   held-sorted t order = rows-sorted order.1 order.2 _ (holds-lie effect order.0 order.1 order.2 t order.3)
 
@@ -48,7 +48,7 @@ module _ {V D : Type 0} (effect : Option V → Message V D → Option V) where
       child-order : IsInOrder child
       child-order = child_in_order t xs buffer here ts items place child there at order
 
-      -- a key that belongs to a child has there what it has in all of them
+      -- a key that belongs to a child has the same value there as in all children
       child_has : (q : Key) → place ≡ pivots_up_to q ps → find key_cmp q (holds effect child) ≡ find key_cmp q (all_hold effect xs)
       child_has q is =
           let side = siblings_lie t xs buffer here order in
@@ -61,7 +61,7 @@ module _ {V D : Type 0} (effect : Option V → Message V D → Option V) where
 
       module _ (low high : Option Key) (newer above own merged : Messages (Message V D)) (belongs : (q : Key) → is_between low high q ≡ true → place ≡ pivots_up_to q ps)
           (own_does : (q : Key) → is_between low high q ≡ true → (old : Option V) → value_after effect q own old ≡ value_after effect q buffer old) (own_sorted : IsSorted own) (above_is : above ≡ between None high newer) (merged_is : merged ≡ with_messages above own) where
-        -- at a key between its bounds a child has, after the messages that are for it, what the node has after the newer ones
+        -- at a key between its bounds, a child after the messages to it has the same value as the node after the newer messages
         pub child_found : (q : Key) → is_between low high q ≡ true → find key_cmp q (rows_after effect merged (holds effect child)) ≡ find key_cmp q (rows_after effect newer (holds effect t))
         child_found q inside =
             let old = find key_cmp q (holds effect child) in
@@ -75,15 +75,15 @@ module _ {V D : Type 0} (effect : Option V → Message V D → Option V) where
             ∙ ap (value_after effect q newer) (sym (find-rows effect q buffer (all_hold effect xs)) ∙ ap (find key_cmp q) (sym held_above))
             ∙ sym (find-rows effect q newer (holds effect t))
 
-        -- the rows of a child after the messages that are for it, between its bounds
+        -- the rows of a child after the messages to it, between its bounds
         pub child_part : between low high (rows_after effect merged (holds effect child)) ≡ between low high (rows_after effect newer (holds effect t))
         child_part = same-between low high _ _ (after-sorted merged child child-order) (after-sorted newer t order) child_found
 
-        -- the last child has all that the node has from its lower bound on
+        -- the last child has all rows of the node from its lower bound on
         pub last_rows : (to : Option Key) → high ≡ to → between low high (rows_after effect merged (holds effect child)) ≡ between low to (rows_after effect newer (holds effect t))
         last_rows to is = child_part ∙ ap (λ h. between low h (rows_after effect newer (holds effect t))) is
 
-        -- a child before others, which come after it with the messages that are left
+        -- a child before others, which come after it with the rest of the messages
         module _ (to : Option Key) (p : Key) (rest : Messages (Message V D)) (is : high ≡ Some p) (rest_is : rest ≡ outside None high newer) where
           pub rest_found : (q : Key) → is_between (Some p) to q ≡ true → find key_cmp q (rows_after effect rest (holds effect t)) ≡ find key_cmp q (rows_after effect newer (holds effect t))
           rest_found q inside =
@@ -111,7 +111,7 @@ copied_after start (r ∷ rs) = copied_after (start ++ r ∷ []) rs ∙ append_a
 pub copied_all : {R : Type 0} (start rows : List R) → start ≡ [] → fold (λ done row. done ++ row ∷ []) start rows ≡ rows
 copied_all start rows none = copied_after start rows ∙ ap (λ zs. zs ++ rows) none
 
--- what a tree in order holds between bounds is sorted
+-- the rows of a tree in order between bounds are sorted
 pub held_between-sorted : {V D : Type 0} (effect : Option V → Message V D → Option V) (from to : Option Key) (t : Tree V (Message V D)) (rows : Rows V) → IsInOrder t → rows ≡ between from to (holds effect t) →
     is_sorted key_cmp rows ≡ true
 held_between-sorted effect from to t rows order is = ap (is_sorted key_cmp) is ∙ true_t _ (between-sorted from to (holds effect t) (held-sorted effect t order))

@@ -1,4 +1,4 @@
--- Siblings are their nodes behind their pivots.
+-- Siblings are their nodes with their pivots.
 use Rattle.std.proofs.Common.{◌≡◌, ◌≤◌, ◌<◌, ◌+◌, ◌-◌, ℕ, zero, suc, Some, option_map, slice_get, get_or, List, [], ◌∷◌, ◌++◌, length, map, drop, length-append, refl, sym, ap, ◌∙◌, arith}
 use Rattle.std.proofs.lemmas.List.{length-map}
 use Rattle.std.specs.List.{zip}
@@ -56,7 +56,7 @@ module _ {X : Type 0} where
   with_pivots-led ks [] fewer = absurd (omega (arith, fewer))
   with_pivots-led ks (x ∷ xs) fewer = refl
 
-  -- behind another pivot
+  -- with another first pivot
   pub with_pivots-first : (k : Key) (ks : List Key) (xs : List X) → zip (k ∷ ks) xs ≡ pivot_first k (with_pivots ks xs)
   with_pivots-first k ks [] = refl
   with_pivots-first k ks (x ∷ xs) = refl
@@ -73,19 +73,19 @@ module _ {X : Type 0} where
   pub one-more : (ks js : List Key) (xs ys : List X) (k : Key) (x : X) → length xs ≡ length ks + 1 → js ≡ ks ++ k ∷ [] → ys ≡ xs ++ x ∷ [] → with_pivots js ys ≡ with_pivots ks xs ++ (k, x) ∷ []
   one-more ks js xs ys k x fewer e f = ap (λ ls. with_pivots ls ys) e ∙ ap (with_pivots (ks ++ k ∷ [])) f ∙ with_pivots-more ks xs fewer k x
 
--- the children that are seen of an inner node
+-- the children that an inner node shows
 pub children_seen : {V D : Type 0} (t n : Tree V (Message V D)) (k : NodeKind V D) (xs : Siblings V (Message V D)) (bins : List (Messages (Message V D))) →
     n ≡ t → n ≡ tree_of k → k ≡ Inner xs bins → children_of t ≡ xs
 children_seen t n k xs bins view is kind = ap children_of (sym view ∙ is ∙ ap tree_of kind) ∙ children-nodes xs
 
--- an item that is read at a place
+-- an item read at a place
 pub read_at : {X Y : Type 0} (f : X → Y) (xs : List X) (ys : List Y) (i : ℕ) (y : Y) → ys ≡ map f xs → i < length ys → y ≡ get_or ys i y → option_map f (slice_get xs i) ≡ Some y
 read_at f [] ys i y e within is = absurd (omega (arith, within, ap length e))
 read_at f (x ∷ xs) ys zero y e within is = ap Some (sym (is ∙ ap (λ zs. get_or zs 0 y) e))
 read_at f (x ∷ xs) ys (suc i) y e within is =
     read_at f xs (map f xs) i y refl (omega (arith, within, ap length e)) (is ∙ ap (λ zs. get_or zs (suc i) y) e)
 
--- a pivot that is read at a place
+-- a pivot read at a place
 pub pivot_at : {X : Type 0} (xs : List (Key × X)) (ks : List Key) (i : ℕ) (k : Key) → ks ≡ map (λ x. x.0) (drop 1 xs) → 0 < i → i < length xs → k ≡ get_or ks (i - 1) k → option_map (λ x. x.0) (slice_get xs i) ≡ Some k
 pivot_at xs ks zero k e some within is = absurd (omega (arith, some))
 pivot_at [] ks (suc i) k e some within is = absurd (omega (arith, within))
@@ -98,6 +98,6 @@ pub pivots_length : {X : Type 0} (xs : List (Key × X)) (ks : List Key) → ks �
 pivots_length [] ks e some = absurd (omega (arith, some))
 pivots_length (x ∷ xs) ks e some = omega (arith, ap length e, length-map xs (λ y. y.0))
 
--- a place among the pivots, or behind them, is one of a node
+-- a place among the pivots, or after them, is that of a node
 pub pivot_within : {X : Type 0} (xs : List (Key × X)) (ts : List X) (ks : List Key) (i : ℕ) → ts ≡ map (λ x. x.1) xs → ks ≡ map (λ x. x.0) (drop 1 xs) → 1 ≤ length xs → i ≤ length ks → i < length ts
 pivot_within xs ts ks i items pivots some few = omega (arith, few, pivots_length xs ks pivots some, ap length items, length-map xs (λ x. x.1))

@@ -1,4 +1,4 @@
--- Keys that are looked up together have the values that each of them has alone.
+-- Keys that are looked up together have the same values as when looked up alone.
 use Rattle.std.proofs.Common.{◌≡◌, ◌+◌, ◌-◌, ◌<◌, ◌≤◌, ◌++◌, ◌∙◌, ℕ, suc, true, false, cond, List, [], ◌∷◌, append-nil, append_assoc, ap, arith, drop, get_or, length, map, refl, subst, sym, take}
 use Rattle.std.proofs.lemmas.List.{drop-drop, length-drop, length-map, map-append, take-append-drop, take-map, take_rest}
 use Rattle.std.specs.FinMap.{find}
@@ -59,7 +59,7 @@ belong first ps place next here is [] h = tt
 belong first ps place next here is (k ∷ ks) h =
     (belongs (Some first) None next next ps place k here (is ∙ unlimited (slice_get ps place)) (or_nothing next) h.0, belong first ps place next here is ks h.1)
 
--- the first of keys with those behind it that belong to its child
+-- the first key with those after it that belong to its child
 pub run_belongs : {K : Type 0} (key : K → Key) (first : K) (keys others own : List K) (ps : List Key) (place c count : ℕ) (next : Option Key) → 0 < length keys → first ≡ get_or keys 0 first → others ≡ drop 1 keys →
     place ≡ pivots_up_to (key first) ps → next ≡ slice_get ps place → c ≡ count_between (Some (key first)) next (map key others) → count ≡ c + 1 → own ≡ take count keys → AllBelong ps place (map key own)
 run_belongs key first [] others own ps place c count next some is behind here next_is c_is count_is own_is = absurd (omega (arith, some))
@@ -74,7 +74,7 @@ run_belongs key first (k ∷ ks) others own ps place c count next some is behind
 module _ {V D : Type 0} (effect : Option V → Message V D → Option V) (xs : Siblings V (Message V D)) (bins : List (Messages (Message V D))) (node : Tree V (Message V D))
     (ts : List (Tree V (Message V D))) (ps : List Key) (place : ℕ) (child : Tree V (Message V D)) (here : node ≡ inner (nodes xs) (concatenation bins)) (items : ts ≡ map (λ y. y.1) xs)
     (pivots : ps ≡ map (λ y. y.0) (drop 1 xs)) (some : 1 ≤ length xs) (lie : LieBetween ps bins) (at : child ≡ get_or ts place child) where
-  -- what the bin of a child makes of the values there
+  -- the values there after the bin of a child
   values_above : (ks : List Key) → AllBelong ps place ks → values_after effect (get_or bins place []) ks (tree_values effect ks child) ≡ tree_values effect ks node
   values_above [] h = refl
   values_above (k ∷ ks) h =
@@ -97,7 +97,7 @@ module _ {V D : Type 0} (effect : Option V → Message V D → Option V) (xs : S
       ∙ ap (λ vs. values ++ vs) (sym (map-append (λ k. tree_value effect k node) (map key own) (map key later)) ∙ ap (λ ks. tree_values effect ks node) (sym (map-append key own later) ∙ ap (map key) parts))
       ∙ so_far
 
--- one value more, and one key fewer
+-- one more value, and one key fewer
 pub one_after : {V D K H : Type 0} (effect : Option V → Message V D → Option V) (bin ms : Messages (Message V D)) (key : K → Key) (value : H → Option V) (rest others : List K) (k : K) (olds : List H) (old now : H) (values new : List H) (wanted : List (Option V)) →
     rest ≡ k ∷ others → ms ≡ from (key k) bin → value now ≡ value_after effect (key k) ms (value old) → new ≡ values ++ now ∷ [] →
     wanted ≡ map value values ++ values_after effect bin (map key rest) (map value (old ∷ olds)) → wanted ≡ map value new ++ values_after effect bin (map key others) (map value olds)
@@ -107,7 +107,7 @@ one_after effect bin ms key value rest others k olds old now values new wanted i
     ∙ ap (λ v. map value values ++ v ∷ later) (all_left effect (key k) bin ms (value old) from_key ∙ sym is_now)
     ∙ sym (append_assoc (map value values) (value now ∷ []) later) ∙ ap (λ vs. vs ++ later) (sym (map-append value values (now ∷ [])) ∙ ap (map value) (sym more))
 
--- where no message is, the values stay
+-- without messages the values stay
 unchanged : {V D : Type 0} (effect : Option V → Message V D → Option V) (ks : List Key) (olds : List (Option V)) → length olds ≡ length ks → values_after effect [] ks olds ≡ olds
 unchanged effect [] [] same = refl
 unchanged effect [] (old ∷ olds) same = absurd (omega (arith, same))
@@ -120,7 +120,7 @@ none_pending effect key value bin ks values new below none same is =
     ap (map value) is ∙ map-append value values below
     ∙ ap (λ vs. map value values ++ vs) (sym (ap (λ b. values_after effect b (map key ks) (map value below)) none ∙ unchanged effect (map key ks) (map value below) (length-map below value ∙ same ∙ sym (length-map ks key))))
 
--- as many values as keys
+-- there are as many values as keys
 pub as_many : {V D K H : Type 0} (effect : Option V → Message V D → Option V) (key : K → Key) (value : H → Option V) (ks : List K) (below : List H) (t : Tree V (Message V D)) → map value below ≡ tree_values effect (map key ks) t →
     length below ≡ length ks
 as_many effect key value ks below t is =
@@ -140,14 +140,14 @@ first_of (y ∷ ys) x some is = ap (λ z. z ∷ ys) (sym is) ∙ ap (λ zs. x �
 pub from_there : {X : Type 0} (xs own : List X) (done : ℕ) → own ≡ take (length own) (drop done xs) → own ++ drop (done + length own) xs ≡ drop done xs
 from_there xs own done is = ap (λ zs. zs ++ drop (done + length own) xs) is ∙ ap (λ zs. take (length own) (drop done xs) ++ zs) (sym (drop-drop (length own) done xs)) ∙ take-append-drop (length own) (drop done xs)
 
--- what a leaf has at keys
+-- the values of a leaf at keys
 pub leaf_values : {V D K : Type 0} (effect : Option V → Message V D → Option V) (key : K → Key) (ks : List K) (rows : Rows V) (t : Tree V (Message V D)) → t ≡ leaf rows →
     map (λ k. find key_cmp (key k) rows) ks ≡ tree_values effect (map key ks) t
 leaf_values effect key [] rows t is = refl
 leaf_values effect key (k ∷ ks) rows t is =
     ap (λ v. v ∷ map (λ j. find key_cmp (key j) rows) ks) (sym (ap (tree_value effect (key k)) is)) ∙ ap (λ vs. tree_value effect (key k) t ∷ vs) (leaf_values effect key ks rows t is)
 
--- the values along the paths are those in the map that the tree holds
+-- the values along the paths are those in the map that the tree represents
 pub all_held : {V D K : Type 0} (effect : Option V → Message V D → Option V) (key : K → Key) (levels : ℕ) (low high : Option Key) (t : Tree V (Message V D)) (ks : List K) → Lies levels low high t →
     tree_values effect (map key ks) t ≡ map (λ k. find key_cmp (key k) (holds effect t)) ks
 all_held effect key levels low high t [] lies = refl

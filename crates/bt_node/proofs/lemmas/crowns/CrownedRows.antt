@@ -1,4 +1,4 @@
--- Siblings under one node: it fits where they fit, and holds what they hold.
+-- Siblings under one node: it fits if they fit, and holds the same rows.
 use Rattle.std.proofs.Common.{◌≡◌, ℕ, zero, suc, ◌<◌, ◌≤◌, [], ◌∷◌, length, sym, ap, subst, ◌∙◌, arith, append-nil}
 use Rattle.std.specs.declared.option.Option.{Option}
 use Rattle.bt_keycode.specs.Keys.{Key}
@@ -10,7 +10,7 @@ use Rattle.bt_node.proofs.lemmas.crowns.Levels.{raised-shorter, shared-nothing}
 use Rattle.bt_node.proofs.lemmas.flushes.Regrouped.{grouped_fits, grouped_holds}
 
 module _ {V M : Type 0} (weigh : Key × M → ℕ) (s : Shape) (roomy : IsRoomy s) where
-  -- one level more: the siblings under inner nodes
+  -- one more level: the siblings under inner nodes
   abbrev raised : Key × Tree V M → Key × Tree V M → Siblings V M → Siblings V M
   raised x y xs = grouped s (none_pending (x ∷ y ∷ xs))
 

@@ -1,4 +1,4 @@
--- Siblings put under inner nodes are fewer, and the crown goes on from them.
+-- There are fewer nodes after siblings are put under inner nodes, and their crown is the same.
 use Rattle.std.proofs.Common.{◌≡◌, ℕ, zero, suc, ◌<◌, ◌≤◌, [], ◌∷◌, map, length, refl, ap, ◌∙◌, arith}
 use Rattle.std.proofs.lemmas.List.{length-map}
 use Rattle.bt_keycode.specs.Keys.{Key}
@@ -9,7 +9,7 @@ use Rattle.bt_node.specs.Laws.{StandsAbove}
 use Rattle.bt_node.proofs.lemmas.deals.PartSizes.{fewer-parts}
 
 module _ {V M : Type 0} where
-  -- of no messages, none are pending
+  -- without messages, none are pending
   pub shared-nothing : (xs : Siblings V M) → shared xs [] ≡ none_pending xs
   shared-nothing [] = refl
   shared-nothing (x ∷ []) = refl
@@ -30,7 +30,7 @@ module _ {V M : Type 0} where
         let many = length-none_pending xs in
         omega (arith, length-pivot_first [] (map gathered (deal s.fanout cs)), length-map (deal s.fanout cs) gathered, many, fewer-parts s.fanout cs two (omega (arith, many, several)))
 
-    -- Any two bounds on the levels that the siblings can't exceed give the same: each level has fewer nodes than the one below it.
+    -- Two bounds on the levels that both suffice for the siblings give the same: each level has fewer nodes than the one below it.
     crown_within-same : (h j : ℕ) (xs : Siblings V M) → length xs ≤ suc h → length xs ≤ suc j → crown_within h s xs ≡ crown_within j s xs
     crown_within-same h j [] l m = refl
     crown_within-same h j (x ∷ []) l m = refl

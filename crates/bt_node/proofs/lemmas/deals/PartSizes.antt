@@ -47,7 +47,7 @@ sizes-at_most n m l =
     let fits = at_most k (n / k) (n % k) n m (omega arith) (omega arith) (enough n m (n / m) (n % m) (omega arith) (omega arith)) in
     each-append (λ x. x ≤ m) (replicate (n % k) (n / k + 1)) (replicate (k - n % k) (n / k)) (each-replicate (λ x. x ≤ m) (n % k) (n / k + 1) fits.1) (each-replicate (λ x. x ≤ m) (k - n % k) (n / k) (λ _. fits.0))
 
--- no part of two items or more has fewer than two, if three may stand in one
+-- no part of two items or more has fewer than two, if a part may have three
 halves : (k q r n : ℕ) → k * q + r ≡ n → r < k → 2 * k ≤ n → 2 ≤ q
 halves k zero r n e l h = absurd (omega arith)
 halves k (suc zero) r n e l h = absurd (omega arith)
@@ -86,7 +86,7 @@ one_part n m (suc (suc a)) b e l h = absurd (omega (arith, mul-le-mul_left m (tw
     two : (a : ℕ) → 2 ≤ suc (suc a)
     two a = omega arith
 
--- what fits in one part is one part
+-- items that fit in one part are one part
 pub deal-one : {X : Type 0} (m : ℕ) (xs : List X) → 1 ≤ m → length xs ≤ m → deal m xs ≡ xs ∷ []
 deal-one m xs some fits =
     let n = length xs in
@@ -102,7 +102,7 @@ pub length-even : (n k : ℕ) → 0 < k → length (even n k) ≡ k
 length-even n k l =
     omega (arith, length-append (replicate (n % k) (n / k + 1)) (replicate (k - n % k) (n / k)), length-replicate (n % k) (n / k + 1), length-replicate (k - n % k) (n / k))
 
--- n items, with room for m of them in a part, are more than their parts, if two may stand in one
+-- n items, with room for m of them in a part, are more than their parts, if a part may have two
 fewer : (n m a b : ℕ) → m * a + b ≡ n → b < m → 2 ≤ n → 2 ≤ m → max 1 (a + min 1 b) < n
 fewer n m zero b e l some two = omega arith
 fewer n m (suc a) b e l some two = omega (arith, wide)
@@ -110,7 +110,7 @@ fewer n m (suc a) b e l some two = omega (arith, wide)
     wide : 2 * suc a ≤ m * suc a
     wide = omega (arith, mul-le-mul_left (suc a) two)
 
--- two or more, dealt by two or more, become fewer
+-- two items or more, dealt into parts of two or more, become fewer
 pub fewer-parts : {X : Type 0} (m : ℕ) (xs : List X) → 2 ≤ m → 2 ≤ length xs → length (deal m xs) < length xs
 fewer-parts m xs two some =
     let n = length xs in

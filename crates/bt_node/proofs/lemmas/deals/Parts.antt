@@ -1,4 +1,4 @@
--- Dealing loses nothing, and deals no empty part of what is not empty.
+-- Dealing loses nothing, and makes no empty part unless there are no items.
 use Rattle.std.proofs.Common.{◌≡◌, ℕ, zero, suc, ◌+◌, ◌-◌, ◌*◌, ◌/◌, ◌%◌, max, min, ◌<◌, ◌≤◌, List, [], ◌∷◌, ◌++◌, replicate, length, take, drop, refl, ap, ◌∙◌, arith, take-append-drop, length-drop}
 use Rattle.std.specs.List.{flat_map}
 use Rattle.std.specs.Int.{div_ceil}
@@ -85,6 +85,6 @@ full-parted (suc n ∷ ns) (x ∷ xs) p e = (tt, full-parted ns (drop n xs) p.1 
 pub full-deal : {X : Type 0} (m : ℕ) (x : X) (xs : List X) → 0 < m → AllNonEmpty (deal m (x ∷ xs))
 full-deal m x xs l = full-parted (sizes (suc (length xs)) m) (x ∷ xs) (positive-sizes (suc (length xs)) m (omega arith) l) (total-sizes (suc (length xs)) m)
 
--- nothing is dealt as one empty part
+-- no items are dealt as one empty part
 pub deal-nothing : {X : Type 0} (m : ℕ) → 0 < m → deal {X = X} m [] ≡ [] ∷ []
 deal-nothing {X} m l = let one : max 1 (div_ceil 0 m) ≡ 1 = omega arith in ap (λ k. parted {X = X} (even 0 k) []) one

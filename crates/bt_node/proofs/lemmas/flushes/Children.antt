@@ -1,4 +1,4 @@
--- What one finds among children with what is pending for them.
+-- The values among children with their pending messages.
 use Rattle.std.proofs.Common.{◌≡◌, ℕ, List, [], ◌∷◌, ◌++◌, refl, sym, ap, ◌∙◌, append-nil, inl, inr}
 use Rattle.std.specs.List.{flat_map}
 use Rattle.std.specs.FinMap.{find}
@@ -12,7 +12,7 @@ use Rattle.bt_keycode.proofs.offered.Order.{sides}
 use Rattle.bt_node.proofs.lemmas.rows.Values.{find-append, value-append, or_else, or_else-None, or_else_assoc}
 use Rattle.bt_node.proofs.lemmas.lookups.Outside.{Outside, outside-first, outside-rest, value-outside, tree-outside}
 
--- a child and what is pending for it, within limits
+-- a child and its pending messages, within limits
 abbrev pub ChildLies : {V M : Type 0} → ℕ → Option Key → Option Key → Child V M → Type 0
 ChildLies levels low high c = Lies levels low high c.tree × AllWithin low high c.pending × IsSorted c.pending
 
@@ -24,11 +24,11 @@ abbrev pub all_pending : {V M : Type 0} → List (Child V M) → Messages M
 all_pending = flat_map (λ c. c.pending)
 
 module _ {V M : Type 0} (effect : Option V → M → Option V) where
-  -- the value at a key that a child has, what is pending for it included
+  -- the value at a key of a child with its pending messages
   abbrev pub seen : Key → Child V M → Option V
   seen q c = value_after effect q c.pending (find key_cmp q (holds effect c.tree))
 
-  -- the value at a key that children have
+  -- the value at a key of children
   abbrev pub seen_in : Key → List (Child V M) → Option V
   seen_in q [] = None
   seen_in q (c ∷ cs) = or_else (seen q c) (seen_in q cs)
@@ -37,7 +37,7 @@ module _ {V M : Type 0} (effect : Option V → M → Option V) where
   seen-append q [] ds = refl
   seen-append q (c ∷ cs) ds = ap (or_else (seen q c)) (seen-append q cs ds) ∙ sym (or_else_assoc (seen q c) (seen_in q cs) (seen_in q ds))
 
-  -- what the children hold together, without what is pending for them
+  -- the rows of the children together, without their pending messages
   abbrev pub below : List (Child V M) → Rows V
   below = flat_map (λ c. holds effect c.tree)
 
@@ -67,7 +67,7 @@ module _ {V M : Type 0} (effect : Option V → M → Option V) where
       ap (λ z. or_else z (seen_in q (d ∷ cs))) (seen-outside levels q low (Some d.pivot) c p.2 (outside-first low d.pivot q high p.1 out))
       ∙ seen_in-outside levels q (Some d.pivot) high (d ∷ cs) p.3 (outside-rest low d.pivot q high p.0 out)
 
-  -- What is pending, over what the children hold together, is each child's share over what it holds.
+  -- All pending messages, applied to the rows of the children together, give the same as each child's share, applied to its rows.
   pub value-below-seen : (levels : ℕ) (q : Key) (low high : Option Key) (cs : List (Child V M)) → ChildrenLie levels low high cs → value_after effect q (all_pending cs) (find key_cmp q (below cs)) ≡ seen_in q cs
   value-below-seen levels q low high [] p = refl
   value-below-seen levels q low high (c ∷ []) p =

@@ -1,4 +1,4 @@
--- Children beside their bins, and with their shares of the messages that come: what is pending for each of them.
+-- Children with their bins, and with their shares of the incoming messages: the pending messages of each.
 use Rattle.std.proofs.Common.{◌≡◌, ◌≤◌, ℕ, zero, suc, List, [], ◌∷◌, ◌++◌, drop, length, map, take, refl, sym, ap, subst, ◌∙◌, arith}
 use Rattle.std.proofs.lemmas.List.{length-map}
 use Rattle.std.specs.declared.option.Option.{Option}
@@ -42,7 +42,7 @@ each-long (n ∷ ns) ms [] e = absurd (omega (arith, e))
 each-long (n ∷ ns) ms (b ∷ bs) e = omega (arith, each-long ns (drop n ms) bs (omega (arith, e)))
 
 module _ {V M : Type 0} where
-  -- a buffer that is divided at the pivots is pending for the children as it is shared
+  -- a buffer divided at the pivots gives the same pending messages as when it is shared
   with_pending-parts : (xs : Siblings V M) (b : Messages M) → with_pending xs (parts (pivots_of xs) b) ≡ shared xs b
   with_pending-parts [] b = refl
   with_pending-parts (x ∷ []) b = refl
@@ -77,7 +77,7 @@ module _ {V M : Type 0} where
   length-with_pending (x ∷ xs) [] e = absurd (omega (arith, e))
   length-with_pending (x ∷ xs) (b ∷ bs) e = omega (arith, length-with_pending xs bs (omega (arith, e)))
 
-  -- a bin for each of siblings
+  -- a bin for each of the siblings
   pub bins-length : (xs : Siblings V M) (bs : List (Messages M)) → 1 ≤ length xs → LieBetween (pivots_of xs) bs → length bs ≡ length xs
   bins-length [] bs some h = absurd (omega (arith, some))
   bins-length (x ∷ xs) bs some h = omega (arith, lie_length (pivots_of (x ∷ xs)) bs h, length-map xs (λ (y : Key × Tree V M). y.0))
@@ -90,7 +90,7 @@ module _ {V M : Type 0} where
   loads-with_pending weigh s (x ∷ xs) [] e = absurd (omega (arith, e))
   loads-with_pending weigh s (x ∷ xs) (b ∷ bs) e = ap (λ ns. load weigh s.measure b ∷ ns) (loads-with_pending weigh s xs bs (omega (arith, e)))
 
-  -- a share for each of siblings
+  -- a share for each of the siblings
   pub shares-length : (xs : Siblings V M) (ns : List ℕ) (ms packet : Messages M) → 1 ≤ length xs → parted ns ms ≡ parts (pivots_of xs) packet → length ns ≡ length xs
   shares-length [] ns ms packet some sizes = absurd (omega (arith, some))
   shares-length (x ∷ xs) ns ms packet some sizes = omega (arith, parted-long ns ms, ap length sizes, parts-long (pivots_of (x ∷ xs)) packet, length-map xs (λ (y : Key × Tree V M). y.0))
@@ -103,7 +103,7 @@ module _ {V M : Type 0} where
       parts-long [] ms = refl
       parts-long (k ∷ ks) ms = ap suc (parts-long ks (from k ms))
 
-  -- bins with their shares have what is pending for the children
+  -- the loads of the bins with their shares are those of the children
   pub loads-are : (weigh : Key × M → ℕ) (s : Shape) (xs : Siblings V M) (bs : List (Messages M)) (ns : List ℕ) (ms packet : Messages M) → LieBetween (pivots_of xs) bs → parted ns ms ≡ parts (pivots_of xs) packet →
       length bs ≡ length xs → length ns ≡ length bs → map (load weigh s.measure) (each_with (parted ns ms) bs) ≡ loads weigh s (shared xs (with_messages packet (concatenation bs)))
   loads-are weigh s xs bs ns ms packet h sizes e few =
@@ -140,7 +140,7 @@ module _ {V M : Type 0} where
   joined-pending [] = refl
   joined-pending (c ∷ cs) = ap (λ z. c.pending ++ z) (joined-pending cs)
 
-  -- what is pending for children in their places
+  -- the pending messages of children in their places
   pub divided-lie : (levels : ℕ) (low high : Option Key) (cs : List (Child V M)) → ChildrenLie levels low high cs → AreDivided cs
   divided-lie levels low high [] p = tt
   divided-lie levels low high (c ∷ []) p = p.2
@@ -162,7 +162,7 @@ module _ {V M : Type 0} where
   pending-with_pending (x ∷ xs) [] e = absurd (omega (arith, e))
   pending-with_pending (x ∷ xs) (b ∷ bs) e = ap (λ z. b ∷ z) (pending-with_pending xs bs (omega (arith, e)))
 
-  -- bins of siblings, as what is pending for children
+  -- the bins of siblings, as pending messages of children
   pub divided-with_pending : (xs : Siblings V M) (bs : List (Messages M)) → LieBetween (pivots_of xs) bs → AreDivided (with_pending xs bs)
   divided-with_pending [] bs h = tt
   divided-with_pending (x ∷ xs) [] h = tt
@@ -193,7 +193,7 @@ module _ {V M : Type 0} where
   divided-rest [] ds h = h
   divided-rest (c ∷ cs) ds h = divided-rest cs ds (one_less c (cs ++ ds) h)
 
-  -- children for which nothing is pending
+  -- children without pending messages
   pub divided-none : (cs : List (Child V M)) → concatenation (map (λ c. c.pending) cs) ≡ [] → AreDivided cs
   divided-none [] e = tt
   divided-none (c ∷ cs) e = go c cs e

@@ -1,4 +1,4 @@
--- No message is pending in what becomes of a node that is drained, nor in a tree of rows.
+-- No message is pending after a drain of a node, nor in a tree of rows.
 use Rattle.std.proofs.Common.{◌≡◌, ℕ, zero, suc, ◌≤◌, List, [], ◌∷◌, ◌++◌, map, length, refl, sym, ap, subst, ◌∙◌, arith, le_refl}
 use Rattle.std.specs.List.{flat_map}
 use Rattle.bt_keycode.specs.Keys.{Key}
@@ -18,7 +18,7 @@ module _ {V M : Type 0} where
   all_pending-none_pending [] cs = refl
   all_pending-none_pending (x ∷ xs) cs = all_pending-none_pending xs cs
 
-  -- where each child is flushed, nothing is pending for what they become
+  -- if each child is flushed, nothing is pending for the nodes that replace them
   pub all_pending-flushed : (f : Flush V M) (cs : List (Child V M)) → all_pending (flat_map (flushed f) cs) ≡ []
   all_pending-flushed f [] = refl
   all_pending-flushed f (c ∷ cs) = all_pending-none_pending (pivot_first c.pivot (f c.tree c.pending)) (flat_map (flushed f) cs) ∙ all_pending-flushed f cs
@@ -35,7 +35,7 @@ dry-leaves {V} M s rs = dry-pivot_first [] (map (as_leaf M) (deal s.leaf rs)) (e
     each (g ∷ gs) = (tt, each gs)
 
 module _ {V M : Type 0} where
-  -- children for which nothing is pending, and in which nothing is pending
+  -- children without pending messages, in the buffer of their parent or below
   abbrev ChildrenDry : List (Child V M) → Type 0
   ChildrenDry [] = Unit {0}
   ChildrenDry (c ∷ cs) = (c.pending ≡ []) × IsDry c.tree × ChildrenDry cs
@@ -104,6 +104,6 @@ module _ {V M : Type 0} (meaning : Meaning V M) (s : Shape) where
   pub drain_dries : (t : Tree V M) (p : Messages M) (xs : Siblings V M) → xs ≡ drain meaning s t p → AreDry (nodes xs)
   drain_dries t p xs is = subst (λ ys. AreDry (nodes ys)) (sym is) (drain-dry t p)
 
--- in one node above siblings in which nothing is pending, nothing is
+-- the node above siblings in which nothing is pending has nothing pending
 pub crown_dries : {V M : Type 0} (s : Shape) (xs : Siblings V M) (tree : Shape × Tree V M) → tree ≡ (s, crown s xs) → AreDry (nodes xs) → IsDry tree.1
 crown_dries {V} {M} s xs tree is dry = subst (λ (x : Shape × Tree V M). IsDry x.1) (sym is) (crown-dry s xs dry)

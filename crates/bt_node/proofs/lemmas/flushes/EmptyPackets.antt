@@ -1,4 +1,4 @@
--- A node that fits is left as it is by an empty packet.
+-- An empty packet leaves a node that fits as it is.
 use Rattle.std.proofs.Common.{◌≡◌, ℕ, zero, suc, ◌≤◌, true, false, cond, not, List, [], ◌∷◌, ◌++◌, map, length, refl, sym, ap, ◌∙◌, arith, append-nil}
 use Rattle.std.specs.declared.option.Option.{Option}
 use Rattle.bt_keycode.specs.Keys.{Key, is_before, AllFrom, IsSorted}
@@ -72,7 +72,7 @@ module _ {V M : Type 0} where
   grouped-shared s xs b l r some few =
       grouped-one s (shared xs b) some (omega (arith, length-shared xs b, few)) ∙ ap (λ t. ([], t) ∷ []) (gathered-shared xs b l r)
 
-  -- what becomes of a node whose children and messages are within its shape is the node
+  -- the flush of a node whose children and messages are within its shape is the node itself
   pub still-here : (weigh : Key × M → ℕ) (s : Shape) (ns : Nodes V M) (b : Messages M) → IsLed (children ns) → IsSorted b → 1 ≤ s.fanout → length (children ns) ≤ s.fanout → load weigh s.measure b ≤ s.buffer → (flush : Flush V M) →
       grouped s (flushed_in weigh s Absorb flush (shared (children ns) b)) ≡ ([], inner ns b) ∷ []
   still-here weigh s ns b l r some few fits flush =

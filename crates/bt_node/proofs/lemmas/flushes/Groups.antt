@@ -1,4 +1,4 @@
--- Rows dealt into leaves, and children gathered under inner nodes: they lie where they lay, and hold what they held.
+-- Rows dealt into leaves, and children grouped under inner nodes: they stay in the same places, and hold the same rows.
 use Rattle.std.proofs.Common.{◌≡◌, ℕ, zero, suc, ◌<◌, ◌≤◌, length, arith, List, [], ◌∷◌, ◌++◌, map, refl, sym, ap, subst, ◌∙◌, append-nil}
 use Rattle.std.specs.FinMap.{find}
 use Rattle.std.specs.declared.option.Option.{Option}
@@ -35,7 +35,7 @@ pub some_length : {X : Type 0} (xs : List X) → NonEmpty xs → 1 ≤ length xs
 some_length [] n = absurd n
 some_length (x ∷ xs) n = omega arith
 
--- there is a part, also of nothing
+-- there is a part, also if there are no items
 pub deal-some : {X : Type 0} (most : ℕ) (xs : List X) → 0 < most → NonEmpty (deal most xs)
 deal-some most [] l = subst NonEmpty (sym (deal-nothing most l)) tt
 deal-some most (x ∷ xs) l = some-of _ x xs (joined-deal most (x ∷ xs))
@@ -50,7 +50,7 @@ led-full (x ∷ xs) l = tt
 
 -- ---- leaves
 
--- a part of the rows as a leaf behind its least key
+-- a part of the rows as a leaf with its smallest key
 abbrev pub as_leaf : {V : Type 0} (M : Type 0) → Rows V → Key × Tree V M
 as_leaf M rows = (first_key (λ r. r.0) rows, leaf rows)
 

@@ -1,4 +1,4 @@
--- What is promised of a node and a packet, of children that are flushed, and of rows that are packed, from its parts.
+-- The promises about a node and a packet, about flushed children, and about packed rows, from their parts.
 use Rattle.std.proofs.Common.{◌≡◌, ℕ, suc, T, List, [], ◌∷◌, refl, sym, ap, subst, ◌∙◌, arith, le_refl}
 use Rattle.std.specs.FinMap.{is_sorted}
 use Rattle.std.specs.declared.option.Option.{Option}
@@ -66,7 +66,7 @@ pub stay_without_packet : {V M : Type 0} (meaning : Meaning V M) (s : Shape) (ro
     StayWithoutPacket meaning.weigh s t p xs
 stay_without_packet meaning s roomy t p xs is none levels low high fits within = is ∙ ap (absorb meaning s t) none ∙ absorb-still meaning s roomy levels low high t fits
 
--- rows that rise by their keys, dealt into leaves
+-- rows in rising order, dealt into leaves
 pub leaves-fit : {V M : Type 0} (weigh : Key × M → ℕ) (s : Shape) (rs : Rows V) → IsRoomy s → T (is_sorted key_cmp rs) → SiblingsFit weigh s 0 None None (leaves s rs)
 leaves-fit {M = M} weigh s rs roomy sorted = record {
   lie = leaves-lie M s None None rs (omega (arith, roomy.leaf)) (rows-lie None None rs (anywhere rs) sorted);

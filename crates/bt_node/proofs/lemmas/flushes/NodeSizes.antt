@@ -1,4 +1,4 @@
--- No node that comes of a flush is larger than its shape allows.
+-- No node after a flush is larger than its shape allows.
 use Rattle.std.proofs.Common.{◌≡◌, ℕ, zero, suc, ◌+◌, ◌<◌, ◌≤◌, Bool, true, false, cond, List, [], ◌∷◌, ◌++◌, map, length, refl, sym, ap, subst, ◌∙◌, arith, le_refl}
 use Rattle.std.specs.declared.option.Option.{Option}
 use Rattle.std.specs.declared.option.Option.TheVariants.{Some}
@@ -69,7 +69,7 @@ module _ {V M : Type 0} (weigh : Key × M → ℕ) (s : Shape) where
       names-many [] = refl
       names-many (c ∷ cs) = ap suc (names-many cs)
 
-  -- how much room the buffer of these children takes
+  -- the load of the buffer of these children
   abbrev pending : List (Child V M) → ℕ
   pending cs = load weigh s.measure (all_pending cs)
 
@@ -97,7 +97,7 @@ module _ {V M : Type 0} (weigh : Key × M → ℕ) (s : Shape) where
         groups-sized gs two.1 most.1 (omega arith) (rest-sized g (joined gs) z),
       )
 
-  -- two children or more, with no more than a buffer has room for
+  -- two children or more, with at most the load that a buffer has room for
   pub grouped-sized : (cs : List (Child V M)) → 3 ≤ s.fanout → 2 ≤ length cs → load weigh s.measure (all_pending cs) ≤ s.buffer → ChildrenSized cs → AreSized weigh s (nodes (grouped s cs))
   grouped-sized cs three two fits z =
       let gs = deal s.fanout cs in
@@ -121,7 +121,7 @@ pub total-loads : {V M : Type 0} (weigh : Key × M → ℕ) (s : Shape) (cs : Li
 total-loads weigh s [] = sym (load-none weigh s.measure)
 total-loads weigh s (c ∷ cs) = omega (arith, load-append weigh s.measure c.pending (all_pending cs), total-loads weigh s cs)
 
--- no more is pending for what becomes of children than fits
+-- the pending messages of flushed children fit
 pub flushed-fits : {V M : Type 0} (weigh : Key × M → ℕ) (s : Shape) (mode : Mode) (f : Flush V M) (cs : List (Child V M)) → load weigh s.measure (all_pending (flushed_in weigh s mode f cs)) ≤ s.buffer
 flushed-fits weigh s Absorb f cs = omega (
   arith,
@@ -132,7 +132,7 @@ flushed-fits weigh s Drain f cs = omega (arith, ap (load weigh s.measure) (all_p
 
 -- ---- one pass over the children
 
--- what becomes of a node is no larger than the shape allows
+-- the nodes after a flush are no larger than the shape allows
 abbrev pub KeepsSized : {V M : Type 0} → (Key × M → ℕ) → Shape → ℕ → Flush V M → Type 0
 KeepsSized {V} {M} weigh s levels f = (low high : Option Key) (t : Tree V M) (p : Messages M) → Lies levels low high t → AllWithin low high p → IsSized weigh s t → AreSized weigh s (nodes (f t p))
 
@@ -154,7 +154,7 @@ module _ {V M : Type 0} (effect : Option V → M → Option V) (weigh : Key × M
   pass-sized low high (c ∷ d ∷ ss) p z = both-sized weigh s (block c) (pass (d ∷ ss)) (block-sized low (Some d.0.pivot) c p.2 z.0) (pass-sized (Some d.0.pivot) high (d ∷ ss) p.3 z.1)
 
 module _ {V M : Type 0} (meaning : Meaning V M) (s : Shape) (leaf_some : 0 < s.leaf) (three : 3 ≤ s.fanout) where
-  -- what becomes of an inner node's children, dealt
+  -- the children of an inner node after a flush, dealt
   node-sized : (mode : Mode) (levels : ℕ) (f : Flush V M) → KeepsSized meaning.weigh s levels f → (low high : Option Key) (ns : Nodes V M) (b p : Messages M) →
       TakesPacket meaning.effect levels f low high ns b p → IsSized meaning.weigh s (inner ns b) → AreSized meaning.weigh s (nodes (grouped s (flushed_in meaning.weigh s mode f (shared (children ns) (with_messages p b)))))
   node-sized mode levels f sizes low high ns b p takes z = grouped-sized meaning.weigh s _ three two (flushed-fits meaning.weigh s mode f cs) sized
@@ -180,7 +180,7 @@ module _ {V M : Type 0} (meaning : Meaning V M) (s : Shape) (leaf_some : 0 < s.l
       node-sized mode levels (flush_at meaning mode (suc levels) s) (flush_at-sized mode levels) low high ns b p (record { keeps = keeps; lies = lies; within = within }) z
 
 module _ {V M : Type 0} (meaning : Meaning V M) (s : Shape) where
-  -- what becomes of a node that is no larger than the shape allows
+  -- a flush of a node that is no larger than the shape allows
   pub flush-sized : (mode : Mode) → 0 < s.leaf → 3 ≤ s.fanout → (levels : ℕ) → KeepsSized meaning.weigh s levels (flush_in meaning mode s)
   flush-sized mode leaf_some three levels low high t p lies within z =
       subst (λ xs. AreSized meaning.weigh s (nodes xs)) (sym (flush-at-levels meaning mode s levels low high t p lies)) (flush_at-sized meaning s leaf_some three mode levels low high t p lies within z)

@@ -1,4 +1,4 @@
--- One pass over the children, of which some are flushed: they lie where they lay, and what one finds among them stays.
+-- One pass over the children, some of which are flushed: they stay in the same places, and so do the values found among them.
 use Rattle.std.proofs.Common.{◌≡◌, ◌≤◌, ℕ, Bool, true, false, cond, List, [], ◌∷◌, ◌++◌, length, map, refl, sym, ap, ◌∙◌, append-nil, arith, le_refl}
 use Rattle.std.proofs.lemmas.List.{length-map}
 use Rattle.std.specs.List.{flat_map, zip}
@@ -23,7 +23,7 @@ use Rattle.bt_node.proofs.lemmas.plans.OnePass.{after_turns-planned, names}
 use Rattle.bt_node.proofs.lemmas.flushes.Children.{ChildLies, ChildrenLie, seen, seen_in, seen-append}
 use Rattle.bt_node.proofs.lemmas.flushes.Groups.{all-pivot_first}
 
--- what becomes of a node lies in its place, and has the values that the node had after the packet
+-- the nodes after a flush lie in the place of the node, and have the values of the node after the packet
 pub record Kept {V M : Type 0} (effect : Option V → M → Option V) (levels : ℕ) (low high : Option Key) (t : Tree V M) (p : Messages M) (xs : Siblings V M) : Type 0 where
   pub lie : SiblingsLie levels low high xs
   pub led : IsLed xs
@@ -36,7 +36,7 @@ none_pending-lie : {V M : Type 0} (levels : ℕ) (low high : Option Key) (xs : S
 none_pending-lie levels low high xs b = side-map (λ x. record { pivot = x.0; tree = x.1; pending = [] }) (λ c. c.pivot) (ChildLies levels) low high xs
     (side-weaken (λ x. x.0) (λ l h x. Lies levels l h x.1) (λ l h x. ChildLies levels l h (record { pivot = x.0; tree = x.1; pending = [] })) (λ l h x lies. (lies, tt, tt)) low high xs b)
 
--- siblings in the place of a child, for which nothing is pending
+-- siblings in the place of a child, without pending messages
 pub in_place : {V M : Type 0} (levels : ℕ) (low high : Option Key) (k : Key) (xs : Siblings V M) → IsLed xs → SiblingsLie levels low high xs →
     Begins (λ c. c.pivot) k (none_pending (pivot_first k xs)) × ChildrenLie levels low high (none_pending (pivot_first k xs))
 in_place levels low high k [] led lie = absurd led
@@ -74,7 +74,7 @@ module _ {V M : Type 0} (effect : Option V → M → Option V) (levels : ℕ) (f
   after_pass-lie low high ss p =
       blocks-lie (λ s. s.0.pivot) (λ l h s. ChildLies levels l h s.0) (λ c. c.pivot) (ChildLies levels) block block-lies low high ss (marked-lie low high ss p)
 
-  -- no child becomes none
+  -- no child disappears
   pub after_pass-long : (low high : Option Key) (ss : List (Child V M × Bool)) → ChildrenLie levels low high (names ss) → length (names ss) ≤ length (pass ss)
   after_pass-long low high ss p = omega (
     arith,
@@ -90,7 +90,7 @@ module _ {V M : Type 0} (effect : Option V → M → Option V) (levels : ℕ) (f
       ∙ ap (λ z. or_else z (seen_in effect q (pass (t ∷ ss)))) (seen-block q low (Some t.0.pivot) s p.2)
       ∙ ap (or_else (seen effect q s.0)) (seen-after_pass q (Some t.0.pivot) high (t ∷ ss) p.3)
 
--- ---- the pass that the marks say
+-- ---- the pass that the marks give
 
 module _ {V M : Type 0} (weigh : Key × M → ℕ) (s : Shape) where
   none_pending-light : (xs : Siblings V M) → IsLight (pending_load weigh s) (none_pending xs)
@@ -104,7 +104,7 @@ module _ {V M : Type 0} (weigh : Key × M → ℕ) (s : Shape) where
   abbrev pub slots : Mode → List (Child V M) → List (Child V M × Bool)
   slots mode cs = zip cs (flush_marks mode s.buffer (loads weigh s cs))
 
-  -- the marked ones are those that are flushed
+  -- the marked children are those that are flushed
   pub flushed-slots : (mode : Mode) (f : Flush V M) (cs : List (Child V M)) → flushed_in weigh s mode f cs ≡ after_pass (flushed f) (slots mode cs)
   flushed-slots Absorb f cs =
       after_turns-planned (pending_load weigh s) (flushed f) (flushed-light f) s.buffer (total (loads weigh s cs)) cs (le_refl (total (loads weigh s cs)))

@@ -34,7 +34,7 @@ module _ {V M : Type 0} (most : ℕ) (f g : Flush V M) (agree : (t : Tree V M) (
   pass-same [] l = refl
   pass-same (s ∷ ss) l = ap (λ z. z ++ pass f ss) (block-same s l.0) ∙ ap (λ z. cond s.1 (flushed g s.0) (s.0 ∷ []) ++ z) (pass-same ss l.1)
 
-  -- what becomes of the children with one flush is what becomes of them with the other
+  -- the children after one flush are the children after the other
   children-same : (weigh : Key × M → ℕ) (s : Shape) (mode : Mode) (cs : List (Child V M)) → AreWithin most cs → flushed_in weigh s mode f cs ≡ flushed_in weigh s mode g cs
   children-same weigh s mode cs l =
       flushed-slots weigh s mode f cs
@@ -42,7 +42,7 @@ module _ {V M : Type 0} (most : ℕ) (f g : Flush V M) (agree : (t : Tree V M) (
       ∙ sym (flushed-slots weigh s mode g cs)
 
 module _ {V M : Type 0} (meaning : Meaning V M) where
-  -- any two bounds that are at least the node's height give the same
+  -- two bounds of at least the node's height give the same
   pub flush-same : (mode : Mode) (s : Shape) (h j : ℕ) (t : Tree V M) (p : Messages M) → height t ≤ h → height t ≤ j → flush_at meaning mode h s t p ≡ flush_at meaning mode j s t p
   flush-same mode s h j (leaf rows) p l m = refl
   flush-same mode s zero j (inner ns b) p l m = absurd (omega (arith, l))
@@ -68,6 +68,6 @@ module _ {V M : Type 0} (meaning : Meaning V M) where
     flush_at-led zero (inner ns b) p = refl
     flush_at-led (suc h) (inner ns b) p = led-map gathered _ (deal-some s.fanout _ fanout_some)
 
-    -- the first sibling stands behind the empty key
+    -- the first sibling has the empty key
     pub flush-led : (t : Tree V M) (p : Messages M) → IsLed (flush_in meaning mode s t p)
     flush-led t p = flush_at-led (height t) t p

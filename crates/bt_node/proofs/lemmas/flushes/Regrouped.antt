@@ -1,4 +1,4 @@
--- Siblings and the messages that are pending for them, dealt under inner nodes: they fit one level higher, and hold what they held after the messages.
+-- Siblings with their pending messages, dealt under inner nodes: they fit one level higher, and hold the same rows after the messages.
 use Rattle.std.proofs.Common.{◌≡◌, ℕ, suc, ◌≤◌, length, sym, ap, subst, ◌∙◌, arith}
 use Rattle.std.specs.FinMap.{find, nat_cmp-IsAntisymmetric, slice_cmp-IsAntisymmetric}
 use Rattle.std.specs.FinMap.Entries.{same_entries}

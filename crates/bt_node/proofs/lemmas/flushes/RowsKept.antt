@@ -1,4 +1,4 @@
--- What a tree holds, as a list of rows: in order, and after a flush what the messages make of it.
+-- The rows of a tree: they are in order, and after a flush they are the rows after the messages.
 use Rattle.std.proofs.Common.{◌≡◌, ℕ, zero, suc, ◌<◌, T, [], ◌∷◌, ◌++◌, refl, sym, ap, subst, ◌∙◌, arith, append-nil}
 use Rattle.std.specs.FinMap.{is_sorted, nat_cmp-IsAntisymmetric, slice_cmp-IsAntisymmetric}
 use Rattle.std.specs.FinMap.Entries.{below_all, same_entries}
@@ -58,7 +58,7 @@ module _ {V M : Type 0} (effect : Option V → M → Option V) where
   siblings-rows levels each low high (x ∷ y ∷ ys) b =
       rows-append low y.0 high (holds effect x.1) _ b.0 b.1 (each low (Some y.0) x.1 b.2) (siblings-rows levels each (Some y.0) high (y ∷ ys) b.3)
 
-  -- what a tree holds is in order and between the tree's limits
+  -- the rows of a tree are in order and between the tree's limits
   pub holds-lie : (levels : ℕ) (low high : Option Key) (t : Tree V M) → Lies levels low high t → RowsLie low high (holds effect t)
   holds-lie zero low high (leaf rs) l = l
   holds-lie zero low high (inner ns b) l = absurd l

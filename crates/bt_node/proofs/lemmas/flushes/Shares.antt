@@ -39,7 +39,7 @@ module _ {V M : Type 0} (effect : Option V → M → Option V) where
             ∙ value-where q test ms o
       ] refl
 
-  -- what lies before a key, and then what is from it on, have the effect of all
+  -- the messages before a key, and then those from it on, have the effect of all
   value-divided : (q k : Key) (ms : Messages M) (o : Option V) → value_after effect q (from k ms) (value_after effect q (before k ms) o) ≡ value_after effect q ms o
   value-divided q k ms o =
       ap (value_after effect q (from k ms)) (value-where q (λ x. is_before x k) ms o)

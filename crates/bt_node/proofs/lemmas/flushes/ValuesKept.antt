@@ -1,4 +1,4 @@
--- What a flush keeps: siblings lie where the node lay, at its height, and one finds what one found after the packet.
+-- What a flush keeps: the siblings lie where the node lay, have its height, and have its values after the packet.
 use Rattle.std.proofs.Common.{◌≡◌, ℕ, zero, suc, ◌<◌, ◌≤◌, List, [], ◌∷◌, length, sym, ap, subst, ◌∙◌, arith}
 use Rattle.std.specs.FinMap.{find}
 use Rattle.std.specs.declared.option.Option.{Option}
@@ -21,7 +21,7 @@ use Rattle.bt_node.proofs.lemmas.flushes.Shares.{length-shared, value-shared, be
 use Rattle.bt_node.proofs.lemmas.flushes.Groups.{some-of, some_length, led-map, led-full, leaves-lie, leaves-led, leaves-hold, grouped-lie, find-grouped}
 use Rattle.bt_node.proofs.lemmas.flushes.Passes.{Kept, Keeps, slots, flushed-slots, names-slots, after_pass-lie, after_pass-long, seen-after_pass}
 
--- what a list of children becomes
+-- the siblings into which a list of children is grouped
 pub record Grouped {V M : Type 0} (effect : Option V → M → Option V) (levels : ℕ) (s : Shape) (low high : Option Key) (cs : List (Child V M)) : Type 0 where
   pub lie : SiblingsLie (suc levels) low high (grouped s cs)
   pub led : IsLed (grouped s cs)
@@ -36,7 +36,7 @@ groups effect levels s low high (c ∷ cs) l n p = record {
   finds = λ q. find-grouped effect levels s q low high c cs l p;
 }
 
--- an inner node and a packet in their places, and a flush that keeps what its children have
+-- a node and a packet in their places, and a flush that keeps the values of its children
 pub record TakesPacket {V M : Type 0} (effect : Option V → M → Option V) (levels : ℕ) (f : Flush V M) (low high : Option Key) (ns : Nodes V M) (b p : Messages M) : Type 0 where
   pub keeps : Keeps effect levels f
   pub lies : Lies (suc levels) low high (inner ns b)
@@ -65,7 +65,7 @@ module _ {V M : Type 0} (meaning : Meaning V M) (s : Shape) (leaf_some : 0 < s.l
   }
 
   module _ (mode : Mode) (levels : ℕ) (f : Flush V M) (low high : Option Key) (ns : Nodes V M) (b p : Messages M) (takes : TakesPacket meaning.effect levels f low high ns b p) where
-    -- what becomes of the children
+    -- the children after the flush
     abbrev pub end : List (Child V M)
     end = flushed_in meaning.weigh s mode f (start ns b p)
 
@@ -75,7 +75,7 @@ module _ {V M : Type 0} (meaning : Meaning V M) (s : Shape) (leaf_some : 0 < s.l
     end-lies : ChildrenLie levels low high end
     end-lies = subst (ChildrenLie levels low high) (sym (flushed-slots meaning.weigh s mode f (start ns b p))) (after_pass-lie meaning.effect levels f takes.keeps low high _ slots-lie)
 
-    -- they are no fewer
+    -- there are no fewer of them
     pub end-long : length (children ns) ≤ length end
     end-long = omega (
       arith,

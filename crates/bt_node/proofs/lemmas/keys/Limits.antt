@@ -1,4 +1,4 @@
--- Lists of which each key is within limits.
+-- Lists whose keys lie within limits.
 use Rattle.std.proofs.Common.{Bool, true, false, cond, List, [], ◌∷◌, ◌++◌}
 use Rattle.std.specs.FinMap.Entries.{where_key}
 use Rattle.std.specs.declared.option.Option.{Option}
@@ -11,12 +11,12 @@ module _ {X : Type 0} where
   within-append low high [] ys u v = v
   within-append low high (x ∷ xs) ys u v = (u.0, within-append low high xs ys u.1 v)
 
-  -- what is below k is below a limit past k
+  -- keys before k are before a limit past k
   pub within-below : (low : Option Key) (k : Key) (high : Option Key) (xs : List (Key × X)) → IsBelow high k → AllWithin low (Some k) xs → AllWithin low high xs
   within-below low k high [] l w = tt
   within-below low k high (x ∷ xs) l w = (record { from = w.0.from; below = below-below high x.0 k w.0.below l }, within-below low k high xs l w.1)
 
-  -- what is from k on is from a limit before k on
+  -- keys from k on are from a limit before k on
   pub within-from : (low : Option Key) (k : Key) (high : Option Key) (xs : List (Key × X)) → IsPast low k → AllWithin (Some k) high xs → AllWithin low high xs
   within-from low k high [] l w = tt
   within-from low k high (x ∷ xs) l w = (record { from = from-past low k x.0 w.0.from l; below = w.0.below }, within-from low k high xs l w.1)

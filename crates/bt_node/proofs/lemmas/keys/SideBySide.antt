@@ -1,4 +1,4 @@
--- Items side by side: cut, joined, and replaced by others.
+-- Items side by side: divided, joined, and replaced by others.
 use Rattle.std.proofs.Common.{◌≡◌, ◌≤◌, List, [], ◌∷◌, ◌++◌, length, map, subst, sym, append-nil, arith, length-append}
 use Rattle.std.specs.List.{flat_map}
 use Rattle.std.specs.declared.option.Option.{Option}
@@ -21,7 +21,7 @@ module _ {X : Type 0} (key : X → Key) (P : Option Key → Option Key → X →
   join low high x [] y ys l h a b = (l, h, a, b)
   join low high x (z ∷ zs) y ys l h a b = (a.0, below-below high (key z) (key y) a.1 h, a.2, join (Some (key z)) high z zs y ys a.1 h a.3 b)
 
-  -- what holds of groups, if it holds of a list that is bounded
+  -- a property of groups, if it holds for a bounded list
   pub side-groups : (Q : Option Key → Option Key → List X → Type 0) → ((low high : Option Key) (g : List X) → NonEmpty g → SideBySide key P low high g → Q low high g) →
       (low high : Option Key) (gs : List (List X)) → AllNonEmpty gs → SideBySide key P low high (joined gs) → SideBySide (first_key key) Q low high gs
   side-groups Q each low high [] n b = tt
@@ -52,21 +52,21 @@ side-mapped f key P low high [] b = tt
 side-mapped f key P low high (x ∷ []) b = b
 side-mapped f key P low high (x ∷ y ∷ ys) b = (b.0, b.1, b.2, side-mapped f key P (Some (key (f y))) high (y ∷ ys) b.3)
 
--- the first one's pivot says nothing
+-- the pivot of the first item says nothing
 pub led-side : {X : Type 0} (P : Option Key → Option Key → X → Type 0) (k : Key) (low high : Option Key) (xs : List (Key × X)) →
     SideBySide (λ x. x.0) (λ l h x. P l h x.1) low high xs → SideBySide (λ x. x.0) (λ l h x. P l h x.1) low high (pivot_first k xs)
 led-side P k low high [] b = b
 led-side P k low high (x ∷ []) b = b
 led-side P k low high (x ∷ y ∷ ys) b = b
 
--- ---- items that others take the place of
+-- ---- items that are replaced by others
 
--- begins with an item of this key
+-- a list that begins with an item of this key
 abbrev pub Begins : {X : Type 0} → (X → Key) → Key → List X → Type 0
 Begins key k [] = ⊥
 Begins key k (x ∷ xs) = key x ≡ k
 
--- each item has a block of others in its place, which begins with the item's key
+-- each item is replaced by a block of others, which begins with the item's key
 module _ {X Y : Type 0} (key : X → Key) (P : Option Key → Option Key → X → Type 0) (name : Y → Key) (Q : Option Key → Option Key → Y → Type 0) (block : X → List Y)
     (each : (low high : Option Key) (x : X) → P low high x → Begins name (key x) (block x) × SideBySide name Q low high (block x)) where
   begins-append : (k : Key) (ys zs : List Y) → Begins name k ys → Begins name k (ys ++ zs)
@@ -89,7 +89,7 @@ module _ {X Y : Type 0} (key : X → Key) (P : Option Key → Option Key → X �
   blocks-begin low high x [] s = begins-append (key x) (block x) [] (each low high x s).0
   blocks-begin low high x (y ∷ ys) s = begins-append (key x) (block x) (flat_map block (y ∷ ys)) (each low (Some (key y)) x s.2).0
 
-  -- the blocks lie side by side where the items do
+  -- the blocks lie side by side if the items do
   pub blocks-lie : (low high : Option Key) (xs : List X) → SideBySide key P low high xs → SideBySide name Q low high (flat_map block xs)
   blocks-lie low high [] s = tt
   blocks-lie low high (x ∷ []) s = subst (SideBySide name Q low high) (sym (append-nil (block x))) (each low high x s).1
@@ -97,7 +97,7 @@ module _ {X Y : Type 0} (key : X → Key) (P : Option Key → Option Key → X �
       let here = each low (Some (key y)) x s.2 in
       meet low (key x) (key y) high (block x) (flat_map block (y ∷ ys)) here.0 (blocks-begin (Some (key y)) high y ys s.3) s.0 s.1 here.1 (blocks-lie (Some (key y)) high (y ∷ ys) s.3)
 
-  -- and are no fewer
+  -- and there are no fewer of them
   pub blocks-long : (low high : Option Key) (xs : List X) → SideBySide key P low high xs → length xs ≤ length (flat_map block xs)
   blocks-long low high [] s = omega arith
   blocks-long low high (x ∷ []) s = omega (arith, begins-long (key x) (block x) (each low high x s).0, length-append (block x) [])

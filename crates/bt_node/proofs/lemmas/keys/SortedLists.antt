@@ -1,4 +1,4 @@
--- Lists sorted by key: picked, cut and joined.
+-- Lists sorted by key: filtered, divided and joined.
 use Rattle.std.proofs.Common.{◌≡◌, Bool, true, false, cond, List, [], ◌∷◌, ◌++◌}
 use Rattle.std.specs.FinMap.Entries.{where_key}
 use Rattle.std.specs.declared.option.Option.{Option}
@@ -42,7 +42,7 @@ module _ {X : Type 0} where
   from-joined k [] ys h i = i
   from-joined k (x ∷ xs) ys h i = (h.0, from-joined k xs ys h.1 i)
 
-  -- what lies between limits that are past a key lies from this key on
+  -- keys between limits that are past a key are from this key on
   from-limit : (a k : Key) (high : Option Key) (xs : List (Key × X)) → is_before a k ≡ true → AllWithin (Some k) high xs → AllFrom a xs
   from-limit a k high [] l w = tt
   from-limit a k high (x ∷ xs) l w = (later_chain a k x.0 (not_after a k l) w.0.from, from-limit a k high xs l w.1)

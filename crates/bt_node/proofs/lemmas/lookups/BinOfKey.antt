@@ -15,7 +15,7 @@ use Rattle.bt_node.proofs.lemmas.rows.Between.{value-inside}
 use Rattle.bt_node.proofs.lemmas.rows.Values.{value-append}
 
 module _ {V M : Type 0} (effect : Option V → M → Option V) where
-  -- messages of keys before a pivot do nothing at or past it
+  -- messages to keys before a pivot do nothing at or past it
   earlier : (k p : Key) (ms : Messages M) (o : Option V) → is_before k p ≡ false → AllBefore p ms → value_after effect k ms o ≡ o
   earlier k p [] o past h = refl
   earlier k p (m ∷ ms) o past h =
@@ -30,13 +30,13 @@ module _ {V M : Type 0} (effect : Option V → M → Option V) where
     | false ↦ λ t. value-bin k ps bs o h.3 ∙ sym (value-append effect k b (concatenation bs) o ∙ ap (value_after effect k (concatenation bs)) (earlier k p b o t h.1))
   ] refl
 
--- what the bin of a key begins with, all bins begin with
+-- a start value in the bin of a key is the start value in all bins
 pub begins-bin : {V D : Type 0} (effect : Option V → Message V D → Option V) (k : Key) (ps : List Key) (bs : List (Messages (Message V D))) (place : ℕ) (left : Messages (Message V D)) (start : Option (ValueSoFar V D)) →
     LieBetween ps bs → place ≡ pivots_up_to k ps → BeginsWith effect k (get_or bs place []) start left → BeginsWith effect k (concatenation bs) start left
 begins-bin effect k ps bs place left start lie is begins old =
     sym (value-bin effect k ps bs old lie) ∙ ap (λ i. value_after effect k (get_or bs i []) old) (sym is) ∙ begins old
 
--- between bounds whose keys belong to one child, its bin has what all bins have
+-- between bounds whose keys belong to one child, its bin has the same messages as all bins
 pub bin-between : {V M : Type 0} (effect : Option V → M → Option V) (low high : Option Key) (ps : List Key) (bs : List (Messages M)) (place : ℕ) (own : Messages M) →
     LieBetween ps bs → own ≡ between low high (get_or bs place []) → (q : Key) → is_between low high q ≡ true → place ≡ pivots_up_to q ps → (old : Option V) →
     value_after effect q own old ≡ value_after effect q (concatenation bs) old

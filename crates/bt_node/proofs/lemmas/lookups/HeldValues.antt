@@ -1,4 +1,4 @@
--- Along one path one finds what the whole map has.
+-- The value along one path is the value in the whole map.
 use Rattle.std.proofs.Common.{◌≡◌, ℕ, zero, suc, cond, refl, sym, ap, ◌∙◌, append-nil, inl, inr}
 use Rattle.std.specs.FinMap.{find}
 use Rattle.std.specs.declared.option.Option.{Option}
@@ -46,12 +46,12 @@ module _ {V M : Type 0} (effect : Option V → M → Option V) (q : Key) where
       ∙ ap (λ rows. value_after effect q b (find key_cmp q rows)) (sym (nodes_hold-children effect ns))
       ∙ sym (find-rows effect q b (nodes_hold effect ns))
 
--- and below an inner node, in the child to which the key belongs
+-- below an inner node, the value is in the child to which the key belongs
 pub value_below-held : {V M : Type 0} (effect : Option V → M → Option V) (levels : ℕ) (low high : Option Key) (ns : Nodes V M) (k : Key) → SiblingsLie levels low high (children ns) →
     value_below effect k ns ≡ find key_cmp k (all_hold effect (children ns))
 value_below-held effect levels low high ns k lie = found-below effect k levels (found effect k levels) low high ns lie
 
--- the value along one path is the one in the map that the tree holds
+-- the value along one path is the one in the map that the tree represents
 pub tree_value-held : {V M : Type 0} (effect : Option V → M → Option V) (levels : ℕ) (low high : Option Key) (t : Tree V M) (k : Key) → Lies levels low high t →
     tree_value effect k t ≡ find key_cmp k (holds effect t)
 tree_value-held effect levels low high t k lies = found effect k levels low high t lies

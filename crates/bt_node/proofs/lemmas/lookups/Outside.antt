@@ -1,4 +1,4 @@
--- A key outside of the limits of a tree is not in it.
+-- A key outside the limits of a tree is not in it.
 use Rattle.std.proofs.Common.{◌≡◌, ℕ, zero, suc, true, false, cond, [], ◌∷◌, ◌++◌, refl, ap, ◌∙◌, append-nil, ◌⊎◌, inl, inr}
 use Rattle.std.specs.Ordering.{eq_by_cmp}
 use Rattle.std.specs.FinMap.{find}
@@ -48,7 +48,7 @@ rows-outside q low high (r ∷ s ∷ rs) o b =
     ∙ rows-outside q (Some s.0) high (s ∷ rs) (outside-rest low s.0 q high b.0 o) b.3
 
 module _ {V M : Type 0} (effect : Option V → M → Option V) where
-  -- messages elsewhere change nothing
+  -- messages to other keys change nothing
   pub value-outside : (q : Key) (low high : Option Key) (ms : Messages M) (o : Option V) → Outside low high q → AllWithin low high ms → value_after effect q ms o ≡ o
   value-outside q None high ms o (inl out) h = absurd out
   value-outside q (Some low) high ms o (inl out) h = value-above effect q low high ms o out h
@@ -68,7 +68,7 @@ module _ {V M : Type 0} (effect : Option V → M → Option V) where
       ∙ ap (λ z. or_else z (find key_cmp q (all_hold effect (y ∷ xs)))) (each q low (Some y.0) x.1 b.2 (outside-first low y.0 q high b.1 o))
       ∙ siblings-outside levels each q (Some y.0) high (y ∷ xs) b.3 (outside-rest low y.0 q high b.0 o)
 
-  -- a tree has nothing outside of its limits
+  -- a tree has nothing outside its limits
   pub tree-outside : (levels : ℕ) (q : Key) (low high : Option Key) (t : Tree V M) → Lies levels low high t → Outside low high q → find key_cmp q (holds effect t) ≡ None
   tree-outside zero q low high (leaf rs) l o = rows-outside q low high rs o l
   tree-outside zero q low high (inner ns b) l o = absurd l
@@ -79,6 +79,6 @@ module _ {V M : Type 0} (effect : Option V → M → Option V) where
       ∙ ap (find key_cmp q) (nodes_hold-children ns)
       ∙ siblings-outside levels (λ q low high t l o. tree-outside levels q low high t l o) q low high (children ns) l.2 o
 
-  -- nor have siblings
+  -- nor do siblings
   pub all-outside : (levels : ℕ) (q : Key) (low high : Option Key) (xs : Siblings V M) → SiblingsLie levels low high xs → Outside low high q → find key_cmp q (all_hold effect xs) ≡ None
   all-outside levels = siblings-outside levels (tree-outside levels)

@@ -1,4 +1,4 @@
--- The loop turn by turn: it ends with no more than its capacity, leaves as it is what is within capacity, and has turns enough.
+-- The loop step by step: it ends within its capacity, changes nothing that is within capacity, and its bound on the steps suffices.
 use Rattle.std.proofs.Common.{◌≡◌, ℕ, zero, suc, ◌+◌, ◌<◌, ◌≤◌, true, false, cond, eqb, List, [], ◌∷◌, map, refl, sym, subst, ◌∙◌, arith, inl, inr, le_refl}
 use Rattle.std.proofs.lemmas.Bool.{le-leb, lt-leb, cond-true, cond-false, eqb-true, eqb-false}
 use Rattle.bt_node.specs.Plans.{total, most, place_of, fullest}
@@ -18,7 +18,7 @@ module _ {X : Type 0} (weight : X → ℕ) (parts : X → List X) (light : (x : 
       later : eqb (weight x) m ≡ false → m ≤ most (map weight xs)
       later t = omega (arith, eqb-false (weight x) m t)
 
-  -- where the weights are over capacity, some are heavier than nothing, and to open the heaviest leaves less
+  -- if the weights are over capacity, some item weighs more than 0, and opening the heaviest leaves less
   opened-less : (capacity : ℕ) (xs : List X) → capacity < total (map weight xs) →
       total (map weight (opened_at weight parts (fullest (map weight xs)) xs)) < total (map weight xs)
   opened-less capacity xs over =
@@ -26,7 +26,7 @@ module _ {X : Type 0} (weight : X → ℕ) (parts : X → List X) (light : (x : 
       let some : 0 < most ns = elim (le_or_lt (most ns) 0) [ inl none ↦ omega (arith, nothing ns (omega arith)) | inr h ↦ h ] in
       omega (arith, total-opened (most ns) xs (omega arith) some (omega arith))
 
-  -- in the end no more than capacity is left
+  -- in the end no more than the capacity is left
   pub after_turns-fits : (capacity turns : ℕ) (xs : List X) → total (map weight xs) ≤ turns → total (map weight (after_turns weight parts capacity turns xs)) ≤ capacity
   after_turns-fits capacity zero xs l = omega (arith, l)
   after_turns-fits capacity (suc turns) xs l = elim (le_or_lt (total (map weight xs)) capacity) [
@@ -36,17 +36,17 @@ module _ {X : Type 0} (weight : X → ℕ) (parts : X → List X) (light : (x : 
         (after_turns-fits capacity turns (opened_at weight parts (fullest (map weight xs)) xs) (omega (arith, opened-less capacity xs over)))
   ]
 
-  -- what is within capacity stays as it is
+  -- a list within capacity stays as it is
   pub after_turns-still : (capacity turns : ℕ) (xs : List X) → total (map weight xs) ≤ capacity → after_turns weight parts capacity turns xs ≡ xs
   after_turns-still capacity zero xs fits = refl
   after_turns-still capacity (suc turns) xs fits = cond-true _ _ _ (le-leb _ capacity fits)
 
-  -- any two bounds on the turns that the weights don't exceed give the same
+  -- two bounds on the steps of at least the total weight give the same
   after_turns-same : (capacity turns more : ℕ) (xs : List X) → total (map weight xs) ≤ turns → total (map weight xs) ≤ more →
       after_turns weight parts capacity turns xs ≡ after_turns weight parts capacity more xs
   after_turns-same capacity turns more xs l m = after_turns-planned weight parts light capacity turns xs l ∙ sym (after_turns-planned weight parts light capacity more xs m)
 
-  -- what is over capacity goes on from the list with the heaviest replaced, as if the loop began there
+  -- over capacity, the loop continues from the list with the heaviest replaced, as if it began there
   pub after_turns-on : (capacity turns : ℕ) (xs : List X) → capacity < total (map weight xs) → total (map weight xs) ≤ turns →
       let ys = opened_at weight parts (fullest (map weight xs)) xs in
       after_turns weight parts capacity turns xs ≡ after_turns weight parts capacity (total (map weight ys)) ys

@@ -1,4 +1,4 @@
--- Marks written one by one at the planned places say of each child whether its place is among them.
+-- The marks written one by one at the planned places show for each child whether its place is among them.
 use Rattle.std.proofs.Common.{◌≡◌, ◌+◌, ◌<◌, ℕ, zero, suc, Bool, true, false, cond, eqb, List, [], ◌∷◌, length, map, set, replicate, refl, sym, ap, ◌∙◌, arith, eq-eqb, ne_eqb}
 use Rattle.std.proofs.lemmas.List.{length-map}
 use Rattle.std.specs.List.{zip}
@@ -35,7 +35,7 @@ names-zip [] marks same = refl
 names-zip (x ∷ xs) [] same = absurd (omega (arith, same))
 names-zip (x ∷ xs) (m ∷ ms) same = ap (λ z. x ∷ z) (names-zip xs ms (omega (arith, same)))
 
--- ---- marks by words
+-- ---- marks by predicates
 
 -- a mark for each place, counted from k
 abbrev marks_by : (ℕ → Bool) → ℕ → List ℕ → List Bool
@@ -50,7 +50,7 @@ no-marks k [] = refl
 no-marks k (n ∷ ns) = ap (λ z. false ∷ z) (no-marks (suc k) ns)
 
 module _ (test : ℕ → Bool) (j : ℕ) where
-  -- marked at the place j too
+  -- also marked at the place j
   abbrev or_there : ℕ → Bool
   or_there i = cond (eqb i j) true (test i)
 
@@ -83,7 +83,7 @@ set_all-there (j ∷ js) test ns =
     either false true c = refl
     either false false c = refl
 
--- the marks of places say whether each place is among them
+-- the marks of places show whether each place is among them
 pub marks-words : (places ns : List ℕ) → marks_of (length ns) places ≡ map (λ p. is_among p.0 places) (placed 0 ns)
 marks-words places ns =
     ap (set_all places) (no-marks 0 ns) ∙ set_all-there places (λ i. false) ns ∙ same-marks _ (λ i. is_among i places) (λ i. only (is_among i places)) 0 ns
@@ -92,7 +92,7 @@ marks-words places ns =
     only true = refl
     only false = refl
 
--- items with marks at some places, beside words
+-- items with marks at some places, as a list by a predicate
 pub marked-words : {X : Type 0} (weight : X → ℕ) (places : List ℕ) (xs : List X) →
     marked_all places (unmarked xs) ≡ zip xs (map (λ p. is_among p.0 places) (placed 0 (map weight xs)))
 marked-words weight places xs =

@@ -1,4 +1,4 @@
--- The loop with a renewed choice is one pass by the plan.
+-- The loop with a repeated choice is one pass by the plan.
 use Rattle.std.proofs.Common.{◌≡◌, ℕ, zero, suc, ◌<◌, ◌≤◌, Bool, true, false, cond, eqb, List, [], ◌∷◌, ◌++◌, set, map, take, drop, refl, sym, ap, ◌∙◌, arith, inl, inr, ne_eqb}
 use Rattle.std.proofs.lemmas.Bool.{le-leb, lt-leb, cond-true, cond-false}
 use Rattle.bt_node.specs.Plans.{total, most, place_of, fullest, planned, renewed}
@@ -20,7 +20,7 @@ names-unmarked [] = refl
 names-unmarked (x ∷ xs) = ap (λ z. x ∷ z) (names-unmarked xs)
 
 module _ {X : Type 0} (weight : X → ℕ) (parts : X → List X) (light : (x : X) → IsLight weight (parts x)) where
-  -- the weight of what still stands
+  -- the weight of an item that is still there
   abbrev left : X × Bool → ℕ
   left s = cond s.1 0 (weight s.0)
 
@@ -49,7 +49,7 @@ module _ {X : Type 0} (weight : X → ℕ) (parts : X → List X) (light : (x : 
   most-after_pass ((x, true) ∷ ss) = omega (arith, most-light (parts x) (after_pass parts ss) (light x), most-after_pass ss)
   most-after_pass ((x, false) ∷ ss) = omega (arith, most-after_pass ss)
 
-  -- to open in the list as it stands is to mark in the list as it stood
+  -- opening an item in the current list is marking it in the original list
   opened-after_pass : (m : ℕ) (ss : List (X × Bool)) → 0 < m → opened_at weight parts (place_of m (map weight (after_pass parts ss))) (after_pass parts ss) ≡ after_pass parts (marked (place_of m (map left ss)) ss)
   opened-after_pass m [] l = refl
   opened-after_pass m ((x, true) ∷ ss) l =
@@ -73,7 +73,7 @@ module _ {X : Type 0} (weight : X → ℕ) (parts : X → List X) (light : (x : 
   abbrev Over : ℕ → List (X × Bool) → Type 0
   Over capacity ss = capacity < total (map left ss)
 
-  -- the next list, where the weights are over capacity
+  -- the next list, if the weights are over capacity
   next : (capacity : ℕ) (ss : List (X × Bool)) → Over capacity ss → opened_at weight parts (fullest (map weight (after_pass parts ss))) (after_pass parts ss) ≡ after_pass parts (marked (fullest (map left ss)) ss)
   next capacity ss over =
       ap (λ m. opened_at weight parts (place_of m (map weight (after_pass parts ss))) (after_pass parts ss)) (most-after_pass ss)
@@ -102,7 +102,7 @@ module _ {X : Type 0} (weight : X → ℕ) (parts : X → List X) (light : (x : 
   left-unmarked [] = refl
   left-unmarked (x ∷ xs) = ap (λ z. weight x ∷ z) (left-unmarked xs)
 
-  -- The loop opens just the planned items, each once.
+  -- The loop opens exactly the planned items, each once.
   pub after_turns-planned : (capacity turns : ℕ) (xs : List X) → total (map weight xs) ≤ turns → after_turns weight parts capacity turns xs ≡ after_pass parts (marked_all (planned (map weight xs) capacity) (unmarked xs))
   after_turns-planned capacity turns xs l =
       ap (after_turns weight parts capacity turns) (sym (after_pass-unmarked xs))
@@ -110,7 +110,7 @@ module _ {X : Type 0} (weight : X → ℕ) (parts : X → List X) (light : (x : 
       ∙ ap (λ ns. after_pass parts (marked_all (renewed capacity turns ns) (unmarked xs))) (left-unmarked xs)
       ∙ ap (λ is. after_pass parts (marked_all is (unmarked xs))) (renewed-planned capacity turns (map weight xs) l)
 
-  -- ---- which are replaced
+  -- ---- the items that are replaced
 
   prefix-light : (m : ℕ) (xs ys : List X) → 0 < m → IsLight weight xs → drop (place_of m (map weight (xs ++ ys))) (xs ++ ys) ≡ drop (place_of m (map weight ys)) ys
   prefix-light m [] ys l h = refl
@@ -149,7 +149,7 @@ module _ {X : Type 0} (weight : X → ℕ) (parts : X → List X) (light : (x : 
         ∙ sym (ap (λ is. items_at is (names ss)) (cond-false _ _ _ (lt-leb (total ns) capacity over)))
   ]
 
-  -- Those that the loop replaces are those at the planned places, in this order.
+  -- The items that the loop replaces are those at the planned places, in this order.
   pub opened_items-planned : (capacity turns : ℕ) (xs : List X) → total (map weight xs) ≤ turns → opened_items weight parts capacity turns xs ≡ items_at (planned (map weight xs) capacity) xs
   opened_items-planned capacity turns xs l =
       ap (opened_items weight parts capacity turns) (sym (after_pass-unmarked xs))

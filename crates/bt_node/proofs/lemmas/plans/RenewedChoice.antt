@@ -1,9 +1,9 @@
--- Taking the fullest again and again takes the prefix of a sorted list.
+-- Taking the fullest repeatedly takes the prefix of a sorted list.
 use Rattle.std.proofs.Common.{◌≡◌, ℕ, zero, suc, ◌+◌, ◌<◌, ◌≤◌, true, false, cond, leb, List, [], ◌∷◌, ◌++◌, set, refl, sym, ap, ◌∙◌, arith, ◌⊎◌, inl, inr, eq-eqb, ne_eqb, subst₂}
 use Rattle.std.proofs.lemmas.Bool.{le-leb, lt-leb, leb-true, leb-false, cond-true, cond-false}
 use Rattle.bt_node.specs.Plans.{total, most, place_of, fullest, placed, total_of, ranked_in, ranked, shortest, planned, renewed}
 
--- those above 0, behind their places
+-- the numbers above 0, with their places
 abbrev pub live : ℕ → List ℕ → List (ℕ × ℕ)
 live k [] = []
 live k (zero ∷ ns) = live (suc k) ns
@@ -25,7 +25,7 @@ total-ranked : (xs : List (ℕ × ℕ)) → total_of (ranked xs) ≡ total_of xs
 total-ranked [] = refl
 total-ranked (x ∷ xs) = omega (arith, total-ranked_in x (ranked xs), total-ranked xs)
 
--- nothing is left of what has no number above 0
+-- nothing is left of a list without a number above 0
 no_live : (k : ℕ) (ns : List ℕ) → most ns ≡ 0 → live k ns ≡ []
 no_live k [] e = refl
 no_live k (zero ∷ ns) e = no_live (suc k) ns (omega (arith, e))
@@ -62,7 +62,7 @@ in_front k n ns l h = elim (le_or_lt (most ns) 0) [
   | inr some ↦ below_head (k, suc n) _ _ _ (h some) l
 ]
 
--- the fullest is the head of the ranking, and the others are ranked behind it
+-- the fullest is the head of the ranking, and the others are ranked after it
 pub head-ranked : (k : ℕ) (ns : List ℕ) → 0 < most ns → Heads k ns (fullest ns) (most ns)
 head-ranked k [] l = absurd (omega arith)
 head-ranked k (zero ∷ ns) l =
@@ -87,7 +87,7 @@ done capacity (x ∷ xs) l = cond-true _ _ _ (le-leb _ capacity l)
 abbrev rest : List ℕ → List ℕ
 rest ns = set ns (fullest ns) 0
 
--- what the fullest has goes
+-- the number of the fullest is gone
 pub total-rest : (ns : List ℕ) → 0 < most ns → most ns + total (rest ns) ≡ total ns
 total-rest ns some =
     let e = ap total_of (head-ranked 0 ns some) in
@@ -107,7 +107,7 @@ renewed-live capacity (suc turns) ns l = elim (le_or_lt (total ns) capacity) [
       ∙ ap (λ p. p ∷ shortest capacity (ranked (live 0 (rest ns)))) (omega arith))
 ]
 
--- ---- places with nothing come last, and are never taken
+-- ---- places with 0 come last, and are never taken
 
 abbrev zeros : ℕ → List ℕ → List (ℕ × ℕ)
 zeros k [] = []
@@ -124,7 +124,7 @@ before_zeros k j n [] = refl
 before_zeros k j n (zero ∷ ns) = cond-true _ _ _ (le-leb 0 n (omega arith))
 before_zeros k j n (suc m ∷ ns) = before_zeros (suc k) j n ns
 
--- a list of which each number is above 0
+-- a list of numbers above 0
 abbrev AllLive : List (ℕ × ℕ) → Type 0
 AllLive [] = Unit {0}
 AllLive (x ∷ xs) = (0 < x.1) × AllLive xs
@@ -141,7 +141,7 @@ live-ranked k [] = tt
 live-ranked k (zero ∷ ns) = live-ranked (suc k) ns
 live-ranked k (suc n ∷ ns) = live-ranked_in (k, suc n) (ranked (live (suc k) ns)) (omega arith) (live-ranked (suc k) ns)
 
--- one with a number goes among those that have one, and one without behind them
+-- a number above 0 is ranked among those above 0, and 0 after them
 ranked_in-live : (j n k : ℕ) (xs : List (ℕ × ℕ)) (ns : List ℕ) → ranked_in (j, suc n) (xs ++ zeros k ns) ≡ ranked_in (j, suc n) xs ++ zeros k ns
 ranked_in-live j n k [] ns = before_zeros k j (suc n) ns
 ranked_in-live j n k (y ∷ ys) ns = elim (leb y.1 (suc n)) as (λ b. cond b ((j, suc n) ∷ y ∷ (ys ++ zeros k ns)) (y ∷ ranked_in (j, suc n) (ys ++ zeros k ns)) ≡ cond b ((j, suc n) ∷ y ∷ ys) (y ∷ ranked_in (j, suc n) ys) ++ zeros k ns) [
@@ -169,7 +169,7 @@ shortest-append capacity (x ∷ xs) ys e =
     ap (λ n. cond (leb n capacity) [] (x.0 ∷ shortest capacity (xs ++ ys))) same
     ∙ ap (λ z. cond (leb (x.1 + total_of xs) capacity) [] (x.0 ∷ z)) (shortest-append capacity xs ys e)
 
--- taking the fullest again and again takes the plan
+-- taking the fullest repeatedly takes the plan
 pub renewed-planned : (capacity turns : ℕ) (ns : List ℕ) → total ns ≤ turns → renewed capacity turns ns ≡ planned ns capacity
 renewed-planned capacity turns ns l =
     renewed-live capacity turns ns l

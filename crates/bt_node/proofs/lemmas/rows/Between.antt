@@ -1,4 +1,4 @@
--- Rows between two bounds: those after messages come of the messages and the rows between the bounds.
+-- Rows between two bounds: the rows after messages there depend only on the messages and the rows between the bounds.
 use Rattle.std.proofs.Common.{◌≡◌, Bool, Bor, true, false, cond, not, ◌&&◌, T, [], ◌∷◌, ◌++◌, refl, sym, ap, subst, ◌∙◌, true≢false}
 use Rattle.std.specs.Ordering.{eq_by_cmp}
 use Rattle.std.specs.Option.{option_copied}
@@ -19,7 +19,7 @@ outside_upper true = refl
 outside_upper false = refl
 
 module _ {V : Type 0} where
-  -- with no bounds these are all
+  -- without bounds, these are all rows
   pub between-all : (rs : Rows V) → between None None rs ≡ rs
   between-all [] = refl
   between-all (r ∷ rs) = ap (λ zs. r ∷ zs) (between-all rs)
@@ -30,7 +30,7 @@ module _ {V : Type 0} where
   dropped : (from to : Option Key) (r : Key × V) (rs : Rows V) → is_between from to r.0 ≡ false → between from to (r ∷ rs) ≡ between from to rs
   dropped from to r rs e = ap (λ b. cond b (r ∷ between from to rs) (between from to rs)) e
 
-  -- none are past the upper bound
+  -- no row is past the upper bound
   pub none-over : (t k : Key) (from high : Option Key) (rs : Rows V) → is_before k t ≡ false → AllWithin (Some k) high rs → between from (Some t) rs ≡ []
   none-over t k from high [] e w = refl
   none-over t k from high (r ∷ rs) e w =
@@ -56,7 +56,7 @@ module _ {V : Type 0} where
   part-sorted from to rs part h is = ap (is_sorted key_cmp) is ∙ true_t _ (between-sorted from to rs (subst T (sym h) tt))
 
 module _ {V M : Type 0} (effect : Option V → M → Option V) (from to : Option Key) where
-  -- at a key between the bounds the messages between them do what all do
+  -- at a key between the bounds, the messages between them do what all do
   pub value-inside : (q : Key) (ms : Messages M) (o : Option V) → is_between from to q ≡ true → value_after effect q (between from to ms) o ≡ value_after effect q ms o
   value-inside q [] o e = refl
   value-inside q (m ∷ ms) o e = elim (is_between from to m.0) as (λ b. is_between from to m.0 ≡ b →
@@ -69,7 +69,7 @@ module _ {V M : Type 0} (effect : Option V → M → Option V) (from to : Option
       elsewhere t true is = absurd (true≢false (sym e ∙ ap (is_between from to) (same_key q m.0 is) ∙ t))
       elsewhere t false is = is
 
-  -- at one outside they do nothing
+  -- at a key outside the bounds, they do nothing
   value-beyond : (q : Key) (ms : Messages M) (o : Option V) → is_between from to q ≡ false → value_after effect q (between from to ms) o ≡ o
   value-beyond q [] o e = refl
   value-beyond q (m ∷ ms) o e = elim (is_between from to m.0) as (λ b. is_between from to m.0 ≡ b → value_after effect q (cond b (m ∷ between from to ms) (between from to ms)) o ≡ o) [
@@ -89,7 +89,7 @@ module _ {V M : Type 0} (effect : Option V → M → Option V) (from to : Option
         | false ↦ λ e. value-beyond q ms None e
       ] refl
 
-  -- what the messages between the bounds make of the rows between them
+  -- the rows between the bounds after the messages between them
   pub rows-between : (ms : Messages M) (rs : Rows V) → T (is_sorted key_cmp rs) → rows_after effect (between from to ms) (between from to rs) ≡ between from to (rows_after effect ms rs)
   rows-between ms rs s =
       same_entries key_cmp total_keys (slice_cmp-IsAntisymmetric nat_cmp-IsAntisymmetric) _ _
@@ -120,7 +120,7 @@ pub between_below : (low high : Option Key) (q : Key) → is_between low high q 
 between_below low high q e = and_second (is_before_lower low q) (is_before_upper high q) e
 
 module _ {X : Type 0} where
-  -- what is between is a part
+  -- the rows between bounds are a part
   pub between-within : (low high : Option Key) (xs : Rows X) → AllWithin low high (between low high xs)
   between-within low high [] = tt
   between-within low high (x ∷ xs) = elim (is_between low high x.0) as (λ b. is_between low high x.0 ≡ b → AllWithin low high (cond b (x ∷ between low high xs) (between low high xs))) [
@@ -128,14 +128,14 @@ module _ {X : Type 0} where
     | false ↦ λ e. between-within low high xs
   ] refl
 
-  -- all that lies between is
+  -- rows that all lie between the bounds are all of them
   pub all-between : (low high : Option Key) (xs : Rows X) → AllWithin low high xs → between low high xs ≡ xs
   all-between low high [] within = refl
   all-between low high (x ∷ xs) within =
       ap (λ b. cond (not b && is_before_upper high x.0) (x ∷ between low high xs) (between low high xs)) within.0.from
       ∙ ap (λ b. cond b (x ∷ between low high xs) (between low high xs)) within.0.below ∙ ap (λ zs. x ∷ zs) (all-between low high xs within.1)
 
-  -- what lies below a further bound, of what lies within others
+  -- the rows below another bound, of rows that lie within the first ones
   pub cut-within : (low to high : Option Key) (xs : Rows X) → AllWithin low to xs → AllWithin low high (between None high xs)
   cut-within low to high [] within = tt
   cut-within low to high (x ∷ xs) within = elim (is_before_upper high x.0) as (λ b. is_before_upper high x.0 ≡ b → AllWithin low high (cond b (x ∷ between None high xs) (between None high xs))) [
@@ -143,7 +143,7 @@ module _ {X : Type 0} where
     | false ↦ λ e. cut-within low to high xs within.1
   ] refl
 
-  -- and what does not
+  -- and the others
   pub rest-within : (low to : Option Key) (p : Key) (xs : Rows X) → AllWithin low to xs → AllWithin (Some p) to (from_key p xs)
   rest-within low to p [] within = tt
   rest-within low to p (x ∷ xs) within = elim (is_before x.0 p) as (λ b. is_before x.0 p ≡ b → AllWithin (Some p) to (cond (not b) (x ∷ from_key p xs) (from_key p xs))) [

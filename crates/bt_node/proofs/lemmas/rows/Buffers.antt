@@ -1,4 +1,4 @@
--- A buffer takes a packet: it stays in order and within its limits, and its messages have their effect before the packet's.
+-- A buffer takes a packet: it stays in order and within its limits, and its messages have their effect before those of the packet.
 use Rattle.std.proofs.Common.{◌≡◌, true, false, cond, [], ◌∷◌, refl, sym, ap, ◌∙◌}
 use Rattle.std.specs.Ordering.{eq_by_cmp}
 use Rattle.std.specs.declared.option.Option.{Option}
@@ -37,7 +37,7 @@ module _ {V M : Type 0} (effect : Option V → M → Option V) where
     | false ↦ λ t. value-with_message q m es _ r.1
   ] refl
 
-  -- the buffer's messages have their effect, and then the packet's
+  -- the messages of the buffer have their effect, and then those of the packet
   pub value-with_messages : (q : Key) (p b : Messages M) (o : Option V) → IsSorted b → value_after effect q (with_messages p b) o ≡ value_after effect q p (value_after effect q b o)
   value-with_messages q [] b o r = refl
   value-with_messages q (m ∷ ms) b o r = value-with_messages q ms (with_message m b) o (sorted-with_messages (m ∷ []) b r) ∙ ap (value_after effect q ms) (value-with_message q m b o r)

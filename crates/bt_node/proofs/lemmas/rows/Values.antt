@@ -1,4 +1,4 @@
--- The value that one finds at a key: after messages, and in rows that are joined.
+-- The value at a key: after messages, and in rows that are joined.
 use Rattle.std.proofs.Common.{◌≡◌, Bool, true, false, cond, not, [], ◌∷◌, ◌++◌, refl, sym, ap, ◌∙◌}
 use Rattle.std.specs.Ordering.{eq_by_cmp, is_eq}
 use Rattle.std.specs.FinMap.{find}
@@ -54,7 +54,7 @@ module _ {V M : Type 0} (effect : Option V → M → Option V) where
   value-append q [] ns o = refl
   value-append q (m ∷ ms) ns o = value-append q ms ns _
 
-  -- messages elsewhere change nothing
+  -- messages to other keys change nothing
   pub value-above : (q k : Key) (high : Option Key) (ms : Messages M) (o : Option V) → is_before q k ≡ true → AllWithin (Some k) high ms → value_after effect q ms o ≡ o
   value-above q k high [] o l h = refl
   value-above q k high (m ∷ ms) o l h =

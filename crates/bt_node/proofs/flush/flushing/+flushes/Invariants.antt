@@ -10,7 +10,7 @@ use Rattle.bt_node.proofs.lemmas.code.FlushLoop.{UnderWay}
 use Rattle.bt_node.proofs.lemmas.code.OpeningStep.{highest, pass}
 use Rattle.bt_node.proofs.flush.flushing.+flushes.Given as goal
 
--- the children so far, and then what the pass makes of those that are left with what is left of the stream
+-- the children so far, and then the result of the pass for those that are left with what is left of the stream
 abbrev pub invariant-flush_marked-loop-pivot : goal.invariant-flush_marked-loop-pivot
 invariant-flush_marked-loop-pivot g l =
     let meaning = meaning_of g.V.Merge.terms in

@@ -2,6 +2,6 @@ use Rattle.std.proofs.Common.{◌≡◌, ◌+◌, drop}
 use Rattle.bt_node.specs.Plans.{total}
 use Rattle.bt_node.proofs.flush.planning.are_within.Given as goal
 
--- what is left of the capacity is for the loads from here on
+-- the rest of the capacity is for the loads from here on
 abbrev pub invariant-loop-load : goal.invariant-loop-load
 invariant-loop-load l = l.left + total l.loads ≡ l.fn.capacity + total (drop l.load-index l.loads)

@@ -3,7 +3,7 @@ use Rattle.bt_keycode.specs.Keys.{IsSorted}
 use Rattle.bt_node.specs.Messages.{from}
 use Rattle.bt_node.proofs.form.search.part_from.Given as goal
 
--- none from the key on is passed
+-- no entry at or past the key is skipped
 abbrev pub invariant-loop-step : goal.invariant-loop-step
 invariant-loop-step g l = record {
   left : from l.key l.left ≡ from l.key l.entries;

@@ -5,7 +5,7 @@ use Rattle.bt_node.specs.Messages.{value_after}
 use Rattle.bt_node.specs.inside.ValuesSoFar.{option_of}
 use Rattle.bt_node.proofs.read.lent_messages.after_lent.Given as goal
 
--- what the messages that are left make of the value so far
+-- the value so far after the messages that are left
 abbrev pub invariant-loop-entry : goal.invariant-loop-entry
 invariant-loop-entry g l =
     let effect = effect_of g.V.Merge.terms.merged in

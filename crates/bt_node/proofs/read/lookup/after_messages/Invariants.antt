@@ -5,7 +5,7 @@ use Rattle.bt_node.specs.Messages.{value_after}
 use Rattle.bt_node.specs.inside.ValuesSoFar.{option_of}
 use Rattle.bt_node.proofs.read.lookup.after_messages.Given as goal
 
--- what the messages that are left make of the value so far
+-- the value so far after the messages that are left
 abbrev pub invariant-loop-at : goal.invariant-loop-at
 invariant-loop-at g l = record {
   value : value_after (effect_of g.V.Merge.terms.merged) l.key l.fn.messages (option_of l.fn.old) ≡ value_after (effect_of g.V.Merge.terms.merged) l.key l.at-iterator (option_of l.value);

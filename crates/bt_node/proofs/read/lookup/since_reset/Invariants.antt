@@ -5,7 +5,7 @@ use Rattle.bt_node.specs.inside.ValuesSoFar.{BeginsWith}
 use Rattle.bt_node.proofs.lemmas.code.LookupPath.{LeadsTo}
 use Rattle.bt_node.proofs.read.lookup.since_reset.Given as goal
 
--- the messages after the last reset so far, and those that are still to be looked at
+-- the messages after the last reset so far, and those that are still to be read
 abbrev pub invariant-loop-at : goal.invariant-loop-at
 invariant-loop-at g l = record {
   next : (goal.iterator-loop-at g).can_next l.rest;

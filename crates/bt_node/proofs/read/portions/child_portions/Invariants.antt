@@ -5,7 +5,7 @@ use Rattle.bt_node.specs.Walks.{is_leaf}
 use Rattle.bt_node.specs.inside.Openings.{children_left}
 use Rattle.bt_node.proofs.read.portions.child_portions.Given as goal
 
--- the children so far, and then what is left of the portion
+-- the children so far, and then the rest of the portion
 abbrev pub invariant-loop-parts : goal.invariant-loop-parts
 invariant-loop-parts g l = record {
   divided : Divide (effect_of g.V.Merge.terms.merged) (l.fn.portion ∷ []) (l.parts.items ++ l.rest ∷ []);

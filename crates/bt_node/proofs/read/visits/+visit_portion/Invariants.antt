@@ -7,7 +7,7 @@ use Rattle.bt_node.specs.inside.Limits.{limited}
 use Rattle.bt_node.specs.inside.Openings.{children_left}
 use Rattle.bt_node.proofs.read.visits.+visit_portion.Given as goal
 
--- what is still to be shown, which begins with what is left of the portion
+-- what is still to be shown, which begins with the rest of the portion
 abbrev pub invariant-loop-alloc : goal.invariant-loop-alloc
 invariant-loop-alloc g l =
     let effect = effect_of g.V.Merge.terms.merged in

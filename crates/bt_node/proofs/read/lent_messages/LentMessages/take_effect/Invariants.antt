@@ -6,7 +6,7 @@ use Rattle.bt_node.specs.Messages.{value_after}
 use Rattle.bt_node.specs.inside.ValuesSoFar.{option_of}
 use Rattle.bt_node.proofs.read.lent_messages.LentMessages.take_effect.Given as goal
 
--- what the messages that are left make of the value so far
+-- the value so far after the messages that are left
 abbrev pub invariant-loop-message : goal.invariant-loop-message
 invariant-loop-message g l = record {
   value : value_after (effect_of g.V.Merge.terms.merged) l.key l.fn.self (option_of l.fn.old) ≡ value_after (effect_of g.V.Merge.terms.merged) l.key l.self (option_of l.value);
