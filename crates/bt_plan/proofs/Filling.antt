@@ -1,4 +1,4 @@
--- Cut and filled is what becomes of the node and its packet.
+-- A tree that is cut and filled gives the same as a flush of the packet.
 use Rattle.std.proofs.Common.{◌≡◌, ◌≤◌, ℕ, zero, suc, ◌<◌, Bool, true, false, cond, List, [], ◌∷◌, ◌++◌, length, map, refl, sym, ap, subst, ◌∙◌, true≢false}
 use Rattle.std.proofs.lemmas.Bool.{cond_both, leb-true}
 use Rattle.std.specs.declared.option.Option.{Option}
@@ -23,11 +23,11 @@ abbrev pub opened_children : {V M : Type 0} → (Key × M → ℕ) → ℕ → M
 opened_children weigh depth mode shape place i ss =
     map (λ s. (s.1.0.pivot, cond s.1.1 (cut_out weigh depth mode shape (child_place place s.0) s.1.0.tree s.1.0.pending) (whole s.1.0.tree))) (with_numbers i ss)
 
--- the node that they are of
+-- the node with these children
 abbrev pub opened_node : {V M : Type 0} → (Key × M → ℕ) → ℕ → Mode → Shape → Place → List (Child V M × Bool) → Holed V M (Job V M)
 opened_node weigh depth mode shape place ss = opened (holed_nodes (opened_children weigh depth mode shape place 0 ss)) (left_pending ss)
 
--- where a node has room for all its messages, they are within its capacity
+-- if a node has room for all its messages, they are within its capacity
 pub room-within : (mode : Mode) (s : Shape) (n : ℕ) → has_room mode s n ≡ true → n ≤ s.buffer
 room-within Absorb s n room = leb-true n s.buffer room
 room-within Drain s n room = absurd (true≢false (sym room))
@@ -39,13 +39,13 @@ module _ {V M : Type 0} where
   node-stays weigh Absorb s ns b room led sorted some few f = still-here weigh s ns b led sorted some few (room-within Absorb s (load weigh s.measure b) room) f
   node-stays weigh Drain s ns b room led sorted some few f = absurd (true≢false (sym room))
 
-  -- children beside their marks, in their places and no larger than the shape allows
+  -- children with their marks, in their places and no larger than the shape allows
   pub record AreSlots (weigh : Key × M → ℕ) (s : Shape) (levels : ℕ) (low high : Option Key) (ss : List (Child V M × Bool)) : Type 0 where
     pub lie : ChildrenLie levels low high (names ss)
     pub sized : ChildrenSized weigh s (names ss)
 
 module _ {V M : Type 0} (meaning : Meaning V M) (s : Shape) (leaf_some : 0 < s.leaf) (fanout_some : 0 < s.fanout) (mode : Mode) where
-  -- those of a node that takes a packet
+  -- the children of a node that takes a packet
   pub slots-are : (levels : ℕ) (low high : Option Key) (ns : Nodes V M) (b p : Messages M) → Lies (suc levels) low high (inner ns b) → IsSized meaning.weigh s (inner ns b) → AllWithin low high p →
       AreSlots meaning.weigh s levels low high (slots meaning.weigh s mode (shared (children ns) (with_messages p b)))
   slots-are levels low high ns b p lies sized within =
@@ -60,7 +60,7 @@ module _ {V M : Type 0} (meaning : Meaning V M) (s : Shape) (leaf_some : 0 < s.l
   abbrev f : Flush V M
   f = flush_in meaning mode s
 
-  -- what the pass makes of children in their places can be divided again
+  -- the children in their places after the pass can be divided again
   pass-divides : (levels : ℕ) (low high : Option Key) (ss : List (Child V M × Bool)) → ChildrenLie levels low high (names ss) → shared (stripped (pass f ss)) (left_pending ss) ≡ pass f ss
   pass-divides levels low high ss lie =
       let keeps : Keeps meaning.effect levels f = λ low high t p lies within. flush-keeps meaning mode s leaf_some fanout_some levels low high t p lies within in

@@ -1,4 +1,4 @@
--- A tree that is cut fits: each job in its hole, and what stays in its place.
+-- A tree that is cut fits: each job in its hole, and everything that stays in its place.
 use Rattle.std.proofs.Common.{◌≡◌, ◌≤◌, ℕ, zero, suc, ◌<◌, Bool, true, false, cond, List, [], ◌∷◌, ◌++◌, length, map, refl, sym, ap, subst, ◌∙◌, arith}
 use Rattle.std.proofs.lemmas.Bool.{cond_both}
 use Rattle.std.proofs.lemmas.List.{length-map}
@@ -22,17 +22,17 @@ use Rattle.bt_plan.specs.Laws.{JobFits}
 use Rattle.bt_plan.proofs.Filling.{AreSlots, opened_children, opened_node, room-within, slots-are}
 use Rattle.bt_plan.proofs.Passes.{pending-pass}
 
--- ---- what is left in the bins
+-- ---- the messages left in the bins
 
 module _ {V M : Type 0} where
-  -- it is within capacity
+  -- they are within capacity
   left-within : (weigh : Key × M → ℕ) (s : Shape) (mode : Mode) (cs : List (Child V M)) → load weigh s.measure (left_pending (slots weigh s mode cs)) ≤ s.buffer
   left-within weigh s mode cs =
       let f : Flush V M = λ t p. [] in
       let room = load weigh s.measure in
       omega (arith, flushed-fits weigh s mode f cs, ap (λ ds. room (all_pending ds)) (flushed-slots weigh s mode f cs), ap room (pending-pass f (slots weigh s mode cs)))
 
-  -- a child with what is left in its bin
+  -- a child with the messages left in its bin
   abbrev kept : Child V M × Bool → Child V M
   kept s = record { pivot = s.0.pivot; tree = s.0.tree; pending = cond s.1 [] s.0.pending }
 
@@ -95,7 +95,7 @@ module _ {V M : Type 0} (meaning : Meaning V M) (s : Shape) (leaf_some : 0 < s.l
   pivots-opened depth place i [] = refl
   pivots-opened depth place i (c ∷ ss) = ap (λ ks. c.0.pivot ∷ ks) (pivots-opened depth place (suc i) ss)
 
-  -- what is left is divided again into the bins
+  -- the messages that are left are divided again into the bins
   shared-left : (depth levels : ℕ) (place : Place) (low high : Option Key) (ss : List (Child V M × Bool)) → ChildrenLie levels low high (names ss) →
       shared_below (below depth place 0 ss) (left_pending ss) ≡ with_bins (below depth place 0 ss) (bins ss)
   shared-left depth levels place low high [] lie = refl

@@ -1,4 +1,4 @@
--- Pieces by places: what becomes of each job stands at its place, and fills its hole.
+-- Pieces by places: the result of each job is at its place, and fills its hole.
 use Rattle.std.proofs.Common.{◌≡◌, T, true, false, List, [], ◌∷◌, ◌++◌, refl, ap, ◌∙◌}
 use Rattle.std.proofs.lemmas.Bool.{cond-false, cond-true}
 use Rattle.std.proofs.lemmas.List.Elements.{All-from_recursion, recursion_from_All}
@@ -20,7 +20,7 @@ use Rattle.bt_plan.specs.Cuts.{Job, hole_of, outcome, outcomes}
 use Rattle.bt_plan.proofs.Places.{Rise, by_place}
 use Rattle.bt_plan.proofs.offered.Each.{each-first, each-rest}
 
--- ---- filling by what the holes tell
+-- ---- filling by what the holes say
 
 module _ {V M H G : Type 0} (s : Shape) (answer : H → G) (piece : G → Siblings V M) (wanted : H → Siblings V M) where
   mutual
@@ -36,7 +36,7 @@ module _ {V M H G : Type 0} (s : Shape) (answer : H → G) (piece : G → Siblin
         ∙ ap (λ xs. pivot_first k (filled_with s wanted h) ++ xs) (below-as hs (each-rest _ (holes h) (holes_below hs) e))
 
 module _ {V M : Type 0} (meaning : Meaning V M) (s : Shape) where
-  -- the pieces have at this job's place what becomes of it
+  -- the pieces have the result of this job at its place
   abbrev Stands : Pieces V M → Job V M → Type 0
   Stands pieces job = find node_place_cmp job.place pieces ≡ Some (outcome meaning s job)
 
@@ -44,7 +44,7 @@ module _ {V M : Type 0} (meaning : Meaning V M) (s : Shape) where
   each-piece pieces [] e = tt
   each-piece pieces (job ∷ jobs) e = (ap (λ o. unwrap_or o []) e.0, each-piece pieces jobs e.1)
 
-  -- pieces that have at each job's place what becomes of it fill the holes with it
+  -- pieces that have the result of each job at its place fill the holes with it
   pub filled-standing : (pieces : Pieces V M) (h : Holed V M (Job V M)) → All (Stands pieces) (holes h) →
       filled_with s (piece_at pieces) (with_holes hole_of h) ≡ filled_with s (outcome meaning s) h
   filled-standing pieces h all =
@@ -68,6 +68,6 @@ module _ {V M : Type 0} (meaning : Meaning V M) (s : Shape) where
     later job (outcomes meaning s jobs) jobs (t_first _ _ r) (each-stands jobs (t_second _ _ r)),
   )
 
-  -- what becomes of jobs at rising places stands at these
+  -- the results of jobs at rising places are at these places
   pub all-stand : (jobs : List (Job V M)) → Rise jobs → All (Stands (outcomes meaning s jobs)) jobs
   all-stand jobs r = All-from_recursion _ jobs (each-stands jobs r)

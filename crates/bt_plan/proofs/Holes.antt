@@ -1,4 +1,4 @@
--- A tree in pieces whose holes tell something else fits, where what each hole tells now does.
+-- A tree in pieces with something else in its holes fits, if what is in each hole now does.
 use Rattle.std.proofs.Common.{◌≡◌, ◌≤◌, ℕ, zero, suc, List, [], ◌∷◌, drop, length, refl, ap, subst, sym, arith}
 use Rattle.std.specs.List.{AllByRecursion as Each}
 use Rattle.std.specs.declared.option.Option.{Option}
@@ -11,11 +11,11 @@ use Rattle.bt_node.specs.Trees.{Shape}
 use Rattle.bt_plan.specs.Pieces.{Holed, HoledChild, HoledFits, HoledNodes, IsSent, child, childless, hole, holes, holes_below, opened, pivots_below, whole, with_bins, with_holes, with_holes_below}
 use Rattle.bt_plan.proofs.offered.Each.{each-append, each-first, each-rest}
 
--- what is asked of a hole gives what is wanted of what it tells now
+-- what is asked of a hole implies what is wanted of its new content
 abbrev pub Turns : {H G : Type 0} → (H → G) → (ℕ → Option Key → Option Key → H → Type 0) → (ℕ → Option Key → Option Key → G → Type 0) → H → Type 0
 Turns answer Asked Wanted h = (levels : ℕ) (low high : Option Key) → Asked levels low high h → Wanted levels low high (answer h)
 
--- a tree in pieces with so many levels fits with what its holes tell now
+-- a tree in pieces with this many levels fits with the new content of its holes
 abbrev Tells : (V M : Type 0) {H G : Type 0} → (Key × M → ℕ) → Shape → (H → G) → (ℕ → Option Key → Option Key → H → Type 0) → (ℕ → Option Key → Option Key → G → Type 0) → ℕ → Type 0
 Tells V M {H} weigh shape answer Asked Wanted levels = (low high : Option Key) (h : Holed V M H) → Each (Turns answer Asked Wanted) (holes h) → HoledFits weigh Asked shape levels low high h →
     HoledFits weigh Wanted shape levels low high (with_holes answer h)
@@ -72,7 +72,7 @@ pub bins-long : {V M H : Type 0} (hs : HoledNodes V M H) (buffer : Messages M) �
 bins-long childless buffer two sorted = absurd (omega (arith, two))
 bins-long (child k h hs) buffer two sorted = omega (arith, lie_length (pivots_below hs) (parts (pivots_below hs) buffer) (parts_lie (pivots_below hs) buffer sorted))
 
--- what is asked of a hole, somewhere
+-- what is asked of a hole, at some height and limits
 abbrev pub Somewhere : {H : Type 0} → (ℕ → Option Key → Option Key → H → Type 0) → H → Type 0
 Somewhere Asked h = (levels : ℕ) × (low : Option Key) × (high : Option Key) × Asked levels low high h
 
@@ -93,7 +93,7 @@ module _ {V M H : Type 0} (weigh : Key × M → ℕ) (shape : Shape) (Asked : �
       each-append (Somewhere Asked) (holes h) (holes_below (child j i hs)) (asked low (Some j) h s.2.0)
       (below-asked levels asked (Some j) high (child j i hs) (c ∷ bs) (omega (arith, e)) s.3)
 
-  -- in a tree in pieces that fits, what is asked holds of each hole somewhere
+  -- in a tree in pieces that fits, each hole satisfies what is asked, at some height and limits
   pub each-asked : (levels : ℕ) (low high : Option Key) (h : Holed V M H) → HoledFits weigh Asked shape levels low high h → Each (Somewhere Asked) (holes h)
   each-asked levels low high (whole t) f = tt
   each-asked levels low high (hole h) f = ((levels, low, high, f), tt)

@@ -32,7 +32,7 @@ use Rattle.bt_plan.specs.Pieces.{Holed, Place, child, hole, holed_nodes, holes, 
 use Rattle.bt_plan.specs.inside.Cutting.{AreSizedNodes, cut_each, kept_bins}
 use Rattle.bt_plan.proofs.Filling.{opened_children, opened_node}
 
--- ---- children behind their pivots
+-- ---- children with their pivots
 
 module _ {V M H : Type 0} where
   with_holes-zip : {G : Type 0} (f : H → G) (ks : List Key) (hs : List (Holed V M H)) →
@@ -66,7 +66,7 @@ module _ {M : Type 0} where
   kept_lie (k ∷ ks) (b ∷ bs) (true ∷ ms) e h = (tt, tt, from-kept k bs ms h.2, kept_lie ks bs ms (omega (arith, e)) h.3)
   kept_lie (k ∷ ks) (b ∷ bs) (false ∷ ms) e h = (h.0, h.1, from-kept k bs ms h.2, kept_lie ks bs ms (omega (arith, e)) h.3)
 
--- ---- siblings beside bins and marks
+-- ---- siblings with their bins and marks
 
 module _ {V M : Type 0} where
   siblings_long : (xs : Siblings V M) → IsLed xs → length xs ≡ length (pivots_of xs) + 1
@@ -116,7 +116,7 @@ module _ {V M : Type 0} where
 
 -- ---- a node that is taken apart
 
--- where nothing is pending for a node, its messages are those that come
+-- if nothing is pending for a node, its messages are the incoming ones
 pub only-come : {M : Type 0} (n : ℕ) (ms pending : Messages M) (empty : Bool) → empty ≡ (length pending == 0) → empty ≡ true → IsSorted ms → take n ms ≡ with_messages (take n ms) pending
 only-come n ms pending empty told is sorted =
     sym (ap (with_messages (take n ms)) (nothing_pending pending empty told is) ∙ alone (take n ms) (sorted_take n ms sorted))
@@ -136,7 +136,8 @@ module _ {V M : Type 0} where
       let deep : suc (depth - 1) ≡ depth = omega (arith, some) in
       (λ i. cut_out weigh (deep i) mode s place (sym here i) (all i))
 
--- An inner node that is opened: its nodes, the pivots between them and its bins, what is left of the stream whose first messages come to it, its shares of them, and its marks.
+-- An inner node that is opened: its nodes, the pivots between them and its bins, what is left of the stream whose first messages enter it, its shares of
+-- them, and its marks.
 pub record IsOpen {V M : Type 0} (weigh : Key × M → ℕ) (mode : Mode) (s : Shape) (xs : Siblings V M) (bins : List (Messages M)) (stream : Messages M) (count : ℕ) (rest : Messages M) (ts : List (Tree V M))
     (ks : List Key) (bs : List (Messages M)) (ss : List Share) (ms : List Bool) : Type 0 where
   pub led : IsLed xs
@@ -152,7 +153,7 @@ pub record IsOpen {V M : Type 0} (weigh : Key × M → ℕ) (mode : Mode) (s : S
   pub pivots : ks ≡ pivots_of xs
   pub buffers : bs ≡ bins
 
--- so it is where the code opens it and takes its children apart
+-- so it is when the code opens it and takes its children apart
 module _ {V D : Type 0} {weigh : Key × Message V D → ℕ} (mode : Mode) {s : Shape} {xs : Siblings V (Message V D)} {bins : List (Messages (Message V D))} (stream : Messages (Message V D)) (count : ℕ)
     {rest : Messages (Message V D)} {step : Step V D} {node : code.Opened V D} {ts : List (Tree V (Message V D))} {ks : List Key} {bs : List (Messages (Message V D))} {ss : List Share} {ms : List Bool} where
   pub is_open : step ≡ Opens node → IsStep weigh mode s xs bins stream count rest step → LieBetween (pivots_of xs) bins → IsSized weigh s (inner (nodes xs) (concatenation bins)) →
@@ -211,7 +212,7 @@ module _ {V M : Type 0} {weigh : Key × M → ℕ} {mode : Mode} {s : Shape} {xs
       ap length opening.marks ∙ length-flush_marks mode s.buffer (loads weigh s cs) ∙ length-map cs (pending_load weigh s)
       ∙ length-shared xs (with_messages packet (concatenation bins)) ∙ sym nodes_long
 
-  -- its bins, once the shares have come into them
+  -- its bins after the shares are added to them
   abbrev after : List (Messages M)
   after = each_with (parted (counts ss) rest) bs
 
@@ -250,7 +251,7 @@ module _ {V M : Type 0} {weigh : Key × M → ℕ} {mode : Mode} {s : Shape} {xs
         ∙ (λ i. opened (holed_nodes (each-opened weigh depth mode s place 0 xs after ms i)) (left-kept xs after ms (after_long ∙ nodes_long) i))
         ∙ (λ i. opened (holed_nodes (zip (keys i) (cut_each weigh depth mode s place 0 (sym opening.trees i) after ms))) (concatenation (kept_bins after ms)))
 
-    -- what the holes tell
+    -- what the holes say
     pub node-with_holes : opened (holed_nodes (with_pivots ks (map (with_holes hole_of) cuts))) (concatenation (kept_bins after ms))
         ≡ with_holes hole_of (cut_out weigh (suc depth) mode s place (inner (nodes xs) (concatenation bins)) packet)
     node-with_holes = ap (λ hs. opened hs (concatenation (kept_bins after ms))) (sym (with_holes-zip hole_of ([] ∷ ks) cuts)) ∙ ap (with_holes hole_of) (sym node-cut)

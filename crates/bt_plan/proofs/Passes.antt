@@ -1,4 +1,4 @@
--- Children after one pass: what is left pending for them, and how they are divided again from their pivots and all their messages.
+-- Children after one pass: what is left pending for them, and how their pivots and all their messages divide them again.
 use Rattle.std.proofs.Common.{◌≡◌, ℕ, Bool, true, false, List, [], ◌∷◌, ◌++◌, map, refl, sym, ap, subst, ◌∙◌}
 use Rattle.std.specs.declared.option.Option.{Option}
 use Rattle.bt_keycode.specs.Keys.{Key}

@@ -29,7 +29,7 @@ less-first i j l = sym (nat_cmp_is i j Less l)
 same-first : (i : ℕ) → nat_cmp i i ≡ Equal
 same-first i = sym (nat_cmp_is i i Equal refl)
 
--- after the same numbers, the first that differs decides
+-- after equal numbers, the first that differs decides
 less-after : (xs rest others : List ℕ) (i j : ℕ) → i < j → slice_cmp nat_cmp (xs ++ i ∷ rest) (xs ++ j ∷ others) ≡ Less
 less-after [] rest others i j l = ap (λ o. ordering_then o (slice_cmp nat_cmp rest others)) (less-first i j l)
 less-after (x ∷ xs) rest others i j l =
@@ -43,11 +43,11 @@ IsUnder place job = (rest : List ℕ) × (job.place ≡ record { tree = place.tr
 abbrev IsPastChild : {V M : Type 0} → Place → ℕ → Job V M → Type 0
 IsPastChild place i job = (j : ℕ) × (rest : List ℕ) × (i ≤ j) × (job.place ≡ record { tree = place.tree; path = place.path ++ j ∷ rest })
 
--- each job of a cut so deep is at or below the place of what is cut
+-- each job of a cut at this depth is at or below the place of what is cut
 abbrev Under : (V : Type 0) {M : Type 0} → (Key × M → ℕ) → ℕ → Mode → Shape → Type 0
 Under V {M} weigh depth mode s = (place : Place) (t : Tree V M) (p : Messages M) → Each (IsUnder place) (holes (cut_out weigh depth mode s place t p))
 
--- jobs behind their places
+-- jobs with their places
 abbrev pub by_place : {V M : Type 0} → List (Job V M) → List (Place × Job V M)
 by_place = map (λ job. (job.place, job))
 
@@ -55,7 +55,7 @@ by_place = map (λ job. (job.place, job))
 abbrev pub Rise : {V M : Type 0} → List (Job V M) → Type 0
 Rise jobs = T (is_sorted node_place_cmp (by_place jobs))
 
--- the places of the jobs of a cut so deep rise
+-- the places of the jobs of a cut at this depth rise
 abbrev Rising : (V : Type 0) {M : Type 0} → (Key × M → ℕ) → ℕ → Mode → Shape → Type 0
 Rising V {M} weigh depth mode s = (place : Place) (t : Tree V M) (p : Messages M) → Rise (holes (cut_out weigh depth mode s place t p))
 
@@ -84,7 +84,7 @@ module _ {V M : Type 0} where
         (each-weaken (IsUnder (child_place place i)) (IsPastChild place i) (child-under place i) _ (child-jobs depth under (child_place place i) c))
         (each-weaken (IsPastChild place (suc i)) (IsPastChild place i) (past-next place i) _ (children-jobs depth under place (suc i) ss))
 
-    -- a fact of the jobs of an inner node that is cut: it holds where there are none, and of those of its children
+    -- a fact about the jobs of an inner node that is cut: it holds if there are none, and for those of its children
     by_room : (Fact : List (Job V M) → Type 0) (depth : ℕ) (place : Place) (ns : Nodes V M) (b p : Messages M) → Fact [] →
         ((ss : List (Child V M × Bool)) → Fact (holes_below (holed_nodes (opened_children weigh depth mode s place 0 ss)))) → Fact (holes (cut_out weigh (suc depth) mode s place (inner ns b) p))
     by_room Fact depth place ns b p none some =

@@ -29,7 +29,7 @@ length-planned : (ns : List ℕ) (capacity : ℕ) → length (planned ns capacit
 length-planned ns capacity =
     omega (arith, length-shortest capacity (ranked (placed 0 ns)), length-ranked (placed 0 ns), length-placed 0 ns)
 
--- where one more place is planned, there is room for it
+-- if one more place is planned, there is room for it
 pub room-left : (places left rest counts : List ℕ) (capacity place : ℕ) → places ++ planned left capacity ≡ planned counts capacity → planned left capacity ≡ place ∷ rest →
     length counts ≤ LARGEST_FANOUT → length places < LARGEST_FANOUT
 room-left places left rest counts capacity place so_far next few =

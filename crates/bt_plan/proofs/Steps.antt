@@ -1,4 +1,4 @@
--- One more child of a node that is opened, for the loop that cuts them one by one.
+-- One more child of an opened node, for the loop that cuts them one by one.
 use Rattle.std.proofs.Common.{◌≡◌, ◌<◌, ◌+◌, ℕ, Bool, false, cond, List, [], ◌∷◌, ◌++◌, ◌∙◌, None, append_assoc, ap, drop, get_or, length, map, sym, take}
 use Rattle.std.proofs.lemmas.List.{drop-drop, drop_more}
 use Rattle.std.specs.List.{flat_map}
@@ -14,10 +14,10 @@ use Rattle.bt_plan.specs.Cuts.{Job, child_place, cut_out}
 use Rattle.bt_plan.specs.Pieces.{Holed, Place, whole}
 use Rattle.bt_plan.specs.inside.Cutting.{cut_each, kept_bins}
 
--- ---- lists that are gone through
+-- ---- lists that are read
 
 module _ {X : Type 0} where
-  -- one is put behind those that are made, and is gone from those that are left
+  -- one is added to those that are made, and is taken from those that are left
   pub one_made : (made after all rest total : List X) (x y : X) → after ≡ made ++ y ∷ [] → y ≡ x → all ≡ x ∷ rest → made ++ all ≡ total → after ++ rest ≡ total
   one_made made after all rest total x y pushed same next so_far =
       ap (λ zs. zs ++ rest) pushed ∙ append_assoc made (y ∷ []) rest ∙ ap (λ z. made ++ z ∷ rest) same ∙ ap (λ zs. made ++ zs) (sym next) ∙ so_far
@@ -34,7 +34,7 @@ module _ {X Y : Type 0} where
 
 -- ---- shares of a stream
 
--- what stands past the end of shares
+-- the share past the end of the shares
 abbrev pub no_share : Share
 no_share = record { count = 0; weight = None }
 

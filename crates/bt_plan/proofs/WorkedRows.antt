@@ -1,4 +1,4 @@
--- Worked trees: cut into a tree in pieces and jobs, and filled again with what becomes of these, computed.
+-- Worked trees: cut into a tree in pieces and jobs, and filled again with the results of these, computed.
 use Rattle.std.specs.Prelude.{◌≡◌, ℕ, List, [], ◌∷◌, ℤ}
 use Rattle.std.proofs.Common.{refl}
 use Rattle.bt_messages.specs.declared.measure.Measure.TheVariants as measures
@@ -28,7 +28,7 @@ cut_of = cut meaning.weigh 7
 abbrev together : Shape → Tree ℤ Change → Messages Change → ℕ → Mode → Siblings ℤ Change
 together s t packet depth mode = let c = cut_of s t packet depth mode in filled s c.holed (outcomes meaning s c.jobs)
 
--- ---- counts 4, 2 and 2: the first two children are flushed
+-- ---- loads 4, 2 and 2: the first two children are flushed
 
 abbrev three_leaves : Tree ℤ Change
 three_leaves = inner (node [] (two 1 10 2 20) (node (k 3) (two 3 30 4 40) (node (k 5) (two 5 50 6 60) none))) []
@@ -55,7 +55,7 @@ two_jobs_deeper = refl
 two_jobs_filled : together shape three_leaves eight_puts 1 Absorb ≡ absorb meaning shape three_leaves eight_puts
 two_jobs_filled = refl
 
--- ---- the root sends three messages left, and that node, where one is pending, sends two on
+-- ---- the root sends three messages left, and that node, which has one pending, sends two on
 
 abbrev four_puts : Messages Change
 four_puts = puts 1 12 ∷ puts 2 22 ∷ puts 3 33 ∷ puts 10 100 ∷ []
@@ -87,7 +87,7 @@ two_levels_filled_2 = refl
 two_levels_filled_3 : together shape three_high four_puts 3 Absorb ≡ absorb meaning shape three_high four_puts
 two_levels_filled_3 = refl
 
--- ---- drained, each child is flushed, also where nothing is pending for it
+-- ---- drained, each child is flushed, also without pending messages
 
 drained_cut_1 : (cut_of shape three_high [] 1 Drain).jobs ≡ job (0 ∷ []) Drain first_three [] ∷ job (1 ∷ []) Drain last_two [] ∷ []
 drained_cut_1 = refl
@@ -136,7 +136,7 @@ no_job = refl
 no_job_filled : together shape three_leaves (puts 1 11 ∷ []) 1 Absorb ≡ absorb meaning shape three_leaves (puts 1 11 ∷ [])
 no_job_filled = refl
 
--- ---- seven levels, of which the messages go down the left: at depth 6 the path of a job has six numbers
+-- ---- seven levels, with messages that go down the left: at depth 6 the path of a job has six numbers
 
 abbrev below_left : Tree ℤ Change → Tree ℤ Change
 below_left t = inner (node [] t (node (k 9) (leaf (entry 9 90 ∷ [])) none)) []
@@ -159,7 +159,7 @@ seven_levels_cut_6 = refl
 seven_levels_filled_6 : together shape seven_high four_down 6 Absorb ≡ absorb meaning shape seven_high four_down
 seven_levels_filled_6 = refl
 
--- ---- a buffer of 60 bytes, where a put weighs 25 and a del 9
+-- ---- a buffer of 60 bytes; a put weighs 25 and a del 9
 
 abbrev weighed : Shape
 weighed = record { fanout = 4; buffer = 60; leaf = 2; measure = measures.Bytes }
@@ -184,6 +184,6 @@ heavier_has_fewer = refl
 heavier_has_fewer_filled : together weighed one_waits (puts 2 21 ∷ three_dels) 1 Absorb ≡ absorb meaning weighed one_waits (puts 2 21 ∷ three_dels)
 heavier_has_fewer_filled = refl
 
--- where messages are counted, the right one
+-- if messages are counted, the right one
 more_messages : (cut_of shape one_waits (puts 2 21 ∷ three_dels) 1 Absorb).jobs ≡ job (1 ∷ []) Absorb (two 3 30 4 40) three_dels ∷ []
 more_messages = refl

@@ -1,3 +1,3 @@
--- What the crates above may cite: statements over the definitions of this crate alone.
+-- What other crates may cite: statements that use only the definitions of this crate.
 pub mod Cuts
 pub mod Each

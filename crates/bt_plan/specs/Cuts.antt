@@ -9,22 +9,22 @@ use Rattle.bt_node.specs.Messages.{Meaning, Messages, load, with_messages}
 use Rattle.bt_node.specs.Trees.{Shape, Tree, leaf, inner, Siblings, children}
 use Rattle.bt_plan.specs.Pieces.{Holed, Pieces, Place, whole, hole, opened, holed_nodes, holes, with_holes}
 
--- a node that is moved out, with the messages for it
+-- a node that was moved out, with the messages for it
 pub record Job (V M : Type 0) : Type 0 where
   pub place : Place
   pub node : Tree V M
   pub packet : Messages M
   pub mode : Mode
 
--- what is left of a job
+-- the hole that a job leaves
 abbrev pub hole_of : {V M : Type 0} → Job V M → Place
 hole_of job = job.place
 
--- what becomes of a job's node and packet
+-- the result of a job: the siblings that replace its node after its packet
 abbrev pub outcome : {V M : Type 0} → Meaning V M → Shape → Job V M → Siblings V M
 outcome meaning shape job = flush_in meaning job.mode shape job.node job.packet
 
--- what becomes of jobs, by their places
+-- the results of jobs, by their places
 abbrev pub outcomes : {V M : Type 0} → Meaning V M → Shape → List (Job V M) → Pieces V M
 outcomes meaning shape = map (λ job. (job.place, outcome meaning shape job))
 
@@ -37,13 +37,13 @@ with_numbers k (x ∷ xs) = (k, x) ∷ with_numbers (suc k) xs
 abbrev pub child_place : Place → ℕ → Place
 child_place place i = record { tree = place.tree; path = place.path ++ i ∷ [] }
 
--- what stays in a buffer: what is pending for the children that aren't flushed
+-- the messages that stay in a buffer: those that are pending for the children that aren't flushed
 abbrev pub left_pending : {V M : Type 0} → List (Child V M × Bool) → Messages M
 left_pending = flat_map (λ s. cond s.1 [] s.0.pending)
 
--- A node and a packet, so many levels above the cut: at the cut, or where the node is a leaf, it is moved out. Else it stays whole, with all its messages, where
--- its buffer has room for them and the mode lets them stay. Else its children are flushed as far as the mode says: those are cut likewise with what is pending for
--- them, and the others stay whole.
+-- A node and a packet, this many levels above the cut. At the cut, or if it is a leaf, the node is moved out. If its buffer has room for all messages and the
+-- mode lets them stay, it stays whole, with all messages. Otherwise the children that the mode flushes are cut in the same way with their pending messages,
+-- and the others stay whole.
 abbrev pub cut_out : {V M : Type 0} → (Key × M → ℕ) → ℕ → Mode → Shape → Place → Tree V M → Messages M → Holed V M (Job V M)
 cut_out weigh zero mode shape place t packet = hole (record { place = place; node = t; packet = packet; mode = mode })
 cut_out weigh (suc depth) mode shape place (leaf rows) packet = hole (record { place = place; node = leaf rows; packet = packet; mode = mode })
@@ -65,7 +65,7 @@ pub record Pieced (V M : Type 0) : Type 0 where
   pub holed : Holed V M Place
   pub jobs : List (Job V M)
 
--- A tree and a packet, cut at a depth. Where a root is a leaf, it is one job.
+-- A tree and a packet, cut at a depth. If the root is a leaf, it is one job.
 abbrev pub cut : {V M : Type 0} → (Key × M → ℕ) → ℕ → Shape → Tree V M → Messages M → ℕ → Mode → Pieced V M
 cut weigh number shape root packet depth mode =
     let h = cut_out weigh depth mode shape (root_place number) root packet in

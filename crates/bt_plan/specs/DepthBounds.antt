@@ -1,4 +1,4 @@
--- How deep trees in pieces are, by which recursion over them ends.
+-- The depth of trees in pieces, which bounds recursion over them.
 use Rattle.std.specs.Prelude.{◌+◌, ◌*◌, ℕ, max}
 use Rattle.bt_node.specs.Trees.{height}
 use Rattle.bt_plan.specs.Pieces.{Holed, HoledNodes, whole, hole, opened, childless, child}

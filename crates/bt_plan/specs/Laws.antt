@@ -1,4 +1,4 @@
--- What a cut promises beside its definition.
+-- What a cut promises besides its definition.
 use Rattle.std.specs.Prelude.{◌≡◌, ℕ, T, map}
 use Rattle.std.specs.FinMap.{find, is_sorted}
 use Rattle.std.specs.List.{All}
@@ -14,12 +14,12 @@ use Rattle.bt_plan.specs.Cuts.{Job, Pieced, hole_of, outcome}
 use Rattle.bt_plan.specs.Pieces.{Holed, HoledFits, Pieces, filled, holes, node_place_cmp, with_holes}
 
 module _ {V M : Type 0} (weigh : Key × M → ℕ) (shape : Shape) where
-  -- a job's node, which has so many levels below it, and its packet, between the limits that the pivots around its hole set
+  -- the node of a job with this many levels below it, and its packet, lie between the pivots around its hole
   abbrev pub JobFits : ℕ → Option Key → Option Key → Job V M → Type 0
   JobFits levels low high job = NodeFits weigh shape levels low high job.node × AllWithin low high job.packet
 
-  -- Each job stands in a hole of its own, from left to right, with the place that the hole tells, as high as the hole stands in the tree, and the pivots around the hole
-  -- bound it. What stays fits too, and nothing is pending for a node that is in pieces.
+  -- Each job has its own hole, from left to right, at the place that the hole gives. Its node has the height of the hole, and lies between the pivots around
+  -- the hole. What stays fits too, and nothing is pending for a node in pieces.
   pub record StandInHoles (c : Pieced V M) : Type 0 where
     pub tree : Holed V M (Job V M)
     pub holed : c.holed ≡ with_holes hole_of tree
@@ -27,11 +27,11 @@ module _ {V M : Type 0} (weigh : Key × M → ℕ) (shape : Shape) where
     pub levels : ℕ
     pub fit : HoledFits weigh JobFits shape levels None None tree
 
--- the places of the jobs rise: no place comes twice
+-- the places of the jobs rise: no place occurs twice
 abbrev pub PlacesRise : {V M : Type 0} → Pieced V M → Type 0
 PlacesRise c = T (is_sorted node_place_cmp (map (λ job. (job.place, job)) c.jobs))
 
--- Pieces in any order that have at the place of each job what becomes of it, fill the holes to what becomes of the whole.
+-- Pieces in any order that have the result of each job at its place fill the holes to the result for the whole tree.
 abbrev pub FillsUp : {V M : Type 0} → Meaning V M → Shape → Tree V M → Messages M → Mode → Pieced V M → Type 0
 FillsUp {V} {M} meaning shape root packet mode c =
     (pieces : Pieces V M) → All (λ job. find node_place_cmp job.place pieces ≡ Some (outcome meaning shape job)) c.jobs →

@@ -1,4 +1,4 @@
--- Trees in pieces: where a node has been moved out of a tree, a hole is left.
+-- Trees in pieces: a node that was moved out of a tree leaves a hole.
 use Rattle.std.specs.Prelude.{◌≡◌, ◌≤◌, ℕ, zero, suc, List, [], ◌∷◌, ◌++◌, drop, length}
 use Rattle.std.specs.Cmp.Lexicographic.{slice_cmp}
 use Rattle.std.specs.FinMap.{find}
@@ -14,17 +14,17 @@ use Rattle.bt_node.specs.Flushes.{pivot_first, shared, grouped}
 use Rattle.bt_node.specs.Messages.{Messages, load}
 use Rattle.bt_node.specs.Trees.{Shape, Tree, Siblings}
 
--- where a node stands: the number of its tree, and the numbers of the children on the way to it from the root, before any change
+-- the place of a node: the number of its tree, and the numbers of the children on the path from the root, before any change
 pub record Place : Type 0 where
   pub tree : ℕ
   pub path : List ℕ
 
--- places by tree, and within a tree from left to right
+-- the order of places: by tree, and within a tree from left to right
 abbrev pub node_place_cmp : Place → Place → Ordering
 node_place_cmp p q = slice_cmp nat_cmp (p.tree ∷ p.path) (q.tree ∷ q.path)
 
--- A node that stays with all that is below it, a node that has been moved out, and an inner node that stays and has holes below it, with what is left
--- of its buffer. H says what a hole tells of the node that stood there.
+-- A node that stays with everything below it, a node that was moved out, or an inner node that stays and has holes below it, with what is left of its buffer.
+-- H is the type of what a hole says about the node that was there.
 mutual
   pub data Holed (V M H : Type 0) : Type 0 where
     whole : Tree V M → Holed V M H
@@ -35,12 +35,12 @@ mutual
     childless : HoledNodes V M H
     child : Key → Holed V M H → HoledNodes V M H → HoledNodes V M H
 
--- a list of children, each behind the pivot before it, as the children of a node with holes below it
+-- a list of children, each with the pivot before it, as the children of a node with holes below it
 abbrev pub holed_nodes : {V M H : Type 0} → List (Key × Holed V M H) → HoledNodes V M H
 holed_nodes [] = childless
 holed_nodes (x ∷ xs) = child x.0 x.1 (holed_nodes xs)
 
--- what the holes tell, from left to right
+-- what the holes say, from left to right
 abbrev mutual
   pub holes : {V M H : Type 0} → Holed V M H → List H
   holes (whole t) = []
@@ -51,7 +51,7 @@ abbrev mutual
   holes_below childless = []
   holes_below (child k h hs) = holes h ++ holes_below hs
 
--- the same tree in pieces, of which each hole tells something else
+-- the same tree in pieces with something else in each hole
 abbrev mutual
   pub with_holes : {V M H G : Type 0} → (H → G) → Holed V M H → Holed V M G
   with_holes f (whole t) = whole t
@@ -69,7 +69,7 @@ abbrev pub pivots_below : {V M H : Type 0} → HoledNodes V M H → List Key
 pivots_below childless = []
 pivots_below (child k h hs) = k ∷ pivots_below hs
 
--- a child of an opened node, and what is left in its bin
+-- a child of an opened node, and the messages that are left in its bin
 pub record HoledChild (V M H : Type 0) : Type 0 where
   pub pivot : Key
   pub node : Holed V M H
@@ -91,8 +91,9 @@ IsSent (whole t) pending = Unit {0}
 IsSent (hole h) pending = pending ≡ []
 IsSent (opened hs buffer) pending = pending ≡ []
 
--- A tree in pieces with so many levels below it, between two limits. A node that stays whole fits there, and of a hole this is asked. An opened node has two children or
--- more, which fit between their pivots likewise, and no more is pending than the buffer has room for, nothing for a child that is in pieces.
+-- A tree in pieces with this many levels below it, between two limits. A node that stays whole fits there, and each hole satisfies `Asked`. An opened node
+-- has two children or more, which fit between their pivots in the same way. Its buffer has room for what is pending, and nothing is pending for a child in
+-- pieces.
 abbrev pub HoledFits : {V M H : Type 0} → (Key × M → ℕ) → (ℕ → Option Key → Option Key → H → Type 0) → Shape → ℕ → Option Key → Option Key → Holed V M H → Type 0
 HoledFits weigh Asked shape levels low high (whole t) = NodeFits weigh shape levels low high t
 HoledFits weigh Asked shape levels low high (hole h) = Asked levels low high h
@@ -104,8 +105,8 @@ HoledFits weigh Asked shape (suc levels) low high (opened hs buffer) =
 
 -- ---- filling
 
--- A hole gives the siblings of its piece, a node that stayed whole itself. The children of an opened node are replaced by what they give, and dealt anew,
--- each part with its share of the buffer.
+-- A hole gives the siblings of its piece, a node that stayed whole gives itself. The children of an opened node are replaced by what they give, and dealt
+-- under inner nodes, each part with its share of the buffer.
 abbrev mutual
   pub filled_with : {V M H : Type 0} → Shape → (H → Siblings V M) → Holed V M H → Siblings V M
   filled_with shape piece (whole t) = ([], t) ∷ []
@@ -120,7 +121,7 @@ abbrev mutual
 abbrev pub Pieces : Type 0 → Type 0 → Type 0
 Pieces V M = List (Place × Siblings V M)
 
--- the siblings at a place, and none where it has none
+-- the siblings at a place, or none if it has none
 abbrev pub piece_at : {V M : Type 0} → Pieces V M → Place → Siblings V M
 piece_at pieces place = unwrap_or (find node_place_cmp place pieces) []
 
@@ -128,6 +129,6 @@ piece_at pieces place = unwrap_or (find node_place_cmp place pieces) []
 abbrev pub filled : {V M : Type 0} → Shape → Holed V M Place → Pieces V M → Siblings V M
 filled shape holed pieces = filled_with shape (piece_at pieces) holed
 
--- siblings that stand at the place of a hole fit there: they have as many levels below them as the node that stood there, and the pivots around it bound them
+-- siblings at the place of a hole fit there: they have as many levels below them as the node that was there, and lie between the pivots around it
 abbrev pub FitsHole : {V M : Type 0} → (Key × M → ℕ) → Shape → Pieces V M → ℕ → Option Key → Option Key → Place → Type 0
 FitsHole {V} {M} weigh shape pieces levels low high place = (xs : Siblings V M) → find node_place_cmp place pieces ≡ Some xs → SiblingsFit weigh shape levels low high xs

@@ -1,4 +1,4 @@
--- What the values of the code stand for.
+-- What the values of the code represent.
 use Rattle.std.specs.Prelude.{◌≡◌, ◌+◌, ℕ, List, length, map}
 use Rattle.bt_keycode.specs.Keys.{Key}
 use Rattle.bt_value.specs.Lists.{concatenation}
@@ -26,13 +26,13 @@ holed_of (Whole node) = whole node
 holed_of (Hole place) = hole (node_place place)
 holed_of (Opened children pivots bins) = opened (holed_nodes (with_pivots pivots.items children.items)) (concatenation bins)
 
--- An opened node has a pivot between each two children, and each child a bin, whose messages lie between the pivots around the child.
+-- An opened node has a pivot between neighbouring children, and each child has a bin, whose messages lie between the pivots around the child.
 abbrev pub HasPivotsAndBins : {V D : Type 0} → HoledParts V D → Type 0
 HasPivotsAndBins (Whole node) = Unit {0}
 HasPivotsAndBins (Hole place) = Unit {0}
 HasPivotsAndBins (Opened children pivots bins) = (length children.items ≡ length pivots.items + 1) × LieBetween pivots.items bins
 
--- a tree in pieces, with its shape, and jobs are those of a cut
+-- a tree in pieces with its shape, and jobs, are those of a cut
 abbrev pub IsCut : {V D : Type 0} → (Key × Message V D → ℕ) → Shape × Holed V (Message V D) Place → List (code.Job V D) → ℕ → Shape × Tree V (Message V D) → Messages (Message V D) → ℕ → Mode → Type 0
 IsCut weigh holed jobs number tree packet depth mode =
     (holed ≡ (tree.0, (cut weigh number tree.0 tree.1 packet depth mode).holed)) × (map job_of jobs ≡ (cut weigh number tree.0 tree.1 packet depth mode).jobs)

@@ -3,7 +3,7 @@ ghost use Rattle.std.specs.Prelude.{◌≡◌, ◌≤◌, length};
 
 use arrayvec::ArrayVec;
 
-/// A copy of items that an array has room for.
+/// A copy of items that fit in an array.
 pub(crate) fn array_copy<T: Copy + Default, const CAP: usize>(items: &[T]) -> ArrayVec<T, CAP>
     requires { length items.now ≤ CAP }
     ensures { result.items ≡ items.now }

@@ -1,4 +1,4 @@
-//! How the flushes of a tree are moved out of it.
+//! Cuts a tree: moves its flushes out of it as jobs.
 ghost use Rattle.std.specs.Prelude.{◌≡◌, ◌≤◌, ◌<◌, ◌+◌, ◌++◌, ◌∷◌, [], IfOk, OnOk, cond, drop, length, map, suc, take};
 ghost use Rattle.std.specs.List.{flat_map};
 ghost use Rattle.bt_value.specs.Lists.{concatenation};
@@ -26,7 +26,7 @@ use bt_messages::{Bins, Buffer, Merge, Packet, Share, Stream};
 use bt_node::{LARGEST_FANOUT, Mode, Node, Opened, Parts, Shape, Siblings, Step, Tree, open};
 use std::alloc::{AllocError, Global};
 
-// How a node is cut, or the children of one: in which mode, how many levels above the cut, and where it stands.
+// How a node or its children are cut: in which mode, how many levels above the cut, and at which place.
 #[derive(Drop)]
 struct Cutting {
     alloc: Global,
@@ -36,7 +36,8 @@ struct Cutting {
     place: Place,
 }
 
-// Messages and, after those of their key, the first ones of a stream. Where there are none before those of the stream, whole runs of it go into the packet.
+// A packet of pending messages and the first ones of a stream, each after those of its key. If none is pending, whole runs of the
+// stream go into the packet.
 fn packet_of<V: Merge>(
     alloc: Global,
     pending: Buffer<V>,
@@ -56,7 +57,8 @@ fn packet_of<V: Merge>(
     Ok(Packet::from_buffer(alloc, all))
 }
 
-// Moves a node out of its tree, with the messages that it has and, after those, the first ones of a stream, as a job, and leaves a hole.
+// Moves a node out of its tree as a job and leaves a hole. The job has the pending messages of the node and, after those of their
+// keys, the first ones of a stream.
 fn move_out<V: Merge>(
     at: Cutting,
     node: Node<V>,
@@ -88,7 +90,7 @@ fn move_out<V: Merge>(
     Ok(hole)
 }
 
-// A child that is not flushed, and what is in its bin then.
+// A child that isn't flushed, and its bin with its share added.
 fn keep<V: Merge>(
     alloc: Global,
     node: Node<V>,
@@ -106,7 +108,7 @@ fn keep<V: Merge>(
     Ok((HoledNode::whole(node), bin))
 }
 
-// A child of a node that is opened, and what is in its bin then: where it is marked, it is cut with all that is pending for it.
+// A child of an opened node, and the messages that are left in its bin. If it is marked, it is cut with all its pending messages.
 #[cycle(cuts)]
 fn cut_child<V: Merge>(
     at: Cutting,
@@ -133,7 +135,7 @@ fn cut_child<V: Merge>(
     Ok((node, Buffer::new(alloc)))
 }
 
-// The children of a node that is opened, cut one by one, and what is left in their bins.
+// The children of an opened node, cut one by one, and the messages that are left in their bins.
 #[cycle(cuts)]
 fn cut_children<V: Merge>(
     at: &Cutting,
@@ -187,8 +189,8 @@ fn cut_children<V: Merge>(
     Ok((children, Bins::from_buffers(kept)))
 }
 
-// What is left of an inner node and the first messages of a stream: where messages go down from it, its children are cut one by one, so many levels above the
-// cut.
+// Takes the first messages of a stream into an inner node, and returns what is left of the node. If messages go down from it, its
+// children are cut one by one, `at.depth` levels above the cut.
 #[cycle(cuts)]
 fn cut_inner<V: Merge>(
     at: &Cutting,
@@ -206,7 +208,7 @@ fn cut_inner<V: Merge>(
     ensures jobs { OnOk result (map job_of jobs.new.items ≡ map job_of jobs.old.items ++ holes (cut_above (weigh_of V.terms) at.now (inner (nodes children) (concatenation bins)) (take count stream.old))) }
     ensures left { OnOk result (stream.new ≡ drop count stream.old) }
 {
-    // Called for its contract: no shape has more children than a child's number can say.
+    // Called for its contract: in any shape, the number of a child fits in a `u16`.
     let _most = at.shape.fanout();
     let opened = match open(at.alloc, at.shape, at.mode, children, bins, stream, count)? {
         Step::Stays(node) => return Ok(HoledNode::whole(node)),
@@ -230,7 +232,8 @@ fn cut_inner<V: Merge>(
     Ok(HoledNode::opened(children, pivots, bins))
 }
 
-// A node and the messages that it has, with the first ones of a stream after them. Where it has none, those of the stream stay there on the way down.
+// Cuts a node with its pending messages and, after those, the first ones of a stream. If none is pending, the messages go down in
+// the stream as they are.
 #[cycle(cuts)]
 fn cut_node<V: Merge>(
     at: Cutting,
@@ -266,9 +269,9 @@ fn cut_node<V: Merge>(
     }
 }
 
-/// A tree and a packet in pieces. The packet enters at the root, and each child that is to be flushed is moved out with its messages, as a job,
-/// where it stands so many levels below the root, or is a leaf; any other is cut in the same way. Jobs come from left to right. Nodes and
-/// messages are moved, never copied. An `Err` keeps neither.
+/// Cuts a tree and a packet into pieces. The packet enters at the root. A child that is to be flushed is moved out with its
+/// messages, as a job, if it is `depth` levels below the root or a leaf. Otherwise it is cut in the same way. Jobs come in order
+/// from left to right. Nodes and messages are moved, never copied. An `Err` drops the tree and the packet.
 pub fn cut<V: Merge>(
     alloc: Global,
     tree_number: u16,

@@ -1,6 +1,6 @@
-//! The children that a node flushes, worked out in place.
+//! The children that a node flushes, computed without allocating.
 //!
-//! Loads and capacities are numbers of messages, or of bytes where the shape counts these, and places are counted from 0, the leftmost
+//! Loads and capacities are numbers of messages, or of bytes if the shape measures bytes. Places are counted from 0, the leftmost
 //! child.
 ghost use Rattle.std.specs.Prelude.{◌≡◌, ◌≤◌, length};
 ghost use Rattle.bt_node.specs.Plans.{planned, renewed, total};
@@ -9,9 +9,9 @@ use crate::arrays::array_copy;
 use arrayvec::ArrayVec;
 use bt_node::{LARGEST_FANOUT, next_planned};
 
-/// The places of the children to flush, where these are the loads of what is pending for each, as `Bins::load` says them: messages, or
-/// bytes where the shape counts these. The fullest comes first, of equally full ones the leftmost, and there are no more of them than it
-/// takes until the loads of the others are at most the capacity together.
+/// The places of the children to flush, given the load of each as returned by `Bins::load`. The fullest comes first, and the
+/// leftmost of equally full ones. There are just enough places that the loads of the other children together are at most the
+/// capacity.
 pub fn plan(loads: &[u128], capacity: u64) -> ArrayVec<u16, LARGEST_FANOUT>
     requires { length loads.now ≤ LARGEST_FANOUT }
     ensures places { result.items ≡ planned loads.now capacity }

@@ -9,9 +9,9 @@
 //!                          [0]               [2]
 //! ```
 //!
-//! A node to which nothing went down, and one that has room for all that came to it, is whole. Where a node was moved out, a hole tells its place. An inner
-//! node with holes below it is opened: it keeps its children, the pivots between them, and what is left in their bins. A contract sees the bins, one after the
-//! other, as the node's buffer.
+//! A node is whole if no message went down to it, or if it had room for all its messages. If a node was moved out, a hole gives its place. An
+//! inner node with holes below it is opened: it keeps its children, the pivots between them, and the messages that are left in their bins. A
+//! contract sees the bins, one after the other, as the buffer of the node.
 ghost use Rattle.std.specs.Prelude.{◌≡◌, ◌+◌, length};
 ghost use Rattle.bt_value.specs.Lists.{concatenation};
 ghost use Rattle.bt_messages.specs.Bins.{LieBetween};
@@ -25,18 +25,18 @@ use bt_messages::{Bins, Merge};
 use bt_node::{Node, Shape};
 use std::marker::Model;
 
-/// A node of a tree in pieces, with all that is below it. A contract sees the tree in pieces that it stands for.
+/// A node of a tree in pieces, with everything below it. A contract sees the tree in pieces that it represents.
 #[cycle(pieces)]
 #[derive(Drop)]
 pub struct HoledNode<V: Merge> {
     parts: HoledParts<V>,
 }
 
-/// What a node of a tree in pieces consists of.
+/// The parts of a node of a tree in pieces.
 #[cycle(pieces)]
 #[derive(Drop)]
 pub enum HoledParts<V: Merge> {
-    /// A node that stays, with all that is below it.
+    /// A node that stays, with everything below it.
     Whole(Node<V>),
     /// The place of a node that was moved out.
     Hole(Place),
@@ -75,7 +75,7 @@ impl<V: Merge> Model for HoledNode<V> {
 }
 
 impl<V: Merge> HoledNode<V> {
-    /// A node that stays, with all that is below it.
+    /// A node that stays, with everything below it.
     pub(crate) fn whole(node: Node<V>) -> Self
         ensures { result ≡ pieces.whole node }
     {
@@ -84,7 +84,7 @@ impl<V: Merge> HoledNode<V> {
         }
     }
 
-    /// A hole where a node stood.
+    /// A hole in the place of a node.
     pub(crate) fn hole(place: Place) -> Self
         ensures { result ≡ pieces.hole (node_place place) }
     {
@@ -108,7 +108,7 @@ impl<V: Merge> HoledNode<V> {
         }
     }
 
-    /// What the node consists of, to be looked at.
+    /// A reference to the parts of the node.
     pub fn parts(&self) -> &HoledParts<V>
         ensures parts { self.now ≡ holed_of result.now }
         ensures divided { HasPivotsAndBins result.now }
@@ -116,7 +116,7 @@ impl<V: Merge> HoledNode<V> {
         &self.parts
     }
 
-    /// What the node consists of.
+    /// The parts of the node.
     pub fn into_parts(self) -> HoledParts<V>
         ensures parts { self ≡ holed_of result }
         ensures divided { HasPivotsAndBins result }
@@ -153,14 +153,14 @@ impl<V: Merge> Holed<V> {
         Holed { shape, root }
     }
 
-    /// How large its nodes may be.
+    /// The sizes that its nodes may have.
     pub fn shape(&self) -> Shape
         ensures { result ≡ self.now.0 }
     {
         self.shape
     }
 
-    /// The root, to be looked at.
+    /// A reference to the root.
     pub fn root(&self) -> &HoledNode<V>
         ensures { result.now ≡ self.now.1 }
     {

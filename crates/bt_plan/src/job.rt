@@ -1,4 +1,4 @@
-//! What is moved out of a tree: a node with the messages that go down to it.
+//! The nodes that are moved out of a tree, with the messages that go down to them.
 ghost use Rattle.std.specs.Prelude.{◌≡◌, ◌<◌, length};
 ghost use Rattle.bt_plan.specs.Cuts.{child_place, root_place};
 ghost use Rattle.bt_plan.specs.Pieces.{node_place_cmp};
@@ -11,7 +11,7 @@ use bt_messages::{Merge, Packet};
 use bt_node::{Mode, Node};
 use std::cmp::Ordering;
 
-/// Where a node stands: the number of its tree, and the numbers of the children on the way to it from the root, before any change.
+/// The place of a node: the number of its tree, and the numbers of the children on the path from the root, before any change.
 #[derive(Drop)]
 pub struct Place {
     pub tree: u16,
@@ -19,7 +19,7 @@ pub struct Place {
 }
 
 impl Place {
-    // The root of a tree.
+    // The place of the root of a tree.
     pub(crate) fn root(tree: u16) -> Self
         ensures { node_place result ≡ root_place tree }
     {
@@ -47,7 +47,7 @@ impl Place {
         self.tree.cmp(&other.tree).then(by_path)
     }
 
-    // The child with this number.
+    // The place of the child with this number.
     pub(crate) fn child(&self, number: u16) -> Self
         requires { length self.now.path.items < DEEPEST_CUT }
         ensures { node_place result ≡ child_place (node_place self.now) number }
@@ -58,7 +58,7 @@ impl Place {
     }
 }
 
-/// A node that is moved out of a tree, with the messages for it.
+/// A node that was moved out of a tree, with the messages for it.
 #[derive(Drop)]
 pub struct Job<V: Merge> {
     pub place: Place,

@@ -1,13 +1,13 @@
-//! A tree in pieces: which children are flushed, and the flushes of a tree moved out of it as jobs.
+//! Trees in pieces: the children that are flushed, and the flushes of a tree moved out of it as jobs.
 //!
 //! ```text
 //! let (holed, jobs) = cut(alloc, 0, tree, packet, 2, Mode::Absorb)?;    // tree 0, down to two levels
 //! for job in jobs { .. }                                                // each has its place, a node and the messages for it
 //! ```
 //!
-//! `specs` has the definitions. `Pieces` are trees with holes and what fills them, `Cuts` says which nodes are moved out with their messages, `Laws` what a cut
-//! promises beside its definition, `Views` what the values of the code stand for, and `DepthBounds` how deep a tree in pieces is. `proofs` has small trees cut and
-//! filled, in `WorkedRows`.
+//! The definitions are in `specs`. `Pieces` defines trees with holes and how they are filled. `Cuts` says which nodes are moved out with their
+//! messages. `Laws` has the further promises of a cut. `Views` maps the values of the code to the definitions. `DepthBounds` gives the depth of
+//! a tree in pieces. `proofs` has small trees cut and filled, in `WorkedRows`.
 #![tactic(auto)]
 
 mod arrays;

@@ -1,4 +1,4 @@
--- A tree that is cut: its jobs fit their holes, their places rise, and what becomes of them fits the holes, and fills them to what becomes of the tree.
+-- A tree that is cut: its jobs fit their holes, their places rise, and their results fit the holes, and fill them to the result for the tree.
 use Rattle.std.proofs.Common.{◌≡◌, ℕ, List, [], ◌∷◌, ◌∙◌, refl, subst, sym, arith}
 use Rattle.std.proofs.lemmas.List.Elements.{recursion_from_All}
 use Rattle.std.specs.FinMap.{find}
@@ -20,18 +20,18 @@ use Rattle.bt_plan.proofs.Fits.{cut-fits}
 use Rattle.bt_plan.proofs.Found.{all-stand, filled-standing}
 use Rattle.bt_plan.proofs.Holes.{Somewhere, each-asked, with_holes-fits}
 use Rattle.bt_plan.proofs.Places.{cut-rises}
--- children side by side, and what is pending for them
+-- children side by side, with their pending messages
 pub use Rattle.bt_plan.proofs.Passes.{all_pending-none, lies-divides, stripped-none}
--- what becomes of jobs at rising places stands at these
+-- the results of jobs at rising places are at these places
 pub use Rattle.bt_plan.proofs.Found.{all-stand}
 -- the holes below an opened node
 pub use Rattle.bt_plan.proofs.Opening.{holes-zip}
--- trees in pieces whose holes tell something else
+-- trees in pieces with something else in their holes
 pub use Rattle.bt_plan.proofs.Found.{filled-as}
 pub use Rattle.bt_plan.proofs.Holes.{bins-long, with_holes-fits}
 
 module _ {V M : Type 0} (meaning : Meaning V M) (number : ℕ) (shape : Shape) (root : Tree V M) (has : HasShape meaning.weigh shape root) (packet : Messages M) (depth : ℕ) (mode : Mode) where
-  -- each job stands in a hole of its own and fits there
+  -- each job has its own hole and fits there
   pub cut-stand_in_holes : StandInHoles meaning.weigh shape (cut meaning.weigh number shape root packet depth mode)
   cut-stand_in_holes = record {
     tree = cut_out meaning.weigh depth mode shape (root_place number) root packet;
@@ -46,23 +46,23 @@ module _ {V M : Type 0} (meaning : Meaning V M) (number : ℕ) (shape : Shape) (
   pub cut-places_rise : PlacesRise (cut meaning.weigh number shape root packet depth mode)
   cut-places_rise = cut-rises meaning.weigh mode shape depth (root_place number) root packet
 
-  -- what becomes of the jobs fills the holes
+  -- the results of the jobs fill the holes
   pub cut-fills_up : FillsUp meaning shape root packet mode (cut meaning.weigh number shape root packet depth mode)
   cut-fills_up pieces all =
       filled-standing meaning shape pieces (cut_out meaning.weigh depth mode shape (root_place number) root packet) all
       ∙ cut-filled meaning shape (omega (arith, has.roomy.leaf)) (omega (arith, has.roomy.fanout)) mode depth has.levels (root_place number) None None root packet
       has.fits.lies has.fits.sized (anywhere packet)
 
-  -- so the jobs, each run, and filled in
+  -- running each job and filling the holes gives the result for the tree
   pub cut-outcome : filled shape (cut meaning.weigh number shape root packet depth mode).holed (outcomes meaning shape (cut meaning.weigh number shape root packet depth mode).jobs) ≡ flush_in meaning mode shape root packet
   cut-outcome = cut-fills_up _ (all-stand meaning shape _ cut-places_rise)
 
--- what stands at the place of a job is what becomes of it
+-- any piece at the place of a job is its result
 abbrev pub Answers : {V M : Type 0} → Meaning V M → Shape → Pieces V M → Job V M → Type 0
 Answers {V} {M} meaning shape pieces job = (xs : Siblings V M) → find node_place_cmp job.place pieces ≡ Some xs → xs ≡ outcome meaning shape job
 
 module _ {V M : Type 0} (meaning : Meaning V M) (shape : Shape) (roomy : IsRoomy shape) where
-  -- what becomes of a job fits its hole
+  -- the result of a job fits its hole
   outcome-fits : (job : Job V M) (levels : ℕ) (low high : Option Key) → JobFits meaning.weigh shape levels low high job → SiblingsFit meaning.weigh shape levels low high (outcome meaning shape job)
   outcome-fits job levels low high fits = fit_there meaning job.mode shape roomy job.node job.packet _ refl levels low high fits.0 fits.1
 
@@ -72,7 +72,7 @@ module _ {V M : Type 0} (meaning : Meaning V M) (shape : Shape) (roomy : IsRoomy
   each-fits pieces (job ∷ jobs) e =
       ((λ levels low high fits xs found. subst (SiblingsFit meaning.weigh shape levels low high) (sym (e.0 xs found)) (outcome-fits job levels low high fits)), each-fits pieces jobs e.1)
 
-  -- so it fits the hole
+  -- so each piece fits its hole
   pub pieces-fit : (c : Pieced V M) (stand : StandInHoles meaning.weigh shape c) (pieces : Pieces V M) → All (Answers meaning shape pieces) c.jobs → HoledFits meaning.weigh (FitsHole meaning.weigh shape pieces) shape stand.levels None None c.holed
   pieces-fit c stand pieces all =
       subst (HoledFits meaning.weigh (FitsHole meaning.weigh shape pieces) shape stand.levels None None) (sym stand.holed)

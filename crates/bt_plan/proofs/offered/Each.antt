@@ -1,4 +1,4 @@
--- Facts of each item of a list.
+-- Facts about each item of a list.
 use Rattle.std.proofs.Common.{List, [], ◌∷◌, ◌++◌}
 use Rattle.std.specs.List.{AllByRecursion as Each}
 

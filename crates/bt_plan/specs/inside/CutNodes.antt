@@ -1,4 +1,4 @@
--- What nodes are cut to where the code says how and where.
+-- The result of cutting a node, for the code's record of how and where.
 use Rattle.std.specs.Prelude.{ℕ, suc, Bool, List}
 use Rattle.bt_keycode.specs.Keys.{Key}
 use Rattle.bt_messages.specs.Bins.{each_with}
@@ -14,12 +14,12 @@ use Rattle.bt_plan.specs.Views.{node_place}
 use Rattle.bt_plan.specs.declared.cutting.Cutting.{Cutting}
 use Rattle.bt_plan.specs.inside.Cutting.{cut_each}
 
--- the job that a node becomes with what is pending for it
+-- the job of a node with its pending messages
 abbrev pub job_at : {V D : Type 0} → Cutting → Tree V (Message V D) → Messages (Message V D) → Job V (Message V D)
 job_at at node pending = record { place = node_place at.place; node = node; packet = pending; mode = at.mode }
 
 module _ {V M : Type 0} (weigh : Key × M → ℕ) (at : Cutting) where
-  -- a node whose children are so many levels above the cut
+  -- a node whose children are this many levels above the cut
   abbrev pub cut_above : Tree V M → Messages M → Holed V M (Job V M)
   cut_above = cut_out weigh (suc at.depth) at.mode at.shape (node_place at.place)
 

@@ -13,11 +13,11 @@ module _ {V M : Type 0} where
   abbrev pub job_with : Messages M → Job V M → Job V M
   job_with newer job = record { place = job.place; node = job.node; packet = with_messages newer job.packet; mode = job.mode }
 
-  -- a job that is cut, so many levels above the cut
+  -- a job that is cut, this many levels above the cut
   abbrev pub cut_job : (Key × M → ℕ) → ℕ → Shape → Job V M → Holed V M (Job V M)
   cut_job weigh depth shape job = cut_out weigh depth job.mode shape job.place job.node job.packet
 
-  -- a job that is cut where it is marked, and whose node else stays
+  -- a job that is cut if it is marked, and whose node stays otherwise
   abbrev pub cut_marked : (Key × M → ℕ) → ℕ → Shape → Bool → Job V M → Holed V M (Job V M)
   cut_marked weigh depth shape marked job = cond marked (cut_job weigh depth shape job) (whole job.node)
 
@@ -34,7 +34,7 @@ module _ {V M : Type 0} where
   AreSizedNodes weigh shape [] = Unit {0}
   AreSizedNodes weigh shape (t ∷ ts) = IsSized weigh shape t × AreSizedNodes weigh shape ts
 
--- what is left in bins, of which the marked ones are emptied
+-- what is left in bins when the marked ones are emptied
 abbrev pub kept_bins : {M : Type 0} → List (Messages M) → List Bool → List (Messages M)
 kept_bins [] marks = []
 kept_bins (b ∷ bs) [] = []

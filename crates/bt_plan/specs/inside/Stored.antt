@@ -1,4 +1,4 @@
--- Codes of trees in pieces, by which a proof tells their values apart.
+-- Codes of trees in pieces, which a proof uses to tell their values apart.
 use Rattle.std.specs.Prelude.{◌≡◌, refl, ℕ, List, [], ◌∷◌, ◌⊎◌}
 use Rattle.std.specs.Coded.{Coded, code_by, coded×, coded⊎, coded_ℕ, coded_list, coded_option}
 use Rattle.std.specs.declared.option.Option.{Option}
@@ -11,20 +11,20 @@ use Rattle.bt_node.specs.Trees.{Shape, Tree}
 use Rattle.bt_node.specs.Stored.{message_code, shape_code, tree_code}
 use Rattle.bt_plan.specs.Pieces.{Holed, HoledNodes, Place, whole, hole, opened, childless, child}
 
--- a node of a tree in pieces behind its pivot, told by the tree that stays, by what a hole tells or by what is left of a buffer, or nothing: the end of nodes side by
--- side
+-- a node of a tree in pieces with its pivot, given by the tree that stays, by what a hole says or by what is left of a buffer, or nothing: the end of nodes
+-- side by side
 abbrev pub HoledToken : Type 0 → Type 0 → Type 0 → Type 0
 HoledToken V M H = Option (Key × (Tree V M ⊎ (H ⊎ Messages M)))
 
 module _ {V M H : Type 0} where
-  -- the tokens of nodes side by side, each node's before those of its children, and then more
+  -- the tokens of nodes side by side, each node's before those of its children, followed by more tokens
   abbrev pub tokens_before : List (HoledToken V M H) → HoledNodes V M H → List (HoledToken V M H)
   tokens_before more childless = None ∷ more
   tokens_before more (child k (whole t) hs) = Some (k, inl t) ∷ tokens_before more hs
   tokens_before more (child k (hole h) hs) = Some (k, inr (inl h)) ∷ tokens_before more hs
   tokens_before more (child k (opened below buffer) hs) = Some (k, inr (inr buffer)) ∷ tokens_before (tokens_before more hs) below
 
-  -- a token read in front of others, which gave these lists of nodes
+  -- a token read before others, which gave these lists of nodes
   abbrev pub with_token : HoledToken V M H → List (HoledNodes V M H) → List (HoledNodes V M H)
   with_token None read = childless ∷ read
   with_token (Some (k, inl t)) [] = []
@@ -48,11 +48,11 @@ module _ {V M H : Type 0} where
       ap (with_token (Some (k, inr (inr buffer))))
       (nodes_of-tokens_before (tokens_before more hs) below ∙ ap (λ read. below ∷ read) (nodes_of-tokens_before more hs))
 
-  -- a tree in pieces as the one node behind the empty key
+  -- a tree in pieces as one node with the empty key
   abbrev pub holed_tokens : Holed V M H → List (HoledToken V M H)
   holed_tokens h = tokens_before [] (child [] h childless)
 
-  -- the first node, or an opened one without children where there is none
+  -- the first node, or an opened one without children if there is none
   abbrev pub first_node : List (HoledNodes V M H) → Holed V M H
   first_node [] = opened childless []
   first_node (childless ∷ read) = opened childless []
@@ -76,6 +76,6 @@ module _ {V D : Type 0} (value : Coded V) (delta : Coded D) where
   abbrev pub holed_code : Coded (Holed V (Message V D) Place)
   holed_code = code_by (List (HoledToken V (Message V D) Place)) (coded_list token_code) holed_tokens (λ xs. first_node (nodes_of xs)) first_node-holed_tokens
 
-  -- one with its shape
+  -- a tree in pieces with its shape
   abbrev pub shaped_holed_code : Coded (Shape × Holed V (Message V D) Place)
   shaped_holed_code = coded× shape_code holed_code

@@ -11,7 +11,7 @@ use Rattle.bt_plan.specs.Views.{job_of, node_place}
 use Rattle.bt_plan.specs.inside.Cutting.{AreSizedNodes, cut_each, kept_bins}
 use Rattle.bt_plan.proofs.cutting.+cuts.Given as goal
 
--- the children so far, and then those that are left with what is pending for them
+-- the children so far, and then those that are left with their pending messages
 abbrev pub invariant-cut_children-loop-node : goal.invariant-cut_children-loop-node
 invariant-cut_children-loop-node g l = record {
   children : l.children.items ++ map (with_holes hole_of) (cut_each (weigh_of g.V.Merge.terms) l.at.depth l.at.mode l.at.shape (node_place l.at.place) l.number l.node-iterator.rest.items (each_with (parted (counts (drop l.number l.shares)) l.stream) (into_iter_items l.buffers)) (drop l.number l.marks))

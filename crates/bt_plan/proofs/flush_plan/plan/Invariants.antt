@@ -2,7 +2,7 @@ use Rattle.std.proofs.Common.{◌≡◌, ◌++◌, length}
 use Rattle.bt_node.specs.Plans.{planned, total}
 use Rattle.bt_plan.proofs.flush_plan.plan.Given as goal
 
--- the places so far stand before those that are planned of the rest
+-- the places so far come before those that are planned for the rest
 abbrev pub invariant-loop-place : goal.invariant-loop-place
 invariant-loop-place l = record {
   long : length l.rest.items ≡ length l.loads;
