@@ -1,4 +1,4 @@
--- A tree that is cut: with what becomes of its jobs it is the tree after the flush.
+-- A tree that is cut: with the results of its jobs it is the tree after the flush.
 use Rattle.std.proofs.Common.{◌≡◌, ◌∙◌, ℕ, List, [], ◌∷◌, Vec, ap, arith, length, map, refl, subst, sym}
 use Rattle.std.proofs.lemmas.List.Elements.{All-from_recursion, All-weaker}
 use Rattle.std.proofs.lemmas.Option.{same_Some}

@@ -1,4 +1,4 @@
--- Two lists in one: what comes of each item, in two lists again.
+-- Two lists in one: the result for each item, in two lists again.
 use Rattle.std.proofs.Common.{◌≡◌, ◌∙◌, List, [], ◌∷◌, ap, map, refl, subst, sym}
 use Rattle.std.proofs.lemmas.List.Elements.{All-append, All-map}
 use Rattle.std.specs.List.{All}
@@ -6,7 +6,7 @@ use Rattle.bt_gather.specs.declared.either.Either.{Either}
 use Rattle.bt_gather.specs.declared.either.Either.TheVariants.{Rows, Entries}
 use Rattle.bt_gather.specs.inside.Eithers.{HoldsOfEither, either_map, entries_in, one_list, rows_in}
 
--- what holds of each item of both lists
+-- a fact about each item of both lists
 pub all-hold : {R E : Type 0} (P : R → Type 0) (Q : E → Type 0) (rows : List R) (entries : List E) → All P rows → All Q entries →
     (list : List (Either R E)) → list ≡ one_list rows entries → All (HoldsOfEither P Q) list
 all-hold P Q rows entries p q list is =
@@ -30,7 +30,7 @@ module _ {R E S F : Type 0} (f : R → S) (g : E → F) where
   entries-are [] entries = entries-all entries
   entries-are (x ∷ xs) entries = entries-are xs entries
 
-  -- what comes of the rows, and what comes of the entries
+  -- the results for the rows, and the results for the entries
   pub own-items : (rows : List R) (entries : List E) (list : List (Either R E)) → list ≡ one_list rows entries → (come : List (Either S F)) → come ≡ map (either_map f g) list →
       record { rows : rows_in come ≡ map f rows; entries : entries_in come ≡ map g entries }
   own-items rows entries list is come are =

@@ -1,13 +1,13 @@
--- What forks of a visitor make of rows in parts.
+-- Forks of a visitor after rows in parts.
 use Rattle.std.proofs.Common.{◌≡◌, ◌∙◌, List, [], ◌∷◌, ◌++◌, append_assoc, append-nil, ap, fold, map, sym}
 use Rattle.std.specs.List.{flat_map}
 
 module _ {S X P : Type 0} (visited : S → X → S) (forked : S → S) (joined : S → S → S) (rows : P → List X) where
-  -- rows in two parts are rows in one
+  -- taking rows in two parts is the same as taking them in one
   abbrev pub AreAsOne : Type 0
   AreAsOne = (s : S) (xs ys : List X) → joined (fold visited s xs) (fold visited (forked s) ys) ≡ fold visited s (xs ++ ys)
 
-  -- what a fork makes of the rows of its part
+  -- a fork after the rows of its part
   abbrev pub after_part : P × S → S
   after_part job = fold visited job.1 (rows job.0)
 
@@ -19,7 +19,7 @@ module _ {S X P : Type 0} (visited : S → X → S) (forked : S → S) (joined :
       ∙ all_joined one s (seen ++ rows p) ps
       ∙ ap (fold visited s) (append_assoc seen (rows p) (flat_map rows ps))
 
-  -- a visitor to which forks are joined, of which each took the rows of one part, took the rows of all parts
+  -- if forks that each took the rows of one part are joined to a visitor, it has taken the rows of all parts
   pub forks-joined : AreAsOne → (s : S) (parts : List P) (jobs : List (P × S)) (forks : List S) → jobs ≡ map (λ p. (p, forked s)) parts → forks ≡ map after_part jobs →
       fold joined s forks ≡ fold visited s (flat_map rows parts)
   forks-joined one s parts jobs forks jobs_are forks_are = ap (fold joined s) (forks_are ∙ ap (map after_part) jobs_are) ∙ all_joined one s [] parts

@@ -1,4 +1,4 @@
--- Keys that rise, and those of them that portions side by side own.
+-- Rising keys, and those that portions side by side own.
 use Rattle.std.proofs.Common.{◌≡◌, ◌∙◌, true, false, cond, not, ◌&&◌, true≢false, ℕ, zero, suc, List, [], ◌∷◌, ◌++◌, append_assoc, Option, None, Some, drop, map, take, refl, sym, ap}
 use Rattle.std.proofs.lemmas.List.{map-append, take-append-drop}
 use Rattle.bt_keycode.specs.Keys.{Key, is_before, is_before_lower, is_between}
@@ -20,7 +20,7 @@ others_rise : (k : Key) (ks : List Key) → AreRising (k ∷ ks) → AreRising k
 others_rise k [] rising = tt
 others_rise k (l ∷ ks) rising = rising.1
 
--- where the first key is not before a bound, no other is
+-- if the first key is not before a bound, no other is
 none_before_bound : (bound : Option Key) (k : Key) (ks : List Key) → is_before_lower bound k ≡ false → AreRising (k ∷ ks) → NoneBefore bound ks
 none_before_bound None k ks from rising = none_before_none ks
 none_before_bound (Some b) k [] from rising = tt
@@ -28,7 +28,7 @@ none_before_bound (Some b) k (l ∷ ks) from rising =
     let next = later_chain b k l from (not_after k l rising.0) in
     (next, none_before_bound (Some b) l ks next rising.1)
 
--- a key that does not come before the lower bound, and does not lie between both, does not come before the upper one
+-- a key that is not before the lower bound, and not between both, is not before the upper one
 behind_upper : (low high : Option Key) (k : Key) → is_before_lower low k ≡ false → is_between low high k ≡ false → is_before_lower high k ≡ false
 behind_upper low None k from out = absurd (true≢false (sym (ap (λ b. not b && true) from) ∙ out))
 behind_upper low (Some h) k from out = sym (ap (λ b. not b && is_before k h) from) ∙ out
@@ -50,7 +50,7 @@ module _ {K : Type 0} (key : K → Key) where
     abbrev count : List K → ℕ
     count ks = owned_count p (map key ks)
 
-    -- the keys behind those that the portion owns do not come before its upper bound
+    -- the keys after those that the portion owns are not before its upper bound
     pub rest_behind : (ks : List K) → NoneBefore p.low (map key ks) → AreRising (map key ks) → NoneBefore p.high (map key (drop (count ks) ks))
     rest_behind [] from rising = tt
     rest_behind (k ∷ ks) from rising =
@@ -59,7 +59,7 @@ module _ {K : Type 0} (key : K → Key) where
           | false ↦ λ other. let behind = behind_upper p.low p.high (key k) from.0 other in (behind, none_before_bound p.high (key k) (map key ks) behind rising)
         ] refl
 
-    -- a portion without an upper bound owns all keys that do not come before its lower one
+    -- a portion without an upper bound owns all keys that are not before its lower one
     pub none_left : p.high ≡ None → (ks : List K) → NoneBefore p.low (map key ks) → drop (count ks) ks ≡ []
     none_left last [] from = refl
     none_left last (k ∷ ks) from =
@@ -76,7 +76,7 @@ module _ {K : Type 0} (key : K → Key) where
             | false ↦ λ other. refl
           ] refl
 
-      -- its values at the keys that it owns, behind those of the keys before, and then those of the keys that are left
+      -- the values at the keys before, then those of this portion at the keys that it owns, and then those of the keys that are left
       pub values_behind : (rest : List K) (count_is : ℕ) (own left : List K) (before after all : List (Option V)) → count_is ≡ count rest → own ≡ take count_is rest → left ≡ drop count_is rest →
           after ≡ before ++ map (λ k. value_in effect (key k) p) own → before ++ map (λ k. value (key k)) rest ≡ all → after ++ map (λ k. value (key k)) left ≡ all
       values_behind rest n own left before after all n_is own_is left_is after_is so_far =

@@ -1,4 +1,4 @@
--- Pieces that stand at the holes, one at each and in their order: nothing is wrong with them.
+-- Pieces at the holes, one at each and in their order, fit.
 use Rattle.std.proofs.Common.{◌≡◌, ◌⊎◌, Bool, true, false, cond, List, [], ◌∷◌, map, inl, inr, refl, ap, subst, sym, ◌∙◌}
 use Rattle.std.specs.List.{AllByRecursion as Each}
 use Rattle.std.specs.Ordering.{is_eq}

@@ -24,7 +24,7 @@ drop-length : {X : Type 0} (xs : List X) → drop (length xs) xs ≡ []
 drop-length [] = refl
 drop-length (x ∷ xs) = drop-length xs
 
--- one item more is taken
+-- one more item is taken
 taken-suc : {X : Type 0} (n : ℕ) (xs : List X) (x : X) (rest : List X) → drop n xs ≡ x ∷ rest → (take (suc n) xs ≡ take n xs ++ x ∷ []) × (drop (suc n) xs ≡ rest)
 taken-suc zero [] x rest e = cc e
 taken-suc zero (y ∷ ys) x rest e = (cc e, cc e)
@@ -51,7 +51,7 @@ module _ {V D : Type 0} where
     few-enough : (t : RoundTree V D) (ps : Pieces V (Message V D)) → IsFilledBy weigh t (take (job_count t) ps) → job_count t ≤ length ps
     few-enough t ps e = omega (arith, count-is t _ e, length-take (job_count t) ps)
 
-    -- the pieces that a tree which was cut takes
+    -- the pieces that a tree that was cut takes
     module _ (t : RoundTree V D) (holed : Shape × Holed V (Message V D) Place) (jobs : ℕ) (room : Vec (code_place.Place × Siblings V (Message V D)) Global) (is : t ≡ Cut holed jobs room)
         (items : List (code_place.Place × Siblings V (Message V D))) (fill : IsFilledBy weigh t (take (job_count t) (pieces_of items))) where
       as-cut : IsCutFilledBy weigh holed jobs room (take jobs (pieces_of items))
@@ -93,7 +93,7 @@ module _ {V D : Type 0} where
         ∙ ap (λ ts. trees ++ trees_with ts (pieces_of items)) (sym one)
         ∙ so_far
 
-  -- ---- one tree more
+  -- ---- one more tree
 
   module _ (weigh : Key × Message V D → ℕ) where
     own-all : (t : RoundTree V D) (ps : Pieces V (Message V D)) → IsFilledBy weigh t ps → (take (job_count t) ps ≡ ps) × (drop (job_count t) ps ≡ [])
@@ -139,7 +139,7 @@ module _ {V D : Type 0} where
               ∙ ap (λ u. us ++ u ∷ []) one.give;
         }))
 
-    -- the tree that it is when the pieces of all its jobs have come
+    -- the tree after the pieces of all its jobs are filled in
     pub tree-outcome : (t : RoundTree V D) (jobs : List (ShapedJob V D)) (u : Shape × Tree V (Message V D)) → AreJobsOf meaning t jobs u →
         (items : List (code_place.Place × Siblings V (Message V D))) → items ≡ map (piece_of meaning) jobs →
         IsFilledBy meaning.weigh t (take (job_count t) (pieces_of items)) × (tree_with t (take (job_count t) (pieces_of items)) ≡ u)
@@ -149,7 +149,7 @@ module _ {V D : Type 0} where
           ap (λ xs. tree_with t (take (job_count t) (pieces_of xs))) are ∙ ap (tree_with t) own ∙ all.give,
         )
 
-    -- and those that trees are
+    -- and the trees
     pub trees-outcome : (ts : List (RoundTree V D)) (jobs : List (ShapedJob V D)) (us : List (Shape × Tree V (Message V D))) → AreJobsOfAll meaning ts jobs us →
         (items : List (code_place.Place × Siblings V (Message V D))) → items ≡ map (piece_of meaning) jobs →
         AreFilledBy meaning.weigh ts (pieces_of items) × (trees_with ts (pieces_of items) ≡ us)

@@ -1,4 +1,4 @@
--- Trees after their packets fit their shapes and hold what they held, and a drained tree is dry beside that.
+-- Trees after their packets fit their shapes and hold their rows after the packets. A drained tree also has no pending messages.
 use Rattle.std.proofs.Common.{◌≡◌, ◌∙◌, List, [], ◌∷◌, ◌++◌, ap, append_assoc, map, refl, subst, sym}
 use Rattle.std.proofs.lemmas.List.Elements.{All-from_recursion, recursion_from_All}
 use Rattle.std.specs.List.{All, AllByRecursion as Each}
@@ -47,7 +47,7 @@ module _ {V M : Type 0} (meaning : Meaning V M) where
     pub all-sunk-fit : AllHaveShape meaning.weigh trees
     all-sunk-fit = subst (AllHaveShape meaning.weigh) (sym are) (All-from_recursion (λ tree. HasShape meaning.weigh tree.0 tree.1) (all_sunk meaning xs) (each-shaped xs each))
 
-    -- and hold what they held, after their packets
+    -- and hold their rows after their packets
     pub all-sunk-hold : AllHoldAfter meaning.effect xs trees
     all-sunk-hold = ap (rows_of_all meaning.effect) are ∙ each-holds xs each
 

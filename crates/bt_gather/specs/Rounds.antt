@@ -1,4 +1,4 @@
--- What becomes of several trees, each with a packet of its own.
+-- The result for several trees, each with its own packet.
 use Rattle.std.specs.Prelude.{◌≡◌, ℕ, List, map}
 use Rattle.std.specs.List.{All}
 use Rattle.std.specs.declared.option.Option.{Option}
@@ -22,14 +22,14 @@ module _ {V M : Type 0} (meaning : Meaning V M) where
   all_sunk = map sunk_tree
 
 module _ {V M : Type 0} (effect : Option V → M → Option V) where
-  -- what trees hold
+  -- the rows of trees
   abbrev pub rows_of_all : List (Shape × Tree V M) → List (Rows V)
   rows_of_all = map (λ tree. holds effect tree.1)
 
-  -- what trees hold, each after its packet
+  -- the rows of trees, each after its packet
   abbrev pub rows_after_all : List ((Shape × Tree V M) × Messages M) → List (Rows V)
   rows_after_all = map (λ x. rows_after effect x.1 (holds effect x.0.1))
 
-  -- the later trees hold what the trees held, each after its packet
+  -- the later trees hold the rows of the trees, each after its packet
   abbrev pub AllHoldAfter : List ((Shape × Tree V M) × Messages M) → List (Shape × Tree V M) → Type 0
   AllHoldAfter trees later = rows_of_all later ≡ rows_after_all trees

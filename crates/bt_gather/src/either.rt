@@ -1,17 +1,17 @@
-//! What belongs to trees of rows and what belongs to indexes' trees, in one list.
+//! One list for items of the trees of rows and items of the trees of indexes.
 ghost use Rattle.std.specs.Prelude.{◌≡◌, ◌≤◌, [], IfOk, length, vec_capacity};
 ghost use Rattle.bt_gather.specs.inside.Eithers.{entries_in, one_list, rows_in};
 
 use std::alloc::{AllocError, Global};
 
-/// What belongs to a tree of rows, or to an index's tree.
+/// An item of a tree of rows, or of the tree of an index.
 #[derive(Drop)]
 pub(crate) enum Either<R, E> {
     Rows(R),
     Entries(E),
 }
 
-/// One list of both, in which what belongs to trees of rows comes first.
+/// One list of both kinds of items, those of the trees of rows first.
 pub(crate) fn one_list<R: Drop, E: Drop>(
     alloc: Global,
     rows: Vec<R>,
@@ -32,7 +32,7 @@ pub(crate) fn one_list<R: Drop, E: Drop>(
     Ok(list)
 }
 
-/// What belongs to trees of rows, and what belongs to indexes' trees, in two lists that have room for it.
+/// The items of the trees of rows and those of the trees of indexes, in two empty lists whose capacity suffices.
 pub(crate) fn two_lists<R: Drop, E: Drop>(
     list: Vec<Either<R, E>>,
     mut rows: Vec<R>,

@@ -1,4 +1,4 @@
-//! The jobs of a round, and what a worker does with each.
+//! The jobs of a round, and the work on each.
 ghost use Rattle.std.specs.Prelude.{◌≡◌, IfOk, map};
 ghost use Rattle.bt_messages.specs.Meanings.{meaning_of};
 ghost use Rattle.bt_node.specs.Fits.{IsInOrder};
@@ -16,7 +16,7 @@ use std::marker::PhantomData;
 use std::sync::Wait;
 use std::thread::Threads;
 
-/// What becomes of a job's node and messages, at the place of the job. An `Err` keeps neither.
+/// Runs a job: flushes its packet into its node. Returns the resulting siblings and the place of the job. An `Err` drops both.
 pub fn run_job<V: Merge>(
     alloc: Global,
     shape: Shape,
@@ -38,14 +38,14 @@ pub fn run_job<V: Merge>(
     Ok((place, siblings))
 }
 
-/// A job, with the shape of its tree.
+/// A job with the shape of its tree.
 #[derive(Drop)]
 pub(crate) struct ShapedJob<V: Merge> {
     pub(crate) shape: Shape,
     pub(crate) job: Job<V>,
 }
 
-/// Runs the jobs of a round, by [`run_job`].
+/// Runs the jobs of a round with [`run_job`].
 #[derive(Drop)]
 pub(crate) struct FlushWork<R, E> {
     rows: PhantomData<R>,
@@ -103,7 +103,7 @@ where
         }
     }
 
-    /// What becomes of jobs, each run once by a crew that has no more workers than there are jobs.
+    /// The results of jobs, each run once by a crew with at most as many workers as jobs.
     pub(crate) fn pieces<G: Gate + Sync, T: Threads + Wait + Sync>(
         &self,
         rt: &T,

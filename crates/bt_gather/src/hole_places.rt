@@ -1,4 +1,4 @@
-//! Places of holes, and the pieces that stand there.
+//! The places of holes, and the pieces at these places.
 ghost use Rattle.std.specs.Prelude.{◌≡◌, ◌<◌, ◌++◌, [], IfOk, IfSome, MatchOption, None, OnOk, Some, false, length, map, option_map, replicate, slice_get, true};
 ghost use Rattle.std.specs.Option.{unwrap_or};
 ghost use Rattle.bt_gather.specs.Misfits.{AreRisingPlaces, first_misfit, is_place_among};
@@ -46,7 +46,7 @@ pub(crate) fn hole_places<V: Merge>(
     Ok(places)
 }
 
-// Whether the hole of a number stands at a place.
+// Whether the hole with this number is at a place.
 fn stands_at(places: &[Place], hole: usize, place: &Place) -> bool
     ensures bound { result ≡ true → hole < length places.now }
     ensures stands { result ≡ true → slice_get (node_places places.now) hole ≡ Some (node_place place.now) }
@@ -57,7 +57,7 @@ fn stands_at(places: &[Place], hole: usize, place: &Place) -> bool
     false
 }
 
-// The number of the hole at a place, if there is one: that of a guess, or found by halving.
+// The number of the hole at a place, if there is one. Tries the guess first, and otherwise uses binary search.
 fn hole_at(places: &[Place], place: &Place, guess: usize) -> Option<usize>
     requires { AreRisingPlaces (node_places places.now) }
     ensures bound { IfSome result (λ hole. hole < length places.now) }
@@ -69,7 +69,7 @@ fn hole_at(places: &[Place], place: &Place, guess: usize) -> Option<usize>
     places.binary_search_by(|hole| hole.compare(place)).ok()
 }
 
-// A mark for each hole, none of them set.
+// A mark for each hole, all of them unset.
 fn no_marks(alloc: Global, count: usize) -> Result<Vec<bool>, AllocError>
     ensures { IfOk result (λ marks. marks.items ≡ replicate count false) }
 {
@@ -93,7 +93,8 @@ fn first_unmarked(places: &[Place], marks: &[bool]) -> Option<Misfit>
     None
 }
 
-/// What is wrong with the pieces, if anything is: the first piece that stands at no hole or at one that has a piece, else the first hole without one.
+/// The first piece that is at no hole, or at a hole that already has a piece. If there is none, the first hole without a piece.
+/// `None` if the pieces fit.
 pub(crate) fn first_misfit<V: Merge>(
     alloc: Global,
     places: &[Place],
@@ -131,7 +132,7 @@ fn empty_slots<V: Merge>(
     Ok(slots)
 }
 
-// What the slots hold, none of which is empty.
+// The contents of the slots, none of which is empty.
 fn all_held<V: Merge>(
     alloc: Global,
     slots: Vec<Option<Siblings<V>>>,
@@ -147,7 +148,7 @@ fn all_held<V: Merge>(
     Ok(held)
 }
 
-/// The siblings of each piece where its hole stands, from left to right.
+/// The siblings of the pieces in the order of their holes, from left to right.
 pub(crate) fn siblings_at_holes<V: Merge>(
     alloc: Global,
     places: &[Place],

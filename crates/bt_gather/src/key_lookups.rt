@@ -1,4 +1,4 @@
-//! Look-ups of many keys by a crew: a job for each portion of the tree that owns one of them.
+//! Looks up many keys with a crew. There is a job for each portion of the tree that owns one of the keys.
 ghost use Rattle.std.specs.Prelude.{◌≡◌, ◌+◌, ◌≤◌, ◌<◌, ◌++◌, IfOk, List, None, OnOk, Option, drop, length, map, take};
 ghost use Rattle.std.specs.FinMap.{find};
 ghost use Rattle.std.specs.List.{All};
@@ -33,7 +33,7 @@ impl<V: Merge> Model for ValueList<V> {
     ghost view = { λ l. l.values.items };
 }
 
-/// Looks up keys in portions. A job is a portion, and keys that it owns.
+/// Looks up keys in portions. A job is a portion with keys that it owns.
 #[derive(Drop)]
 struct KeyLookups<'a, V: Merge> {
     portions: PhantomData<&'a V>,
@@ -71,7 +71,7 @@ where
     ghost one_value = { λ _ _ _ _ e f. e ∙ sym f };
 }
 
-// How many of the first keys a portion owns.
+// The number of keys at the front that a portion owns.
 fn owned_count<V: Merge>(portion: &Portion<'_, V>, keys: &[&Key]) -> usize
     ensures count { result ≡ owned_count portion.now (map (λ k. k.now) keys.now) }
     ensures bound { result ≤ length keys.now }
@@ -92,7 +92,7 @@ fn later_keys<'k>(keys: &'k [&'k Key], place: usize) -> &'k [&'k Key]
     &keys[place..]
 }
 
-// The keys from a place on that a portion owns, up to the first that it does not own, and how many they are.
+// The keys from a place on that a portion owns, up to the first one that it doesn't own, and their number.
 fn owned_from<'k, V: Merge>(
     portion: &Portion<'_, V>,
     keys: &'k [&'k Key],
@@ -108,7 +108,7 @@ fn owned_from<'k, V: Merge>(
     (&rest[..count], count)
 }
 
-// Adds a job, unless there is no key for it.
+// Adds a job, unless it has no keys.
 fn add_job<'a, V: Merge>(
     jobs: &mut Vec<(Portion<'a, V>, &'a [&'a Key])>,
     portion: Portion<'a, V>,
@@ -125,7 +125,7 @@ fn add_job<'a, V: Merge>(
     Ok(())
 }
 
-// Keys shared by portions that stand side by side: a job for each portion that owns one.
+// Divides keys among portions that are side by side: a job for each portion that owns a key.
 fn lookup_jobs<'a, V: Merge>(
     alloc: Global,
     portions: Vec<Portion<'a, V>>,
@@ -148,7 +148,7 @@ fn lookup_jobs<'a, V: Merge>(
     Ok(jobs)
 }
 
-// The values of all jobs, one list behind the other.
+// The values of all jobs, one list after the other.
 fn all_values<V: Merge>(
     alloc: Global,
     lists: Vec<ValueList<V>>,
@@ -163,11 +163,11 @@ fn all_values<V: Merge>(
     Ok(all)
 }
 
-/// The values at keys that rise, in their order, when all messages have had their effect.
+/// The values at rising keys, in their order, when all messages have had their effect.
 ///
-/// The portions of the tree at the crew's depth that own a key are jobs, each with the keys that it owns. There is no more than one worker for each job,
-/// and for each four grains of keys; where that is one worker, no thread starts, and the caller looks up the keys. An `Err` is for want of memory; every
-/// worker has ended then. The tree is only read.
+/// The jobs are the portions of the tree at the crew's depth that own a key, each with the keys that it owns. There is at most one
+/// worker for each job, and at most one for every four grains of keys. With one worker, no thread starts, and the caller looks up
+/// the keys. An `Err` is a failed allocation; every worker has ended by then. The tree is only read.
 pub fn values<'k, V: Merge + Send + Sync, G: Gate + Sync, T: Threads + Wait + Sync>(
     rt: &T,
     alloc: Global,

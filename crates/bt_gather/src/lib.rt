@@ -1,4 +1,4 @@
-//! Rounds over trees: the flushes of several trees are the jobs of one run, and what becomes of the jobs is put in where they came from.
+//! Rounds over trees: the flushes of several trees are the jobs of one run, and the result of each job goes back to its place in its tree.
 //!
 //! ```text
 //!   tree of rows   cut to jobs 0 and 1   \                 / pieces 0 and 1   filled and crowned
@@ -6,14 +6,15 @@
 //!   second index   cut to jobs 2 to 4    /  jobs by a crew  \ pieces 2 to 4    filled and crowned
 //! ```
 //!
-//! A tree is cut by `bt_plan`; a worker runs each job by [`run_job`]; and [`fill`] puts the pieces, at most one at each hole, into the tree
-//! again. [`sink`] and [`drain`] do all of it.
+//! `bt_plan` cuts a tree. A worker runs each job with [`run_job`]. [`fill`] puts the pieces into the holes of the tree, one at each hole.
+//! [`sink`] and [`drain`] do all three steps.
 //!
-//! A tree is also read by a crew. The portions that it has at the crew's depth are jobs that borrow it: [`read`] shows each to a fork of a visitor, [`rebuild`]
-//! copies the rows and packs them anew, and [`values`] looks up keys. Here flushes and reads of trees meet threads, and nowhere else.
+//! A crew also reads a tree. The portions at the crew's depth are jobs that borrow the tree. [`read`] shows each to a fork of a visitor,
+//! [`rebuild`] copies the rows and packs them into a new tree, and [`values`] looks up keys. Only this crate runs flushes and reads of trees on
+//! threads.
 //!
-//! Jobs are numbered tree by tree, rows first, and each tree takes as many pieces as it has jobs, so what a run gives by its numbers comes back to
-//! its trees. Nodes and messages are moved, never copied. Where memory is refused, every worker has ended before the answer comes.
+//! Jobs are numbered tree by tree, those of the rows first. Each tree takes as many pieces as it has jobs, so the results of a run go back to
+//! their trees by number. Nodes and messages are moved, never copied. If an allocation fails, every worker has ended before the call returns.
 //!
 //! ```text
 //! let crew = Crew::new(4, 2, 64, NoGate)?;
@@ -22,8 +23,8 @@
 //! let copies = read(&rt, alloc, &rows, Some(&from), None, Copies::new(alloc), &crew)?;
 //! ```
 //!
-//! `specs` has the definitions. `Rounds` says what becomes of several trees, `Misfits` what is wrong with pieces that do not fill a tree in pieces, and `Laws`
-//! what [`fill`] asks for and what it refuses.
+//! The definitions are in `specs`. `Rounds` defines the result for several trees. `Misfits` says which pieces don't fit a tree in pieces. `Laws`
+//! says what [`fill`] requires and what it refuses.
 #![tactic(auto)]
 
 mod either;

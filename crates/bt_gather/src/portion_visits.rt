@@ -1,4 +1,5 @@
-//! Reads of a tree by a crew. Each portion of the tree is shown to a visitor of its own, and these are joined in the order of the portions.
+//! Reads a tree with a crew. Each portion of the tree is shown to its own visitor, and the visitors are joined in the order of the
+//! portions.
 ghost use Rattle.std.specs.Prelude.{◌≡◌, IfOk, fold, map};
 ghost use Rattle.std.specs.Option.{option_copied};
 ghost use Rattle.bt_messages.specs.Effects.{effect_of};
@@ -20,11 +21,11 @@ use std::marker::PhantomData;
 use std::sync::{Mutex, Wait};
 use std::thread::Threads;
 
-/// Shows the rows of portions to visitors. A job is a portion, and the visitor for it.
+/// Shows the rows of portions to visitors. A job is a portion with its visitor.
 #[derive(Drop)]
 struct PortionVisits<'a, V: Merge, S> {
     portions: PhantomData<&'a V>,
-    // The workers share the work and each of them has visitors of its own, so a visitor has to be `Send` alone, as behind a lock.
+    // The workers share the work, and each has its own visitors. So a visitor only has to be `Send`, as if it were in a mutex.
     visitors: PhantomData<Mutex<S>>,
 }
 
@@ -71,7 +72,7 @@ fn with_forks<'a, V: Merge, S: ForkVisitor<V>>(
     Ok(jobs)
 }
 
-// The visitor when each fork, from the first to the last, is joined to it.
+// The visitor with each fork joined to it, from the first to the last.
 fn with_all<V: Merge, S: ForkVisitor<V>>(
     alloc: Global,
     visitor: S,
@@ -86,7 +87,7 @@ fn with_all<V: Merge, S: ForkVisitor<V>>(
     Ok(all)
 }
 
-// The visitor after the rows, shown by the caller.
+// Shows the rows to the visitor on the caller's thread.
 fn read_alone<V: Merge, S: Visitor<V>>(
     alloc: Global,
     tree: &Tree<V>,
@@ -101,7 +102,7 @@ fn read_alone<V: Merge, S: Visitor<V>>(
     Ok(visitor)
 }
 
-// The visitor after the rows of portions, shown by the caller, one portion after the other.
+// Shows the rows of the portions to the visitor on the caller's thread, one portion after the other.
 fn read_in_turn<V: Merge, S: Visitor<V>>(
     alloc: Global,
     portions: Vec<Portion<'_, V>>,
@@ -116,13 +117,14 @@ fn read_in_turn<V: Merge, S: Visitor<V>>(
     Ok(visitor)
 }
 
-/// The visitor after the rows with a key at or past `from` and before `to`, by rising key, when all messages have had their effect. A bound that is
-/// absent doesn't limit.
+/// Shows a visitor the rows with a key at or past `from` and before `to`, in rising order, when all messages have had their effect.
+/// Returns the visitor. An absent bound doesn't limit.
 ///
-/// The portions of the tree at the crew's depth are jobs, however few rows they have, and each is shown to a fork of the visitor. The caller makes the
-/// forks before the first job and joins them after the last. There is no more than one worker for each portion. Where the crew has one worker, or the
-/// range one portion or none, no thread starts and no fork is made: the caller shows the rows to the visitor. An `Err` is a visitor's, or for want of
-/// memory; every worker has ended then, and the visitor is gone. The tree is only read.
+/// The jobs are the portions of the tree at the crew's depth, with any number of rows. Each is shown to a fork of the visitor. The
+/// caller makes the forks before the first job and joins them after the last. There is at most one worker for each portion. If the
+/// crew has one worker, or the range has at most one portion, no thread starts and no fork is made: the caller shows the rows to
+/// the visitor. An `Err` comes from a visitor or from a failed allocation. By then every worker has ended, and the visitor is
+/// dropped. The tree is only read.
 pub fn read<
     V: Merge + Send + Sync,
     S: ForkVisitor<V> + Send,
@@ -157,7 +159,8 @@ where
     with_all(alloc, visitor, forks)
 }
 
-/// The rows that the tree holds, copied by a crew as [`read`] says, and packed anew by the caller. The tree stays as it is, also at an `Err`.
+/// A new tree, packed by the caller from copies of the rows, which a crew makes as in [`read`]. The old tree stays as it is, also
+/// after an `Err`.
 pub fn rebuild<V: Merge + Send + Sync, G: Gate + Sync, T: Threads + Wait + Sync>(
     rt: &T,
     alloc: Global,

@@ -1,4 +1,4 @@
-//! One round over trees: the flushes of all of them are jobs of one run.
+//! One round over trees: the flushes of all of them are the jobs of one run.
 ghost use Rattle.std.specs.Prelude.{◌≡◌, ◌≤◌, ◌+◌, IfOk, length};
 ghost use Rattle.bt_messages.specs.Effects.{effect_of};
 ghost use Rattle.bt_messages.specs.Meanings.{meaning_of};
@@ -17,10 +17,10 @@ use std::alloc::{AllocError, Global};
 use std::sync::Wait;
 use std::thread::Threads;
 
-/// Each tree after its packet, in one round. A tree whose packet has fewer messages than the crew's grain is sunk by the caller; the others are cut
-/// at the crew's depth, and their flushes are jobs of one run, tree by tree, rows first. There is no more than one worker for each job, and for
-/// each four grains of messages of the trees that are cut; where that is one, the caller works alone. After an `Err` every worker has ended, and nothing of
-/// the trees is left.
+/// Flushes a packet into each tree, in one round. If a packet has fewer messages than the crew's grain, the caller sinks it. The
+/// other trees are cut at the crew's depth, and their flushes are the jobs of one run, tree by tree, those of the rows first. There
+/// is at most one worker for each job, and at most one for every four grains of messages to the trees that are cut. With one worker,
+/// the caller works alone. After an `Err` every worker has ended, and the trees are dropped.
 pub fn sink<
     R: Merge + Send + Sync,
     E: Merge + Send + Sync,
@@ -54,8 +54,9 @@ where
     Ok((rows, entries))
 }
 
-/// The tree when all its messages have gone down to the leaves. It is cut at the crew's depth, and each planned child is a job, however few
-/// its messages are; there is no more than one worker for each job. After an `Err` every worker has ended, and nothing of the tree is left.
+/// Flushes all messages of a tree down to the leaves. The tree is cut at the crew's depth, and each planned child is a job, with
+/// any number of messages. There is at most one worker for each job. After an `Err` every worker has ended, and the tree is
+/// dropped.
 pub fn drain<V: Merge + Send + Sync, G: Gate + Sync, T: Threads + Wait + Sync>(
     rt: &T,
     alloc: Global,

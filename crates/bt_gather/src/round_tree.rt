@@ -1,4 +1,4 @@
-//! The trees of a round. Each is sunk at once or cut into jobs, and a cut one is put together from what becomes of its jobs.
+//! The trees of a round. Each is sunk at once or cut into jobs. A tree that was cut is put together from the results of its jobs.
 ghost use Rattle.std.specs.Prelude.{◌≡◌, ◌≤◌, ◌<◌, ◌+◌, ◌++◌, [], IfOk, OnOk, drop, length, map, take, vec_capacity, vec_len};
 ghost use Rattle.std.specs.List.{All};
 ghost use Rattle.std.specs.Vec.Iter.{into_iter_items};
@@ -25,15 +25,15 @@ use bt_plan::{Holed, Job, Place, cut};
 use std::alloc::{AllocError, Global};
 use std::vec::IntoIter;
 
-/// The most trees of a round. The number of a tree is a `u16` in each place.
+/// The largest number of trees in a round. The number of a tree is a `u16` in each place.
 pub const MOST_TREES: usize = 65_536;
 
 /// A tree of a round, before its jobs are run.
 #[derive(Drop)]
 pub(crate) enum RoundTree<V: Merge> {
-    /// It has no jobs, and is sunk already.
+    /// A tree without jobs, which is already sunk.
     Whole(Tree<V>),
-    /// It is in pieces, and has so many jobs, and room for what becomes of them.
+    /// A tree in pieces, with the number of its jobs and a list with capacity for their results.
     Cut {
         holed: Holed<V>,
         jobs: usize,
@@ -41,25 +41,25 @@ pub(crate) enum RoundTree<V: Merge> {
     },
 }
 
-/// The trees of a round, and their jobs, one tree after the other.
+/// The trees of a round, and their jobs, tree by tree.
 #[derive(Drop)]
 pub(crate) struct RoundTrees<V: Merge> {
     pub(crate) trees: Vec<RoundTree<V>>,
     pub(crate) jobs: Vec<ShapedJob<V>>,
-    /// How many messages the packets of the trees that are cut have.
+    /// The number of messages in the packets of the trees that are cut.
     pub(crate) messages: usize,
-    /// Room for what becomes of the trees.
+    /// An empty list with capacity for the resulting trees.
     pub(crate) room: Vec<Tree<V>>,
 }
 
-/// Says that a tree has its shape, which is known of each tree, but in a contract only where the tree is looked at.
+/// Gives the fact that a tree has its shape. It holds for each tree, but a contract gets it only from a call on the tree.
 pub(crate) fn has_shape<V: Merge>(tree: &Tree<V>)
     ensures { HasShape (weigh_of V.terms) tree.now.0 tree.now.1 }
 {
     let _root = tree.walk();
 }
 
-// The jobs, each with the shape of its tree.
+// The jobs with the shape of their tree.
 fn shaped_jobs<V: Merge>(
     alloc: Global,
     shape: Shape,
@@ -74,7 +74,7 @@ fn shaped_jobs<V: Merge>(
     Ok(found)
 }
 
-/// A tree that is cut, and its jobs.
+/// Cuts a tree. Returns the tree in pieces and its jobs.
 pub(crate) fn cut_tree<V: Merge>(
     alloc: Global,
     number: u16,
@@ -103,7 +103,7 @@ pub(crate) fn cut_tree<V: Merge>(
     ))
 }
 
-// A tree of a round with its packet, and its jobs. One whose packet is smaller than the grain has none, and is sunk at once.
+// A tree of a round with its packet, and its jobs. If its packet is smaller than the grain, it is sunk at once and has no jobs.
 fn round_tree<V: Merge>(
     alloc: Global,
     number: u16,
@@ -124,7 +124,7 @@ fn round_tree<V: Merge>(
     cut_tree(alloc, number, tree, packet, depth, Mode::Absorb)
 }
 
-// How many of the messages of its packet count for a tree of a round: all of them if it is cut.
+// The number of messages in the packet of a tree if the tree is cut, or 0.
 fn messages_to_cut<V: Merge>(tree: &RoundTree<V>, messages: usize) -> usize {
     match tree {
         RoundTree::Whole(_) => 0,
@@ -132,7 +132,7 @@ fn messages_to_cut<V: Merge>(tree: &RoundTree<V>, messages: usize) -> usize {
     }
 }
 
-/// The trees of a round, each with its packet, numbered from the first number on.
+/// The trees of a round with their packets, numbered from `first` on.
 pub(crate) fn round_trees<V: Merge>(
     alloc: Global,
     first: usize,
@@ -167,7 +167,7 @@ pub(crate) fn round_trees<V: Merge>(
     })
 }
 
-// The next pieces, in a list that has room for them.
+// The next pieces, in an empty list whose capacity suffices.
 fn next_pieces<V: Merge>(
     pieces: &mut IntoIter<(Place, Siblings<V>)>,
     count: usize,
@@ -188,7 +188,7 @@ fn next_pieces<V: Merge>(
     next
 }
 
-// The tree that a tree in pieces becomes when each hole is filled.
+// The tree in pieces with each hole filled, as one tree.
 fn filled_tree<V: Merge>(
     alloc: Global,
     holed: Holed<V>,
@@ -204,7 +204,7 @@ fn filled_tree<V: Merge>(
     Ok(crown(alloc, shape, siblings)?)
 }
 
-/// What a tree of a round becomes with the next pieces.
+/// A tree of a round, put together with the next pieces.
 pub(crate) fn whole_tree<V: Merge>(
     alloc: Global,
     tree: RoundTree<V>,
@@ -223,7 +223,7 @@ pub(crate) fn whole_tree<V: Merge>(
     }
 }
 
-/// What the trees of a round become with these pieces, one tree after the other, in a list that has room for them.
+/// The trees of a round, put together with these pieces, tree by tree, in an empty list whose capacity suffices.
 pub(crate) fn whole_trees<V: Merge>(
     alloc: Global,
     trees: Vec<RoundTree<V>>,

@@ -1,4 +1,4 @@
--- What becomes of the jobs of a cut can fill it.
+-- The results of the jobs of a cut can fill it.
 use Rattle.std.proofs.Common.{◌≡◌, ◌&&◌, T, List, [], ◌∷◌, ◌++◌, map, ap, subst, sym, refl, ◌∙◌}
 use Rattle.std.proofs.lemmas.List.{map-append}
 use Rattle.std.specs.FinMap.{is_sorted}
@@ -28,7 +28,7 @@ module _ {V M H G : Type 0} (answer : H → G) where
         ap (λ z. z ++ holes_below (with_holes_below answer hs)) (holes-with_holes h) ∙ ap (λ z. map answer (holes h) ++ z) (below-with_holes hs) ∙ sym (map-append answer (holes h) (holes_below hs))
 
 module _ {V M : Type 0} where
-  -- the same places, beside jobs or beside themselves
+  -- the same places, with jobs or with themselves
   below-same : (place : Place) (jobs : List (Job V M)) → below_all node_place_cmp place (map (λ job. (job.place, job)) jobs) ≡ below_all node_place_cmp place (map (λ p. (p, p)) (map hole_of jobs))
   below-same place [] = refl
   below-same place (job ∷ jobs) = ap (λ b. is_lt (node_place_cmp place job.place) && b) (below-same place jobs)
@@ -39,7 +39,7 @@ module _ {V M : Type 0} where
       ap (λ b. b && is_sorted node_place_cmp (map (λ job. (job.place, job)) jobs)) (below-same job.place jobs)
       ∙ ap (λ b. below_all node_place_cmp job.place (map (λ p. (p, p)) (map hole_of jobs)) && b) (sorted-same jobs)
 
-  -- a tree that is cut can be filled by pieces that have at the place of each job what becomes of it, or nothing
+  -- a tree that is cut can be filled with pieces that have the result of each job at its place, or nothing
   pub cut-fillable : (meaning : Meaning V M) (shape : Shape) → IsRoomy shape → (c : Pieced V M) → StandInHoles meaning.weigh shape c → PlacesRise c → (pieces : Pieces V M) →
       All (Answers meaning shape pieces) c.jobs → IsFillable meaning.weigh shape c.holed pieces
   cut-fillable meaning shape roomy c stand rise pieces all = record {

@@ -17,7 +17,7 @@ use Rattle.bt_gather.specs.Misfits.{AreRisingPlaces}
 
 -- ---- two places
 
--- what a place is ordered by
+-- the numbers by which a place is ordered
 abbrev numbers : Place → Key
 numbers p = p.tree ∷ p.path
 
@@ -32,7 +32,7 @@ total_places = record {
   congr = λ p q r. total_keys.congr (numbers p) (numbers q) (numbers r);
 }
 
--- places that tie are one
+-- places that tie are equal
 pub same_place : (p q : Place) → node_place_cmp p q ≡ Equal → p ≡ q
 unfolding place_by
 same_place p q e = ap place_by (slice_cmp-IsAntisymmetric nat_cmp-IsAntisymmetric (numbers p) (numbers q) e)
@@ -56,7 +56,7 @@ below_parts p h hs b = let parts = and_parts _ _ b in (is_less _ parts.0, parts.
 pub rising_parts : (h : Place) (hs : List Place) → AreRisingPlaces (h ∷ hs) → IsBelow h hs × AreRisingPlaces hs
 rising_parts h hs r = let parts = and_parts _ _ (true_t _ r) in (parts.0, t_true _ parts.1)
 
--- a place that is before all is before the one that stands here
+-- a place that is before all is before the one at this position
 pub below_one : (p : Place) (hs : List Place) (i : ℕ) (q : Place) → IsBelow p hs → slice_get hs i ≡ Some q → node_place_cmp p q ≡ Less
 below_one p [] i q b at = absurd (none-some q at)
 below_one p (h ∷ hs) zero q b at = ap (node_place_cmp p) (sym (same_Some h q at)) ∙ (below_parts p h hs b).0
@@ -65,7 +65,7 @@ below_one p (h ∷ hs) (suc i) q b at = below_one p hs i q (below_parts p h hs b
 -- ---- a list of values, one for each place
 
 module _ {X : Type 0} (f g : Place → X) (v : X) (p : Place) (same : (h : Place) → g h ≡ cond (is_eq (node_place_cmp h p)) v (f h)) where
-  -- places past the one of which the value changes
+  -- places past the one whose value changes
   unchanged : (hs : List Place) → IsBelow p hs → map f hs ≡ map g hs
   unchanged [] b = refl
   unchanged (h ∷ hs) b =

@@ -1,4 +1,4 @@
--- Keys that are shared by portions.
+-- Keys that are divided among portions.
 use Rattle.std.specs.Borrow.{Bor}
 use Rattle.std.specs.Prelude.{ℕ, suc, cond, List, [], ◌∷◌, map}
 use Rattle.std.specs.List.{flat_map}
@@ -8,7 +8,7 @@ use Rattle.bt_node.specs.Parts.{AreRising}
 use Rattle.bt_node.specs.Portions.{Portion, owns, value_in}
 
 module _ {V M : Type 0} where
-  -- how many of the first keys a portion owns
+  -- the number of keys at the front that a portion owns
   abbrev pub owned_count : Portion V M → List Key → ℕ
   owned_count p [] = 0
   owned_count p (k ∷ ks) = cond (owns k p) (suc (owned_count p ks)) 0
@@ -17,10 +17,10 @@ module _ {V M : Type 0} where
   abbrev pub HasRisingKeys : Portion V M × Bor (List (Bor Key)) → Type 0
   HasRisingKeys job = AreRising (map (λ k. k.now) job.1.now)
 
-  -- what the portion of a job has at the keys of the job
+  -- the values of the portion of a job at the keys of the job
   abbrev pub values_there : (Option V → M → Option V) → Portion V M × Bor (List (Bor Key)) → List (Option V)
   values_there effect job = map (λ k. value_in effect k.now job.0) job.1.now
 
-  -- that of jobs, one after the other
+  -- the values of jobs, one after the other
   abbrev pub values_of_jobs : (Option V → M → Option V) → List (Portion V M × Bor (List (Bor Key))) → List (Option V)
   values_of_jobs effect = flat_map (values_there effect)

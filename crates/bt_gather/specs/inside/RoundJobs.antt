@@ -1,4 +1,4 @@
--- The jobs of a round, and what becomes of them.
+-- The jobs of a round, and their results.
 use Rattle.std.specs.Prelude.{List, map}
 use Rattle.std.specs.List.{All}
 use Rattle.bt_messages.specs.declared.message.Message.{Message}
@@ -14,7 +14,7 @@ use Rattle.bt_gather.specs.declared.flush_work.ShapedJob.{ShapedJob}
 use Rattle.bt_gather.specs.Views.{pieces_of}
 
 module _ {V D : Type 0} where
-  -- a job, with the shape of its tree
+  -- a job with the shape of its tree
   abbrev pub shaped : Shape → code_job.Job V D → ShapedJob V D
   shaped shape job = record { shape = shape; job = job }
 
@@ -26,10 +26,10 @@ module _ {V D : Type 0} where
   AreRunnable = All IsRunnable
 
   module _ (meaning : Meaning V (Message V D)) where
-    -- what becomes of a job, at its place
+    -- the result of a job, at its place
     abbrev pub piece_of : ShapedJob V D → code_place.Place × Siblings V (Message V D)
     piece_of shaped = (shaped.job.place, outcome meaning shaped.shape (job_of shaped.job))
 
-    -- what becomes of jobs, each at its place
+    -- the results of jobs, each at its place
     abbrev pub all_pieces : List (ShapedJob V D) → Pieces V (Message V D)
     all_pieces jobs = pieces_of (map piece_of jobs)

@@ -1,4 +1,4 @@
--- The trees of a round: their jobs, and what they become with the pieces that these become.
+-- The trees of a round: their jobs, and the trees put together from the results of these.
 use Rattle.std.specs.Prelude.{◌≡◌, ◌≤◌, ℕ, List, [], ◌∷◌, Vec, drop, length, take, vec_capacity}
 use Rattle.std.specs.Global.{Global}
 use Rattle.std.specs.declared.option.Option.TheVariants.{None}
@@ -16,22 +16,22 @@ use Rattle.bt_gather.specs.Laws.{IsFillable}
 use Rattle.bt_gather.specs.Misfits.{misfit}
 use Rattle.bt_gather.specs.inside.RoundJobs.{AreRunnable, all_pieces}
 
--- an empty list with room for so many
+-- an empty list with capacity for this many
 abbrev pub IsEmptyWithRoom : {X : Type 0} → Vec X Global → ℕ → Type 0
 IsEmptyWithRoom room count = (room.items ≡ []) × (count ≤ vec_capacity room)
 
 module _ {V D : Type 0} where
-  -- how many jobs it has
+  -- the number of its jobs
   abbrev pub job_count : RoundTree V D → ℕ
   job_count (Whole tree) = 0
   job_count (Cut holed jobs room) = jobs
 
-  -- the tree when these pieces have come
+  -- the tree after these pieces are filled in
   abbrev pub tree_with : RoundTree V D → Pieces V (Message V D) → Shape × Tree V (Message V D)
   tree_with (Whole tree) pieces = tree
   tree_with (Cut holed jobs room) pieces = (holed.0, crown holed.0 (filled holed.0 holed.1 pieces))
 
-  -- there is one piece for each job, with room for all, and nothing is wrong with them
+  -- there is one piece for each job, with capacity for all, and they fit
   pub record IsCutFilledBy (weigh : Key × Message V D → ℕ) (holed : Shape × Holed V (Message V D) Place) (jobs : ℕ) (room : Vec (code_place.Place × Siblings V (Message V D)) Global)
       (pieces : Pieces V (Message V D)) : Type 0 where
     pub count : length pieces ≡ jobs
@@ -39,7 +39,7 @@ module _ {V D : Type 0} where
     pub fillable : IsFillable weigh holed.0 holed.1 pieces
     pub fit : misfit holed.1 pieces ≡ None
 
-  -- these are the pieces that become of its jobs
+  -- these pieces are the results of its jobs
   abbrev pub IsFilledBy : (Key × Message V D → ℕ) → RoundTree V D → Pieces V (Message V D) → Type 0
   IsFilledBy weigh (Whole tree) pieces = pieces ≡ []
   IsFilledBy weigh (Cut holed jobs room) pieces = IsCutFilledBy weigh holed jobs room pieces
@@ -54,13 +54,13 @@ module _ {V D : Type 0} where
   AreFilledBy weigh (tree ∷ trees) pieces = IsFilledBy weigh tree (take (job_count tree) pieces) × AreFilledBy weigh trees (drop (job_count tree) pieces)
 
   module _ (meaning : Meaning V (Message V D)) where
-    -- these are its jobs: with what becomes of them it is that tree
+    -- these are its jobs: with their results it is that tree
     pub record AreJobsOf (tree : RoundTree V D) (jobs : List (ShapedJob V D)) (whole : Shape × Tree V (Message V D)) : Type 0 where
       pub runnable : AreRunnable jobs
       pub fill : IsFilledBy meaning.weigh tree (all_pieces meaning jobs)
       pub give : tree_with tree (all_pieces meaning jobs) ≡ whole
 
-    -- these are their jobs, one tree after the other: with what becomes of them they are those trees
+    -- these are their jobs, tree by tree: with their results they are those trees
     pub record AreJobsOfAll (trees : List (RoundTree V D)) (jobs : List (ShapedJob V D)) (whole : List (Shape × Tree V (Message V D))) : Type 0 where
       pub runnable : AreRunnable jobs
       pub fill : AreFilledBy meaning.weigh trees (all_pieces meaning jobs)

@@ -3,7 +3,7 @@ use Rattle.std.specs.Vec.Iter.{into_iter_len}
 use Rattle.bt_gather.specs.declared.either.Either.TheVariants.{Rows, Entries}
 use Rattle.bt_gather.proofs.either.one_list.Given as goal
 
--- the list so far, and then what is left
+-- the list so far, and then the items that are left
 abbrev pub invariant-loop-row : goal.invariant-loop-row
 invariant-loop-row g l = record {
   list : l.list.items ++ map Rows l.row-iterator.rest.items ≡ map Rows l.fn.rows.items;

@@ -2,7 +2,7 @@ use Rattle.std.proofs.Common.{◌≡◌, ◌+◌, ◌≤◌, ◌++◌, length, v
 use Rattle.bt_gather.specs.inside.Eithers.{entries_in, rows_in}
 use Rattle.bt_gather.proofs.either.two_lists.Given as goal
 
--- both lists so far, and then what is left
+-- both lists so far, and then the items that are left
 abbrev pub invariant-loop-either : goal.invariant-loop-either
 invariant-loop-either g l = record {
   rows : l.rows.items ++ rows_in l.either-iterator.rest.items ≡ rows_in l.fn.list.items;

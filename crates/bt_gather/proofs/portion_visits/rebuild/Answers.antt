@@ -10,7 +10,7 @@ use Rattle.bt_node.proofs.offered.Portions.{between-all, copied_all, true_t}
 use Rattle.bt_node.proofs.offered.ShapedTrees.{holds-sorted}
 use Rattle.bt_gather.proofs.portion_visits.rebuild.Goals as goal
 
--- rows that are copied from first to last, none of them before
+-- rows that are copied from the first to the last, with no copies before
 all_copied : {V : Type 0} (none copies rows held : Rows V) → none ≡ [] → copies ≡ fold (λ all row. all ++ row ∷ []) none (between None None held) → rows ≡ copies → rows ≡ held
 all_copied none copies rows held none_is copies_are rows_are = rows_are ∙ copies_are ∙ copied_all none (between None None held) none_is ∙ between-all held
 

@@ -9,7 +9,7 @@ use Rattle.bt_gather.specs.declared.round_tree.TheConstants.{MOST_TREES}
 use Rattle.bt_gather.specs.inside.RoundTrees.{AreFilledBy, IsEmptyWithRoom, trees_with}
 use Rattle.bt_gather.proofs.round_tree.round_trees.Given as goal
 
--- what the trees so far become, and then those that are left
+-- the resulting trees so far, and then those that are left
 abbrev pub invariant-loop-tree : goal.invariant-loop-tree
 invariant-loop-tree g l =
     let meaning = meaning_of g.V.Merge.terms in record {

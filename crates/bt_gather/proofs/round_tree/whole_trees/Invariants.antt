@@ -5,7 +5,7 @@ use Rattle.bt_gather.specs.Views.{pieces_of}
 use Rattle.bt_gather.specs.inside.RoundTrees.{AreFilledBy, trees_with}
 use Rattle.bt_gather.proofs.round_tree.whole_trees.Given as goal
 
--- the trees so far, and then what those that are left become with the pieces that are left
+-- the trees so far, and then those that are left with the pieces that are left
 abbrev pub invariant-loop-tree : goal.invariant-loop-tree
 invariant-loop-tree g l = record {
   whole : l.whole.items ++ trees_with l.tree-iterator.rest.items (pieces_of (into_iter_items l.pieces)) ≡ trees_with l.fn.trees.items (pieces_of l.fn.pieces.items);
