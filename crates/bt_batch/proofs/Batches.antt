@@ -1,4 +1,4 @@
--- The refusals of lines one behind the other, and what lines spell one behind the other.
+-- The refusals and the messages of concatenated lists of lines.
 use Rattle.std.proofs.Common.{ℕ, zero, suc, List, [], ◌∷◌, ◌++◌, ◌+◌, ◌<◌, ◌≡◌, true, false, drop, length, get_or, refl, sym, ap, ◌∙◌, arith, Option, Some, None, unwrap_or, if◌then◌else◌}
 use Rattle.std.proofs.lemmas.Bool.Decides.{nat_tests}
 use Rattle.std.proofs.lemmas.List.{drop_more}
@@ -9,7 +9,7 @@ use Rattle.bt_row.specs.Schemas.{Schema}
 use Rattle.bt_rowtype.specs.declared.item.Item.{Item}
 use Rattle.bt_value.specs.declared.refusal.Refusal.{Refusal}
 
--- ---- the least refusal of lists one behind the other
+-- ---- the least refusal of concatenated lists
 
 pub least_from-append : (found : Option Refusal) (xs ys : List Refusal) → least_from found (xs ++ ys) ≡ least_from (least_from found xs) ys
 least_from-append found [] ys = refl
@@ -22,7 +22,7 @@ lesser_chain a b c p q = grind (arith, nat_tests)
 not_lesser_chain : (a b c : Refusal) → is_lesser b a ≡ false → is_lesser c b ≡ false → is_lesser c a ≡ false
 not_lesser_chain a b c p q = grind (arith, nat_tests)
 
--- the lesser of three does not hang on which two are compared first
+-- the least of three doesn't depend on which two are compared first
 lesser-assoc : (a b c : Refusal) → lesser (lesser a b) c ≡ lesser a (lesser b c)
 lesser-assoc a b c = elim (is_lesser b a) as (λ p. is_lesser b a ≡ p → lesser (if p then b else a) c ≡ lesser a (lesser b c)) [
   | true ↦ λ p. elim (is_lesser c b) as (λ q. is_lesser c b ≡ q → (if q then c else b) ≡ lesser a (if q then c else b)) [
@@ -52,12 +52,12 @@ still_found : (x : Refusal) (xs : List Refusal) → least_from (Some x) xs ≡ N
 still_found x [] e = none-some x (sym e)
 still_found x (y ∷ ys) e = still_found (lesser x y) ys e
 
--- where there is no least one there is none
+-- if there is no least one, there is none
 pub none_at_all : (xs : List Refusal) → least xs ≡ None → xs ≡ []
 none_at_all [] e = refl
 none_at_all (x ∷ xs) e = absurd (still_found x xs e)
 
--- ---- lines one behind the other
+-- ---- concatenated lines
 
 pub read_batch-append : (schema : Schema) (item : ℕ) (lines more : List Item) → read_batch schema item (lines ++ more) ≡ read_batch schema item lines ++ read_batch schema (item + length lines) more
 read_batch-append schema item [] more = ap (λ i. read_batch schema i more) (omega arith)
@@ -65,7 +65,7 @@ read_batch-append schema item (line ∷ lines) more =
     ap (λ reads. read_message schema item line ∷ reads)
     (read_batch-append schema (item + 1) lines more ∙ ap (λ i. read_batch schema (item + 1) lines ++ read_batch schema i more) (omega arith))
 
--- the lines from a place on are the one there, and those behind it
+-- the lines from a place on are the one there, and those after it
 pub read_next : (schema : Schema) (before place : ℕ) (lines : List Item) (d : Item) → place < length lines →
     read_batch schema (before + place + 1) (drop place lines) ≡ read_message schema (before + place + 1) (get_or lines place d) ∷ read_batch schema (before + (place + 1) + 1) (drop (place + 1) lines)
 read_next schema before place lines d within =

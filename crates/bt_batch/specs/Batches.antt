@@ -1,4 +1,4 @@
--- What the records of a batch spell.
+-- The messages that the records of a batch encode.
 use Rattle.std.specs.Prelude.{ℕ, ◌+◌, nat_lt, List, [], ◌∷◌, ◌++◌, length, take, Result}
 use Rattle.std.specs.List.{filter_map}
 use Rattle.std.specs.Result.{result_err, result_ok}
@@ -23,7 +23,7 @@ KeyedMessage = Key × Message (List Value) Change
 abbrev pub RowMessages : Type 0
 RowMessages = List KeyedMessage
 
--- the values of the key that fields spell in a table, or their refusal as this item
+-- the values of the key that fields encode in a table, or their refusal as this item
 abbrev pub read_key : Schema → ℕ → List (List ℕ) → Result (List Value) Refusal
 read_key schema item fields = read_as (take schema.keys schema.columns) item fields
 
@@ -39,13 +39,13 @@ del_of key = (code_of key, message.Del)
 abbrev pub ups_of : Schema → List Value × List Op → KeyedMessage
 ups_of schema upsert = (code_of upsert.0, message.Ups (record { base = default_row schema upsert.0; ops = upsert.1 }))
 
--- the message that a record spells in a table, or its refusal as this item
+-- the message that a record encodes in a table, or its refusal as this item
 abbrev pub read_message : Schema → ℕ → Item → Result KeyedMessage Refusal
 read_message schema item (Put fields) = map_ok (put_of schema.keys) (read_as schema.columns item fields)
 read_message schema item (Del fields) = map_ok del_of (read_key schema item fields)
 read_message schema item (Ups fields) = map_ok (ups_of schema) (upsert_as schema item fields)
 
--- what the records of a batch spell, counted from an item on
+-- the messages that the records of a batch encode, or their refusals, counted from an item on
 abbrev pub read_batch : Schema → ℕ → List Item → List (Result KeyedMessage Refusal)
 read_batch schema item [] = []
 read_batch schema item (line ∷ lines) = read_message schema item line ∷ read_batch schema (item + 1) lines
@@ -54,10 +54,10 @@ read_batch schema item (line ∷ lines) = read_message schema item line ∷ read
 abbrev pub messages_of : Schema → List Item → RowMessages
 messages_of schema items = filter_map result_ok (read_batch schema 1 items)
 
--- the most messages of a batch
+-- the largest number of messages in a batch
 abbrev pub most_messages : ℕ
 most_messages = 65536
 
--- the refusals that apply to a batch: those of its records, and that of too many
+-- the refusals that apply to a batch: those of its records, and that of too many messages
 abbrev pub batch_refusals : Schema → List Item → List Refusal
 batch_refusals schema items = filter_map result_err (read_batch schema 1 items) ++ one_if (nat_lt most_messages (length items)) TooMany

@@ -1,3 +1,3 @@
--- Definitions that only private clauses cite: pieces of a batch, and what each is read as.
+-- Definitions that only private clauses cite: pieces of a batch, and the result of reading each.
 pub mod Pieces
 pub mod Ranges

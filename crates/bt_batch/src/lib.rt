@@ -1,14 +1,14 @@
-//! Batches: the records of a batch are typed and sorted in pieces by a crew, and the pieces are merged by ranges of keys.
+//! Batches: a crew types and sorts the records of a batch in pieces, and merges the pieces by ranges of keys.
 //!
-//! Each line of a batch encodes a message: a put of a row, or a del or an upsert of the row of a key. [`read_packet`] gives the packet of a batch, which
-//! is what the trees take. The lines are cut into pieces, at most one for each worker and at most one for each four grains of lines. A worker types the
-//! lines of its piece and sorts their messages by key, so that each piece is a packet. Then [`merged_pieces`], which serves indexes too, divides the keys into ranges, and a worker
-//! merges what the packets have in its range. The results follow each other in one packet. [`read_packet_alone`] is the same without threads: the
-//! whole batch is one piece.
+//! Each line of a batch encodes a message: a put of a row, or a del or an upsert of the row of a key. [`read_packet`] returns the packet of a
+//! batch, which the trees take. The lines are divided into pieces, at most one for each worker and at most one for every four grains of lines.
+//! A worker types the lines of its piece and sorts their messages by key, so that each piece is a packet. Then [`merged_pieces`] divides the
+//! keys into ranges, and a worker merges the messages of all packets in its range. The results follow each other in one packet. Indexes use
+//! [`merged_pieces`] too. [`read_packet_alone`] does the same without threads: the whole batch is one piece.
 //!
-//! However the lines are cut and whoever works, the result is the same: the messages sorted by key, those of one key in the order of their lines; or
-//! the least refusal that applies. Those of lines are counted by the place of the line in the batch, and `TooMany` is that of more than
-//! [`MOST_MESSAGES`] lines.
+//! The result doesn't depend on the division into pieces or on the workers. It is the messages sorted by key, those of one key in the order of
+//! their lines, or else the least refusal that applies. The refusal of a line has the number of the line in the batch. `TooMany` is the refusal
+//! of more than [`MOST_MESSAGES`] lines.
 //!
 //! ```text
 //! let crew = Crew::new(4, 2, 64, NoGate)?;
@@ -16,7 +16,7 @@
 //! for (key, message) in packet.iter() { .. }                                  // by rising key
 //! ```
 //!
-//! `specs` has the definitions: `Batches` says which messages records encode, and why they are refused.
+//! The definitions are in `specs`: `Batches` says which messages records encode, and why they are refused.
 #![tactic(auto)]
 
 mod batch_packet;

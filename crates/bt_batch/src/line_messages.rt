@@ -1,4 +1,4 @@
-//! The messages that the records of a batch spell.
+//! The messages that the records of a batch encode.
 ghost use Rattle.std.specs.Prelude.{◌≡◌, ◌+◌, ◌<◌, ◌^◌, ◌∷◌, [], Some, IfOk, length};
 ghost use Rattle.std.specs.List.{filter_map};
 ghost use Rattle.std.specs.Result.{result_err, result_ok};
@@ -13,10 +13,10 @@ use bt_rowtype::{Item, RecordReader};
 use bt_value::{Collected, Refusal, least_with};
 use std::alloc::{AllocError, Global};
 
-/// The most messages of a batch.
+/// The largest number of messages in a batch.
 pub const MOST_MESSAGES: usize = 65_536;
 
-// The message that a line spells, or its refusal as this item.
+// The message that a line encodes, or its refusal as this item.
 fn read_message(
     alloc: Global,
     reader: &mut RecordReader,
@@ -44,7 +44,7 @@ fn read_message(
     }
 }
 
-/// What lines of a batch spell that stand behind so many others: their messages, and the least refusal if one of them is refused.
+/// The messages of lines of a batch that follow `before` others, and the least refusal if a line is refused.
 pub(crate) fn read_lines(
     alloc: Global,
     schema: &Schema,
@@ -64,7 +64,7 @@ pub(crate) fn read_lines(
     Ok(reading)
 }
 
-// The refusal of a line as this item, if it spells no message.
+// The refusal of a line as this item, if it encodes no message.
 fn refusal_of(
     alloc: Global,
     reader: &mut RecordReader,
@@ -84,8 +84,7 @@ fn refusal_of(
     }
 }
 
-/// The refusal of a batch that has too many lines: no message is kept, and the least of the lines' refusals goes before the
-/// limit's where it is less.
+/// The refusal of a batch with too many lines. It is the least of the refusals of the lines and of `TooMany`. No message is kept.
 pub(crate) fn refuse_many(
     alloc: Global,
     schema: &Schema,
