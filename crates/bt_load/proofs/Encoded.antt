@@ -1,4 +1,4 @@
--- Keys that are made each by itself.
+-- Keys that are encoded one by one.
 use Rattle.std.proofs.Common.{◌≡◌, ℕ, suc, ◌+◌, ◌<◌, List, [], ◌∷◌, get_or, length, refl, ap, ◌∙◌, arith}
 use Rattle.bt_value.specs.declared.value.Value.{Value}
 use Rattle.bt_keycode.specs.Standing.{row_key}
@@ -23,7 +23,7 @@ keys_from keys place (row ∷ rows) (p ∷ placed) long are =
     in
     (λ i. first i ∷ others i)
 
--- keys of which none is empty are those of the rows
+-- if no key is empty, they are those of the rows
 pub all_keys : (keys : ℕ) (rows : List (List Value)) (placed : List Placed) → length placed ≡ length rows → AreKeysOrNone keys 0 rows placed → HaveKeys placed
     → placed ≡ placed_from keys 0 rows
 all_keys keys rows placed long are some =

@@ -1,4 +1,4 @@
--- The map of rows: the pairs in the order of their keys if no key is there twice, else the first row whose key an earlier one has.
+-- The map of rows: the pairs in the order of their keys if no key occurs twice, or else the first row whose key an earlier one has.
 use Rattle.std.proofs.Common.{◌≡◌, ℕ, zero, suc, ◌+◌, ◌<◌, ◌≤◌, Bool, true, false, cond, T, List, [], ◌∷◌, get_or, length, refl, sym, ap, ◌∙◌, inl, inr, true≢false, arith, Option, Some, None, Ok, Err}
 use Rattle.std.specs.Prelude.{drop, is_some, option_map, take}
 use Rattle.std.proofs.lemmas.Bool.Decides.{eqb_tells}
@@ -21,14 +21,14 @@ use Rattle.bt_keycode.proofs.offered.Truths.{not_true, t_first, t_second, true_t
 use Rattle.bt_keycode.specs.Standing.{RowMap}
 use Rattle.bt_load.specs.Maps.{first_repeat, is_repeated, key_at, keyed_rows, map_by_key, map_of}
 
--- whether two keys are one
+-- whether two keys are equal
 abbrev pub is_key : Key → Key → Bool
 is_key = eq_by_cmp key_cmp
 
 pub is_itself : (k : Key) → is_key k k ≡ true
 is_itself k = ap is_eq (tied_itself total_keys k)
 
--- ---- how many times a key is there
+-- ---- how many times a key occurs
 
 abbrev pub count : Key → RowMap → ℕ
 count k = sum_by (λ p. cond (is_key k p.0) 1 0)
@@ -43,7 +43,7 @@ none_left : (b : Bool) (n : ℕ) → cond b 1 0 + n ≡ 0 → (b ≡ false) × (
 none_left true n e = absurd (omega (arith, e))
 none_left false n e = (refl, omega (arith, e))
 
--- what is not there is not found
+-- a key that doesn't occur isn't found
 pub find-absent : (k : Key) (ps : RowMap) → count k ps ≡ 0 → find key_cmp k ps ≡ None
 find-absent k [] e = refl
 find-absent k (p ∷ ps) e =
@@ -56,7 +56,7 @@ pub map_by_key-sorted : (ps : RowMap) → T (is_sorted key_cmp (map_by_key ps))
 map_by_key-sorted [] = tt
 map_by_key-sorted (p ∷ ps) = is_sorted-put key_cmp total_keys p.0 p.1 (map_by_key ps) (map_by_key-sorted ps)
 
--- one finds in the map what one finds in the pairs
+-- the map has the same value at each key as the pairs
 find-map_by_key : (q : Key) (ps : RowMap) → find key_cmp q (map_by_key ps) ≡ find key_cmp q ps
 find-map_by_key q [] = refl
 find-map_by_key q (p ∷ ps) = find-put key_cmp total_keys q p.0 p.1 (map_by_key ps) ∙ ap (cond (is_key q p.0) (Some p.1)) (find-map_by_key q ps)
@@ -101,7 +101,7 @@ found_at q (p ∷ ps) row (suc n) few within is =
 pub contained_find : (q : Key) (ps : RowMap) (row : List Value) → count q ps ≤ 1 → Contains ps (q, row) → find key_cmp q ps ≡ Some row
 contained_find q ps row few at = found_at q ps row at.0 few at.1 at.2
 
--- what is found does not depend on the order
+-- the result of a search doesn't depend on the order
 find_moved : (q : Key) (ps qs : RowMap) → IsPermutation ps qs → count q ps ≤ 1 → find key_cmp q ps ≡ find key_cmp q qs
 find_moved q ps qs moved few = by_both (find key_cmp q ps) (find key_cmp q qs) refl refl
   where
@@ -119,7 +119,7 @@ find_moved q ps qs moved few = by_both (find key_cmp q ps) (find key_cmp q qs) r
     by_both (Some row) b e f = e ∙ sym (there row e)
     by_both None (Some row) e f = back row f ∙ sym f
 
--- a key below others is not there
+-- a key smaller than others doesn't occur
 count-below : (k : Key) (ps : RowMap) → T (below_all key_cmp k ps) → count k ps ≡ 0
 count-below k [] below = refl
 count-below k (p ∷ ps) below =
@@ -164,7 +164,7 @@ first_passes test start (suc n) place from below passes fails = elim (eqb_tells 
       ∙ first_passes test (start + 1) n place (omega (arith, later)) (omega (arith, below)) passes fails)
 ]
 
--- ---- no key is there twice
+-- ---- no key occurs twice
 
 none_repeated : (ps : RowMap) → ((q : Key) → count q ps ≤ 1) → first_repeat ps ≡ None
 none_repeated ps few = none_passes (is_repeated ps) 0 (length ps) (λ k from below. ap is_some (find-absent (key_at ps k) (take k ps) (absent k (omega (arith, below)))))
@@ -191,7 +191,7 @@ sorted_is_map keys rows pairs moved sorted =
         let once = count-sorted q pairs sorted in
         omega (arith, same, once)
 
--- ---- a key is there twice
+-- ---- a key occurs twice
 
 found_for : (q : Key) (ps : RowMap) (j : ℕ) (d : Key × List Value) → j < length ps → (get_or ps j d).0 ≡ q → is_some (find key_cmp q ps) ≡ true
 found_for q [] j d within is = absurd (omega (arith, within))

@@ -1,4 +1,4 @@
--- The places of keys that are sorted, each once: what `with_rows` stands on, and that of two equal keys one place is the earlier.
+-- The places of sorted keys, each once, for `with_rows`. Of two equal keys, one place comes first.
 use Rattle.std.proofs.Common.{◌≡◌, ℕ, zero, suc, ◌+◌, ◌<◌, ◌≤◌, List, [], ◌∷◌, get_or, length, refl, ◌∙◌, arith, subst}
 use Rattle.std.proofs.lemmas.List.Sorted.{IsPermutation-map}
 use Rattle.std.specs.List.Sorted.{IsPermutation}
@@ -21,7 +21,7 @@ distinct_from keys place bound (row ∷ rows) far =
     (none_before keys (place + 1) rows place (omega arith))
     (distinct_from keys (place + 1) bound rows (omega (arith, far)))
 
--- the same of what a sort makes of them
+-- the same for the keys after a sort
 pub distinct_placed : (keys : ℕ) (rows : List (List Value)) (placed : List Placed) → IsPermutation (placed_from keys 0 rows) placed → AreDistinctBelow (length rows) (places_of placed)
 distinct_placed keys rows placed moved =
     distinct_moved (length rows) (places_of (placed_from keys 0 rows)) (places_of placed)

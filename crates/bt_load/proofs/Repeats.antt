@@ -1,4 +1,4 @@
--- Keys in order: where none repeats the one before it they strictly rise, and the least place of one that does is the first whose key an earlier place has.
+-- Keys in order: if none repeats the one before it, they strictly rise. The smallest place of one that does is the first whose key an earlier place has.
 use Rattle.std.proofs.Common.{◌≡◌, ◌≢◌, ℕ, zero, suc, ◌+◌, ◌-◌, ◌<◌, ◌≤◌, false, T, List, [], ◌∷◌, get_or, length, map, refl, sym, ap, ◌∙◌, subst, ◌⊎◌, inl, inr, min, ⊎_elim, true≢false, arith, Option, Some, None, Err}
 use Rattle.std.proofs.lemmas.Bool.{cases_lt, lt-ltb}
 use Rattle.std.proofs.lemmas.Bool.Decides.{eqb_tells}
@@ -28,7 +28,7 @@ use Rattle.bt_load.proofs.Maps.{refused_is_first}
 use Rattle.bt_load.proofs.Orders.{placed_before, placed_ranks}
 use Rattle.bt_load.proofs.Places.{distinct_placed, occurs_twice}
 
--- ---- what stands at a place
+-- ---- the item at a place
 
 pub length-placed_from : (keys place : ℕ) (rows : List (List Value)) → length (placed_from keys place rows) ≡ length rows
 length-placed_from keys place [] = refl
@@ -49,7 +49,7 @@ key-at keys rows n within =
     let f : List Value → Key × List Value = λ row. (row_key keys row, row) in
     ap (λ (p : Key × List Value). p.0) (get_or-map f rows n [] ([], []) within)
 
--- the keys with the rows at their places are the rows behind their keys
+-- the keys with the rows at their places are the rows with their keys
 pairs_from : (keys place : ℕ) (all rest : List (List Value)) → ((n : ℕ) → n < length rest → get_or all (place + n) [] ≡ get_or rest n []) → map (pair_at all) (placed_from keys place rest) ≡ keyed_rows keys rest
 pairs_from keys place all [] same = refl
 pairs_from keys place all (row ∷ rest) same =
@@ -100,9 +100,9 @@ rising_sorted : (f : Placed → List Value) (placed : List Placed) → Rise plac
 rising_sorted f [] up = tt
 rising_sorted f (p ∷ placed) up = t_both _ _ (first_below f p placed up) (rising_sorted f placed (rest_rises p placed up))
 
--- ---- the pairs that are given
+-- ---- the pairs of the result
 
--- the rows behind their keys, in the order of the keys
+-- the rows with their keys, in the order of the keys
 pub record AreSortedPairs (keys : ℕ) (rows : List (List Value)) (pairs : RowMap) : Type 0 where
   pub moved : IsPermutation (keyed_rows keys rows) pairs
   pub rising : T (is_sorted key_cmp pairs)
@@ -114,12 +114,12 @@ sorted_pairs keys rows placed pairs is moved up = subst (AreSortedPairs keys row
   rising = rising_sorted (λ p. get_or rows p.place []) placed up;
 })
 
--- ---- two next to each other in order
+-- ---- two neighbours in order
 
 not_less : (m n : ℕ) → is_lt (nat_cmp m n) ≡ false → n ≤ m
 not_less m n h = ⊎_elim (λ lt. absurd (true≢false (rw (lt-ltb m n lt) at h))) (λ ge. ge) (cases_lt m n)
 
--- what does not come before another one has no key before it
+-- an item that does not come before another has no smaller key
 not_before_key : (p q : Placed) → placed_before p q ≡ false → is_before p.key q.key ≡ false
 not_before_key p q h = by_order (key_cmp p.key q.key) h
   where
@@ -128,7 +128,7 @@ not_before_key p q h = by_order (key_cmp p.key q.key) h
     by_order Equal h = refl
     by_order Greater h = refl
 
--- of one key, places decide
+-- for equal keys, places decide
 not_before_place : (p q : Placed) → p.key ≡ q.key → placed_before p q ≡ false → q.place ≤ p.place
 not_before_place p q same h =
     let tie : key_cmp p.key q.key ≡ Equal = ap (λ k. key_cmp k q.key) same ∙ tied_itself total_keys q.key in
@@ -139,7 +139,7 @@ only_less Less e f = refl
 only_less Equal e f = absurd (true≢false e)
 only_less Greater e f = absurd (true≢false f)
 
--- where no key repeats the one before it, keys rise
+-- if no key repeats the one before it, keys rise
 pub rises : (placed : List Placed) → IsSorted placed_cmp placed → IsFirstRepeat placed (length placed) None → Rise placed
 rises placed up none k d within =
     let p = at placed k in
@@ -174,7 +174,7 @@ module _ (keys : ℕ) (rows : List (List Value)) (placed : List Placed) (moved :
   source : (n : ℕ) → n < length placed → IsPlaced (at placed n)
   source n within = All-get_or IsPlaced placed n _ within (All-permutation IsPlaced (placed_from keys 0 rows) placed moved all_placed)
 
-  -- where the key of a row stands in order
+  -- the position of the key of a row in order
   record Stood (k : ℕ) : Type 0 where
     n : ℕ
     within : n < length placed
@@ -198,7 +198,7 @@ module _ (keys : ℕ) (rows : List (List Value)) (placed : List Placed) (moved :
         key = ap (λ (p : Placed). p.key) is;
       }
 
-  -- a key that repeats the one before it is that of an earlier row too
+  -- a key that repeats the one before it is also that of an earlier row
   earlier_of : (n : ℕ) → Repeats placed n → (j : ℕ) × (j < (at placed n).place) × (row_key keys (get_or rows j []) ≡ row_key keys (get_or rows (at placed n).place []))
   earlier_of n repeat =
       let low : n - 1 < length placed = omega (arith, repeat.within) in
@@ -215,7 +215,7 @@ module _ (keys : ℕ) (rows : List (List Value)) (placed : List Placed) (moved :
       strictly : (j k : ℕ) → j ≤ k → j ≢ k → j < k
       strictly j k le other = omega (arith, le, other)
 
-  -- a row whose key an earlier one has repeats a key in order
+  -- if a row has the key of an earlier one, a key repeats in order
   repeats_for : (k j : ℕ) → k < length rows → j < k → row_key keys (get_or rows j []) ≡ row_key keys (get_or rows k []) → (n : ℕ) × Repeats placed n × ((at placed n).place ≡ k)
   repeats_for k j in_k below same =
       let late = stood k in_k in
@@ -239,7 +239,7 @@ module _ (keys : ℕ) (rows : List (List Value)) (placed : List Placed) (moved :
   pub repeat_within : (place : ℕ) → IsFirstRepeat placed (length placed) (Some place) → place < length rows
   repeat_within place found = subst (λ k. k < length rows) found.0.2 (source found.0.0 found.0.1.within).1
 
-  -- and the first row whose key an earlier one has
+  -- and it is the first row whose key an earlier one has
   pub repeat_refused : (place : ℕ) → IsFirstRepeat placed (length placed) (Some place) → map_of keys rows ≡ Err (DuplicateKey (place + 1))
   repeat_refused place found =
       let n = found.0.0 in
@@ -256,7 +256,7 @@ module _ (keys : ℕ) (rows : List (List Value)) (placed : List Placed) (moved :
       let least = found.1 again.0 again.1.within again.1 in
       omega (arith, least, again.2, low))
 
--- ---- one more place in order is looked at
+-- ---- one more place in order is read
 
 below_more : (n most : ℕ) → n < most + 1 → n ≢ most → n < most
 below_more n most within other = omega (arith, within, other)

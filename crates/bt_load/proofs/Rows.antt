@@ -31,7 +31,7 @@ values_are : (refusal : Option Refusal) (values rows : List (List Value)) → un
 values_are None values rows e = cc
 values_are (Some r) values rows e = cc
 
--- those that are read, where none is refused
+-- the rows that are read, if none is refused
 pub read_rows : (columns : List Column) (item : ℕ) (records : List (List (List ℕ))) (rows : List (List Value)) → all_read (typed_from columns item records) ≡ Ok rows → AreOf columns rows
 read_rows columns item records rows is =
     let reads = typed_from columns item records in

@@ -1,4 +1,4 @@
--- Rows that stand under their keys.
+-- Rows with their own keys.
 use Rattle.std.proofs.Common.{◌≡◌, ℕ, List, [], ◌∷◌, refl}
 use Rattle.std.proofs.lemmas.List.Elements.{All-cons, All-head, All-nil, All-tail}
 use Rattle.std.proofs.lemmas.List.Sorted.{All-permutation}
@@ -33,7 +33,7 @@ stand_all : (schema : Schema) (pairs : RowMap) → All (StandsAt schema) pairs �
 stand_all schema [] all = tt
 stand_all schema (p ∷ pairs) all = (All-head (StandsAt schema) p pairs all, stand_all schema pairs (All-tail (StandsAt schema) p pairs all))
 
--- in whatever order
+-- in any order
 pub all_under : (keys : ℕ) (rows : List (List Value)) (pairs : RowMap) → IsPermutation (keyed_rows keys rows) pairs → AllAreUnder keys pairs
 all_under keys rows pairs moved = under_all keys pairs (All-permutation (IsUnder keys) (keyed_rows keys rows) pairs moved (keyed_under keys rows))
 

@@ -1,4 +1,4 @@
--- Records that are typed all in turn, and each by itself.
+-- Records that are typed one after the other, and one by one.
 use Rattle.std.proofs.Common.{◌≡◌, ℕ, zero, suc, ◌+◌, ◌<◌, ◌==◌, true, false, List, [], ◌∷◌, drop, get_or, length, map, refl, subst, sym, ap, ◌∙◌, arith, Option, None, Some, Result, Ok, Err, if◌then◌else◌}
 use Rattle.std.specs.List.{filter_map}
 use Rattle.std.specs.Result.{result_err, result_ok}
@@ -37,13 +37,13 @@ typed_next columns item (suc place) (fields ∷ records) d within =
     ∙ typed_next columns (item + 1) place records d (omega (arith, within))
     ∙ (λ i. read_as columns (here i) (get_or records place d) ∷ typed_from columns (next i) (drop (behind i) (fields ∷ records)))
 
--- ---- each by itself
+-- ---- one by one
 
 spelt : (i j : ℕ) (o : Option (List Value)) (row : List Value) → or_refused (BadField i) o ≡ Ok row → or_refused (BadField j) o ≡ Ok row
 spelt i j None row e = cc
 spelt i j (Some values) row e = e
 
--- a record that spells a row does so as any item
+-- a record that encodes a row does so as any item
 pub any_item : (columns : List Column) (fields : Fields) (row : List Value) (i j : ℕ) → read_as columns i fields ≡ Ok row → read_as columns j fields ≡ Ok row
 any_item columns fields row i j e =
     elim (length fields == length columns) as (λ b. (if b then or_refused (BadField i) (values_of columns fields) else Err (BadLength i)) ≡ Ok row
@@ -73,7 +73,7 @@ errs : (rows : List (List Value)) → filter_map result_err (map row_answer rows
 errs [] = refl
 errs (row ∷ rows) = errs rows
 
--- rows that all have values are what the records spell
+-- rows that all have values are those of the records
 pub all_rows : (columns : List Column) (records : List Fields) (rows : List (List Value)) → length rows ≡ length records → AreRowsOrNone columns 0 records rows → HaveValues rows
     → all_read (typed_from columns 1 records) ≡ Ok rows
 all_rows columns records rows long are some =
@@ -84,7 +84,7 @@ all_rows columns records rows long are some =
     each : (k : ℕ) → k < length rows → IsRowOrNone columns (get_or records k []) (get_or rows k [])
     each k low = let here : 0 + k ≡ k = omega arith in subst (λ n. IsRowOrNone columns (get_or records n []) (get_or rows k [])) here (are k low)
 
--- what the reading of all in turn makes
+-- the result of reading all one after the other
 pub all_finish : (columns : List Column) (records : List Fields) (values : List (List Value)) (refusal : Option Refusal) → values ≡ filter_map result_ok (typed_from columns 1 records)
     → refusal ≡ least (filter_map result_err (typed_from columns 1 records)) → all_read (typed_from columns 1 records) ≡ unless refusal values
 all_finish columns records values refusal are least_is = λ i. unless (sym least_is i) (sym are i)

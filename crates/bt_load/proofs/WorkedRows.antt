@@ -1,4 +1,4 @@
--- Worked loads, computed by the definitions themselves. Serves as a test of the definitions.
+-- Worked loads, computed by the definitions. They test the definitions.
 use Rattle.std.proofs.Common.{ℕ, List, [], ◌∷◌, ◌++◌, ◌≡◌, refl, codes}
 use Rattle.std.specs.Prelude.{Ok, Err, pos}
 use Rattle.std.specs.Char.{encode_utf8}
@@ -58,12 +58,12 @@ pub two_marks : text_rows columns (mark ++ mark ++ codes "id,name\n1,a\n") ≡ E
 unfolding values_on_literals
 two_marks = refl
 
--- the least number and not the first record
+-- the smallest number and not the first record
 pub least_number : text_rows columns (codes "id,name\n1\nx,b\n1,c\n") ≡ Err (BadField 2)
 unfolding values_on_literals chars encode_utf8 is_utf8
 least_number = refl
 
--- records are counted behind the header
+-- records are counted after the header
 pub short_record : text_rows columns (codes "id,name\n1,a\n1,b\n1\n") ≡ Err (BadLength 3)
 unfolding values_on_literals chars encode_utf8 is_utf8
 short_record = refl

@@ -27,7 +27,7 @@ key_at pairs place = (get_or pairs place ([], [])).0
 abbrev pub is_repeated : RowMap → ℕ → Bool
 is_repeated pairs place = is_some (find key_cmp (key_at pairs place) (take place pairs))
 
--- the first place of these
+-- the first place with a key that an earlier row has
 abbrev pub first_repeat : RowMap → Option ℕ
 first_repeat pairs = list.find (is_repeated pairs) (range_with_len 0 (length pairs))
 

@@ -1,4 +1,4 @@
--- The three steps of a load that may run in threads: records are typed and the keys of rows made, each by itself, and keys are sorted.
+-- The three steps of a load that may run on several threads: records are typed one by one, the keys of rows are encoded one by one, and keys are sorted.
 use Rattle.std.specs.Prelude.{ℕ, ◌≡◌, ◌≢◌, ◌+◌, ◌<◌, List, [], length, slice_index_or, Ok}
 use Rattle.std.specs.Ordering.{nat_cmp, ordering_then}
 use Rattle.std.specs.declared.cmp.Ordering.{Ordering}
@@ -30,6 +30,6 @@ abbrev pub AreKeysOrNone : ℕ → ℕ → List (List Value) → List Placed →
 AreKeysOrNone keys start rows piece =
     (k : ℕ) → k < length piece → IsKeyOrNone keys (slice_index_or rows (start + k) []) (start + k) (slice_index_or piece k no_key)
 
--- by key, and of equal keys by place
+-- by key, and for equal keys by place
 abbrev pub placed_cmp : Placed → Placed → Ordering
 placed_cmp a b = ordering_then (key_cmp a.key b.key) (nat_cmp a.place b.place)

@@ -1,11 +1,12 @@
-//! The rows of a CSV text, typed and sorted by key, in threads or in turn.
+//! Loads the rows of a CSV text: types them and sorts them by key, on several threads or on one.
 //!
 //! ```text
 //! let rows = read_records(&rt, alloc, b"id,name\n2,b\n1,a\n", &schema)?;
-//! let pairs = load_rows(&rt, alloc, rows, &schema)?;     // the rows of the keys 1 and 2, each behind its key
+//! let pairs = load_rows(&rt, alloc, rows, &schema)?;     // the rows of the keys 1 and 2, each with its key
 //! ```
 //!
-//! These two start threads of the runtime. Where there is none, or in what serves both, the [`Loading`] is named, and the answers are the same:
+//! These two functions start threads of the runtime. Without such a runtime, or in code for both cases, pass a [`Loading`]. The results are the
+//! same:
 //!
 //! ```text
 //! let rows = read_records_by(&InTurn, alloc, text, &schema)?;

@@ -1,4 +1,4 @@
-//! How a load is done: in threads, or in turn.
+//! How to load: on several threads, or on one.
 ghost use Rattle.std.specs.List.Sorted.{IsPermutation, IsSorted};
 ghost use Rattle.std.specs.Prelude.{◌≡◌, ◌≤◌, ◌+◌, length};
 ghost use Rattle.bt_load.specs.Steps.{AreKeysOrNone, AreRowsOrNone, placed_cmp};
@@ -11,18 +11,19 @@ use rayon::prelude::*;
 use std::alloc::Global;
 use std::thread::Threads;
 
-// So many records are typed at a time, and the keys of so many rows made: enough that they cost far more than the job that does it.
+// The number of records that are typed, or of keys that are encoded, in one job. It is large enough that the work costs far more
+// than the job itself.
 const PIECE: usize = 1024;
 
-/// How the three steps of a load are done that may run in threads. A library for C has no runtime with threads, and a program has one: what is
-/// generic in a loading has one body for both, and starts threads only where its loading does.
+/// The three steps of a load that may run on several threads. A program has a runtime with threads, but a library for C has none.
+/// Code that is generic over a loading serves both, and starts threads only if its loading does.
 ///
-/// Two are there: [`InThreads`] and [`InTurn`]. [`Placed`] has no name outside this crate, so no other is written there.
+/// There are two loadings: [`InThreads`] and [`InTurn`]. Other crates can't write their own, because [`Placed`] isn't public.
 pub trait Loading {
-    /// What is asked of a loading: of one in threads, that these may share the runtime.
+    /// What a loading requires. One on several threads requires that these may share the runtime.
     ghost accepts: { Self → Type 0 };
 
-    /// Puts the row that each record spells in its place, or one of no value, where it spells none or memory is wanting.
+    /// Writes the row of each record to its place, or a row without values if the record is refused or an allocation fails.
     fn type_records(
         &self,
         alloc: Global,
@@ -35,21 +36,22 @@ pub trait Loading {
         ensures long { length rows.new ≡ length rows.old }
         ensures typed { AreRowsOrNone schema.now.columns 0 records.now rows.new };
 
-    /// Puts the key of each row in its place, or the empty one, where memory is wanting. The key is the code of so many values.
+    /// Writes the key of each row to its place, or the empty key if an allocation fails. The key is the code of the first `keys`
+    /// values.
     fn encode_keys(&self, alloc: Global, rows: &[Row], keys: usize, placed: &mut [Placed])
         requires ready { accepts self.now }
         requires same { length placed.old ≡ length rows.now }
         ensures long { length placed.new ≡ length placed.old }
         ensures encoded { AreKeysOrNone keys 0 rows.now placed.new };
 
-    /// Sorts by key, and of equal keys by place.
+    /// Sorts by key, and for equal keys by place.
     fn sort(&self, placed: &mut Vec<Placed>)
         requires ready { accepts self.now }
         ensures permutation { IsPermutation placed.old.items placed.new.items }
         ensures sorted { IsSorted placed_cmp placed.new.items };
 }
 
-/// In threads of a runtime, by `rayon`.
+/// Loads on the threads of a runtime, with `rayon`.
 #[derive(Clone, Copy)]
 pub struct InThreads<'a, R> {
     pub rt: &'a R,
@@ -97,7 +99,7 @@ impl<'a, R: Threads + Sync> Loading for InThreads<'a, R> {
     }
 }
 
-/// One record after the other, and the sort as one piece: no thread is started.
+/// Loads on one thread: types one record after the other and sorts all keys at once.
 #[derive(Clone, Copy)]
 pub struct InTurn;
 

@@ -15,7 +15,7 @@ use std::alloc::{AllocError, Global};
 use std::cmp::Ordering;
 use std::mem;
 
-/// The key of a row, and the row's place among all, counted from 0.
+/// The key of a row, and the place of the row, counted from 0.
 #[derive(Drop)]
 pub struct Placed {
     pub key: Key,
@@ -24,7 +24,7 @@ pub struct Placed {
 
 const _: () = prove!(size_of::<Placed>() == 32);
 
-// So many places, each with no key.
+// A list of this many empty keys.
 fn no_keys(alloc: Global, count: usize) -> Result<Vec<Placed>, AllocError>
     ensures { IfOk result (λ placed. length placed.items ≡ count) }
 {
@@ -39,7 +39,7 @@ fn no_keys(alloc: Global, count: usize) -> Result<Vec<Placed>, AllocError>
     Ok(placed)
 }
 
-// The key of the row at a place, or the empty one, where memory is wanting.
+// The key of the row at a place, or the empty key if an allocation fails.
 fn key_or_none(alloc: Global, row: &Row, keys: usize, place: usize) -> Placed
     ensures { IsKeyOrNone keys row.now place result }
 {
@@ -52,7 +52,7 @@ fn key_or_none(alloc: Global, row: &Row, keys: usize, place: usize) -> Placed
     }
 }
 
-// Puts the keys of the rows from a place on, or empty ones, in a piece.
+// Writes the keys of the rows from `start` on to a piece, or empty ones.
 pub(crate) fn encode_piece(
     alloc: Global,
     rows: &[Row],
@@ -93,7 +93,7 @@ fn all_have_keys(placed: &[Placed]) -> bool
     placed.iter().all(|one| one.key.len() != 0)
 }
 
-// The keys of rows, with the places of the rows, one after the other.
+// The keys of rows with their places, encoded one after the other.
 fn encode_in_turn(alloc: Global, rows: &[Row], keys: usize) -> Result<Vec<Placed>, AllocError>
     ensures { IfOk result (λ placed. placed.items ≡ placed_from keys 0 rows.now) }
 {
@@ -105,7 +105,7 @@ fn encode_in_turn(alloc: Global, rows: &[Row], keys: usize) -> Result<Vec<Placed
     Ok(placed)
 }
 
-// The keys of rows, which are the codes of their first values, with the places of the rows.
+// The keys of rows with their places. A key is the code of the first `keys` values.
 fn placed_keys<L: Loading>(
     loading: &L,
     alloc: Global,
@@ -119,11 +119,11 @@ fn placed_keys<L: Loading>(
     if all_have_keys(placed.as_slice()) {
         return Ok(placed);
     }
-    // A key of one value or more is never empty: memory was wanting, and may be there now.
+    // A key of one value or more is never empty. So an allocation failed, which may succeed now.
     encode_in_turn(alloc, rows, keys)
 }
 
-// Whether each key is below the next one.
+// Whether the keys strictly rise.
 fn rise(placed: &[Placed]) -> bool
     ensures { result ≡ true → AllAdjacentBelow IsKeyBelow placed.now (length placed.now) }
 {
@@ -135,7 +135,7 @@ fn rise(placed: &[Placed]) -> bool
     true
 }
 
-// The order of keys, and of equal keys that of their places.
+// The order of keys, and for equal keys that of their places.
 pub(crate) fn placed_order(left: &Placed, right: &Placed) -> Ordering
     ensures { result ≡ placed_cmp left.now right.now }
 {
@@ -144,7 +144,7 @@ pub(crate) fn placed_order(left: &Placed, right: &Placed) -> Ordering
         .then(left.place.cmp(&right.place))
 }
 
-// Whether the key at a place in order is the one before it.
+// Whether the key at a place equals the one before it.
 fn repeats(placed: &[Placed], next: usize) -> bool
     requires some { 1 ≤ next }
     requires within { next < length placed.now }
@@ -153,7 +153,7 @@ fn repeats(placed: &[Placed], next: usize) -> bool
     placed[next - 1].key.compare(&placed[next].key) == Ordering::Equal
 }
 
-// The lesser of a place that was found, if one was, and one more.
+// The smaller of a place that was found, if one was, and another place.
 fn lesser(found: Option<usize>, place: usize) -> usize
     ensures { result ≡ lesser_of found place }
 {
@@ -163,7 +163,7 @@ fn lesser(found: Option<usize>, place: usize) -> usize
     }
 }
 
-// Of sorted keys, the least place that has the key of the one before it in order.
+// The smallest place of a row whose key, in sorted keys, equals the one before it.
 fn first_repeat(placed: &[Placed]) -> Option<usize>
     ensures { IsFirstRepeat placed.now (length placed.now) result }
 {
@@ -176,7 +176,8 @@ fn first_repeat(placed: &[Placed]) -> Option<usize>
     first
 }
 
-// The keys of rows in strictly rising order. `DuplicateKey` of the first row, counted from 1, whose key an earlier row has.
+// The keys of rows in strictly rising order. `DuplicateKey` has the number of the first row, counted from 1, whose key an earlier
+// row has.
 pub(crate) fn ordered_keys<L: Loading>(
     loading: &L,
     alloc: Global,

@@ -15,10 +15,10 @@ use bt_value::Refusal;
 use std::alloc::{AllocError, Global};
 use std::thread::Threads;
 
-// Room is made for a record of so many bytes each, so that the list of most texts is never moved.
+// The list of records starts with capacity for one record for every this many bytes, so that for most texts it isn't reallocated.
 const SHORT_RECORD: usize = 6;
 
-// The records that are left of a text of so many bytes.
+// The records that are left of a text of `len` bytes.
 fn all_left<'a>(
     alloc: Global,
     records: Records<'a>,
@@ -34,7 +34,7 @@ fn all_left<'a>(
     Ok(lines)
 }
 
-// The rows that lines spell, or the least refusal.
+// The rows of lines, or the least refusal.
 fn rows_of_lines<L: Loading>(
     loading: &L,
     alloc: Global,
@@ -48,7 +48,7 @@ fn rows_of_lines<L: Loading>(
     if all_have_values(rows.as_slice()) {
         return Ok(rows);
     }
-    // Some record spells no row, or memory was wanting: the least refusal is looked for in turn.
+    // A record was refused, or an allocation failed. One pass over all records finds the least refusal.
     let reading = type_in_turn(alloc, schema, lines)?;
     match reading.finish() {
         Ok(rows) => Ok(rows.into_vec()),
@@ -56,10 +56,11 @@ fn rows_of_lines<L: Loading>(
     }
 }
 
-/// The rows of a CSV text under its header, in order.
+/// The rows of a CSV text after its header, in order.
 ///
-/// `BadSchema` where the header is not the names of the columns in order, else `BadField` or `BadLength` of a record: the least
-/// number, and of equal numbers the least record, counted from 1 behind the header.
+/// `BadSchema` means that the header isn't the names of the columns in order. `BadField` and `BadLength` mean that a record is
+/// refused. If several records are refused, the refusal with the smallest number is returned, and of equal numbers that of the first
+/// record. Records are counted from 1 after the header.
 pub fn read_records(
     rt: &(impl Threads + Sync),
     alloc: Global,
@@ -72,7 +73,7 @@ pub fn read_records(
     read_records_by(&InThreads { rt }, alloc, text, schema)
 }
 
-/// The rows of a CSV text as [`read_records`] gives them, typed in threads or in turn.
+/// The rows of a CSV text as returned by [`read_records`], typed on several threads or on one.
 pub fn read_records_by<L: Loading>(
     loading: &L,
     alloc: Global,

@@ -1,4 +1,4 @@
-//! Rows by rising key.
+//! Rows in rising order of keys.
 ghost use Rattle.std.specs.FinMap.{is_sorted};
 ghost use Rattle.std.specs.Prelude.{◌≡◌, IfOk, IsTrue};
 ghost use Rattle.std.specs.Result.{result_map_both};
@@ -15,9 +15,10 @@ use bt_value::Refusal;
 use std::alloc::Global;
 use std::thread::Threads;
 
-/// The rows by rising key, each behind its key. `DuplicateKey` of the first row, counted from 1, whose key an earlier row has.
+/// The rows in rising order of keys, each with its key. `DuplicateKey` has the number of the first row, counted from 1, whose key
+/// an earlier row has.
 ///
-/// Rows whose keys rise already are not sorted.
+/// Rows whose keys already rise aren't sorted.
 pub fn load_rows(
     rt: &(impl Threads + Sync),
     alloc: Global,
@@ -32,7 +33,7 @@ pub fn load_rows(
     load_rows_by(&InThreads { rt }, alloc, rows, schema)
 }
 
-/// The rows by rising key as [`load_rows`] gives them, sorted in threads or in turn.
+/// The rows in rising order of keys as returned by [`load_rows`], sorted on several threads or on one.
 pub fn load_rows_by<L: Loading>(
     loading: &L,
     alloc: Global,

@@ -1,4 +1,4 @@
-//! The rows that records spell.
+//! The rows that records encode.
 ghost use Rattle.std.specs.Prelude.{◌≡◌, ◌≤◌, ◌+◌, IfOk, length, true};
 ghost use Rattle.bt_load.specs.Steps.{AreRowsOrNone, IsRowOrNone};
 ghost use Rattle.bt_load.specs.inside.Typed.{HaveValues, IsReadingOf};
@@ -10,7 +10,7 @@ use bt_rowtype::RecordReader;
 use bt_value::Collected;
 use std::alloc::{AllocError, Global};
 
-// What records spell, the first of them as item 1, one after the other.
+// Types records one after the other. The first of them is item 1.
 pub(crate) fn type_in_turn(
     alloc: Global,
     schema: &Schema,
@@ -27,7 +27,7 @@ pub(crate) fn type_in_turn(
     Ok(reading)
 }
 
-// The row that a record spells, or one of no value, where it spells none or memory is wanting.
+// The row of a record, or a row without values if the record is refused or an allocation fails.
 fn row_or_none(
     alloc: Global,
     reader: &mut RecordReader,
@@ -42,7 +42,7 @@ fn row_or_none(
     }
 }
 
-// Puts the rows that the records from a place on spell, or ones of no value, in a piece.
+// Writes the rows of the records from `start` on to a piece, or rows without values.
 pub(crate) fn type_piece(
     alloc: Global,
     schema: &Schema,
@@ -60,7 +60,7 @@ pub(crate) fn type_piece(
     }
 }
 
-// The row that each record spells, or one of no value, where it spells none or memory is wanting.
+// The row of each record, or a row without values if the record is refused or an allocation fails.
 pub(crate) fn rows_or_none<L: Loading>(
     loading: &L,
     alloc: Global,

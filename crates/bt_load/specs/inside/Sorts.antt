@@ -1,4 +1,4 @@
--- The keys of rows with the places of the rows, and what of them stands next to each other in order.
+-- The keys of rows with the places of the rows, and neighbours in their order.
 use Rattle.std.specs.Prelude.{ℕ, ◌≡◌, ◌≢◌, ◌+◌, ◌-◌, ◌<◌, ◌≤◌, Bool, true, List, [], ◌∷◌, get_or, length, map, min, Option, Some, None, MatchOption}
 use Rattle.std.specs.Ordering.{eq_by_cmp}
 use Rattle.std.specs.declared.cmp.Ordering.TheVariants.{Less}
@@ -17,11 +17,11 @@ placed_from keys place (row ∷ rows) = record { key = row_key keys row; place =
 abbrev pub HaveKeys : List Placed → Type 0
 HaveKeys placed = (k : ℕ) → k < length placed → (get_or placed k no_key).key ≢ []
 
--- the key of one is below that of another
+-- the key of one is smaller than that of another
 abbrev pub IsKeyBelow : Placed → Placed → Type 0
 IsKeyBelow a b = key_cmp a.key b.key ≡ Less
 
--- the places of rows that stand beside their keys
+-- the places of rows, without their keys
 abbrev pub places_of : List Placed → List ℕ
 places_of = map (λ p. p.place)
 
@@ -31,11 +31,11 @@ pair_at rows p = (p.key, get_or rows p.place [])
 
 -- ---- repeats
 
--- what stands at a place in order
+-- the item at a place in order
 abbrev pub at : List Placed → ℕ → Placed
 at placed n = get_or placed n no_key
 
--- whether the key at a place in order, which is not the first, is the one before it
+-- whether the key at a place in order, which is not the first, equals the one before it
 abbrev pub repeats_at : List Placed → ℕ → Bool
 repeats_at placed n = eq_by_cmp key_cmp (at placed (n - 1)).key (at placed n).key
 
@@ -45,12 +45,12 @@ pub record Repeats (placed : List Placed) (n : ℕ) : Type 0 where
   pub within : n < length placed
   pub same : repeats_at placed n ≡ true
 
--- of the first ones in order, so many, none repeats the key before it, or this is the least place of one that does
+-- none of the first keys in order repeats the key before it, or this is the smallest place of one that does
 abbrev pub IsFirstRepeat : List Placed → ℕ → Option ℕ → Type 0
 IsFirstRepeat placed most found = MatchOption found ((n : ℕ) → n < most → Repeats placed n → ⊥)
     (λ place. ((n : ℕ) × Repeats placed n × ((at placed n).place ≡ place)) × ((n : ℕ) → n < most → Repeats placed n → place ≤ (at placed n).place))
 
--- the lesser of a place that was found, if one was, and one more
+-- the smaller of a place that was found, if one was, and another place
 abbrev pub lesser_of : Option ℕ → ℕ → ℕ
 lesser_of None place = place
 lesser_of (Some found) place = min found place

@@ -1,4 +1,4 @@
--- Records that are typed all in turn, and rows that all have values.
+-- Records that are typed one after the other, and rows that all have values.
 use Rattle.std.specs.Prelude.{ℕ, ◌≡◌, ◌≢◌, ◌<◌, List, [], length, slice_index_or}
 use Rattle.std.specs.List.{filter_map}
 use Rattle.std.specs.Result.{result_err, result_ok}
@@ -8,7 +8,7 @@ use Rattle.bt_row.specs.declared.schema.Column.{Column}
 use Rattle.bt_value.specs.declared.value.Value.{Value}
 use Rattle.bt_load.specs.Loads.{typed_from}
 
--- what records were read as, the first of them as this item: their rows, and the least refusal
+-- the result of reading records, the first of them as this item: their rows, and the least refusal
 pub record IsReadingOf (columns : List Column) (item : ℕ) (records : List (List (List ℕ))) (read : Collected (List Value)) : Type 0 where
   pub values : read.values ≡ filter_map result_ok (typed_from columns item records)
   pub refusal : read.refusal ≡ least (filter_map result_err (typed_from columns item records))
