@@ -1,5 +1,6 @@
 -- The guarantees of a run of all jobs follow from the answers that came in.
-use Rattle.std.proofs.Common.{◌≡◌, ◌≢◌, ℕ, zero, suc, ◌+◌, ◌<◌, ◌≤◌, List, [], ◌∷◌, ◌++◌, length, set, map, get_or, replicate, Option, Some, None, IfSome, Result, Ok, Err, sym, refl, ap, ◌∙◌, subst, ⊎_elim, append_assoc, append-nil, arith}
+use Rattle.std.proofs.Common.{◌≡◌, ◌≢◌, ℕ, zero, suc, ◌+◌, ◌<◌, ◌≤◌, List, [], ◌∷◌, ◌++◌, length, set, map, get_or, replicate, Option}
+use Rattle.std.proofs.Common.{Some, None, IfSome, Result, Ok, Err, sym, refl, ap, ◌∙◌, subst, ⊎_elim, append_assoc, append-nil, arith}
 use Rattle.std.proofs.lemmas.List.{length-set, length-replicate, get_or-replicate, replicate_more}
 use Rattle.std.proofs.lemmas.Bool.Decides.{nat_tests}
 use mathlib.Core.Option.{some, some-ne-none, some-injective}
@@ -95,7 +96,8 @@ module _ {J D F : Type 0} (allows : J → Result D F → Type 0) where
   may_back jobs all first (None ∷ ws) served = may_back jobs all (suc first) ws served.1
   may_back jobs all first (Some w ∷ ws) served = may-append allows all (present w.out.list) (concatenation (map answers_in (map out_of ws))) served.0.may (may_back jobs all (suc first) ws served.1)
 
-  filled_put : (jobs : List J) (slots : List (Option (Result D F))) (came : List ℕ) (n : ℕ) (v : Result D F) → Filled allows jobs slots came → MayAnswer allows jobs n v → Filled allows jobs (set slots n (Some v)) (came ++ n ∷ [])
+  filled_put : (jobs : List J) (slots : List (Option (Result D F))) (came : List ℕ) (n : ℕ) (v : Result D F) → Filled allows jobs slots came
+      → MayAnswer allows jobs n v → Filled allows jobs (set slots n (Some v)) (came ++ n ∷ [])
   filled_put jobs slots came n v f may = record {
     size = length-set slots n (Some v) ∙ f.size;
     may = λ i value e. ⊎_elim
@@ -112,7 +114,8 @@ module _ {J D F : Type 0} (allows : J → Result D F → Type 0) where
         (at_set slots n i (Some v) None e);
   }
 
-  filled_more : (jobs : List J) (xs : List (Answer D F)) (slots : List (Option (Result D F))) (came : List ℕ) → Filled allows jobs slots came → AllMay allows jobs xs → Filled allows jobs (puts slots xs) (came ++ numbered xs)
+  filled_more : (jobs : List J) (xs : List (Answer D F)) (slots : List (Option (Result D F))) (came : List ℕ) → Filled allows jobs slots came
+      → AllMay allows jobs xs → Filled allows jobs (puts slots xs) (came ++ numbered xs)
   filled_more jobs [] slots came f all = subst (λ l. Filled allows jobs slots l) (sym (append-nil came)) f
   filled_more jobs (x ∷ xs) slots came f all =
       subst (λ l. Filled allows jobs (puts (set slots x.number (Some x.value)) xs) l) (append_assoc came (x.number ∷ []) (numbered xs))
@@ -133,7 +136,8 @@ module _ {J D F : Type 0} (allows : J → Result D F → Type 0) where
   }
 
   -- the answers, put into empty places
-  pub filled : (jobs : List J) (xs : List (Answer D F)) (slots : List (Option (Result D F))) → slots ≡ puts (replicate (length jobs) None) xs → AllMay allows jobs xs → Filled allows jobs slots (numbered xs)
+  pub filled : (jobs : List J) (xs : List (Answer D F)) (slots : List (Option (Result D F))) → slots ≡ puts (replicate (length jobs) None) xs
+      → AllMay allows jobs xs → Filled allows jobs slots (numbered xs)
   filled jobs xs slots e all = subst (λ l. Filled allows jobs l (numbered xs)) (sym e) (filled_more jobs xs (replicate (length jobs) None) [] (filled_empty jobs) all)
 
   ok_at : (ds : List D) (i : ℕ) (d : D) (rest : List (Option (Result D F))) → get_elem? ds i ≡ some d → get_elem? (ok_slots ds ++ rest) i ≡ some (Some (Ok d))
@@ -208,7 +212,8 @@ module _ {D F : Type 0} where
   pub placed_more : (old new all : List (Option (Result D F))) (o : Option (Answers D F)) (left rest : List (Option (Answers D F)))
       → left ≡ o ∷ rest → new ≡ puts old (answers_in o) → puts old (concatenation (map answers_in left)) ≡ all → puts new (concatenation (map answers_in rest)) ≡ all
   placed_more old new all o left rest e f g =
-      ap (λ l. puts l (concatenation (map answers_in rest))) f ∙ (sym (puts-append old (answers_in o) (concatenation (map answers_in rest))) ∙ (ap (λ l. puts old (concatenation (map answers_in l))) (sym e) ∙ g))
+      ap (λ l. puts l (concatenation (map answers_in rest))) f
+      ∙ (sym (puts-append old (answers_in o) (concatenation (map answers_in rest))) ∙ (ap (λ l. puts old (concatenation (map answers_in l))) (sym e) ∙ g))
 
   pub below_one : (n : ℕ) (o : Option (Answers D F)) (left rest : List (Option (Answers D F))) → left ≡ o ∷ rest → AllBelow n (concatenation (map answers_in left)) → AllBelow n (answers_in o)
   below_one n o left rest e all = below-front n (answers_in o) (concatenation (map answers_in rest)) (subst (λ l. AllBelow n (concatenation (map answers_in l))) e all)

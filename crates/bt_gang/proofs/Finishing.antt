@@ -1,5 +1,6 @@
 -- The answers of all workers, after all passes of started workers came back.
-use Rattle.std.proofs.Common.{◌≡◌, ℕ, suc, ◌+◌, ◌<◌, ◌≤◌, List, [], ◌∷◌, ◌++◌, All, length, length-append, map, get_or, replicate, Option, None, IfSome, IsSome, Result, sym, ap, ◌∙◌, subst, refl, arith}
+use Rattle.std.proofs.Common.{◌≡◌, ℕ, suc, ◌+◌, ◌<◌, ◌≤◌, List, [], ◌∷◌, ◌++◌, All, length, length-append, map, get_or}
+use Rattle.std.proofs.Common.{replicate, Option, None, IfSome, IsSome, Result, sym, ap, ◌∙◌, subst, refl, arith}
 use Rattle.std.proofs.lemmas.List.{length-map, length-replicate}
 use Rattle.crossbeam_queue.specs.Passes.{view}
 use Rattle.bt_gang.specs.declared.answers.Answer.{Answer}
@@ -26,14 +27,17 @@ use Rattle.bt_gang.proofs.WorkerLists.{all_back, all_lists, length-left, lists_s
 use Rattle.bt_gang.proofs.Filling.{all_once, below-back, below-front, below_all, filled, length-puts, lists-more, may_back, none_empty, numbers_joined, puts-append}
 
 module _ {J D F : Type 0} (allows : J → Result D F → Type 0) where
-  took_all : (jobs : Jobs J D F) (all : List J) (k : ℕ) (mine : Worker J D F) (outs : List (Option (Answers D F))) (w : Known J) → HasServedCaller allows jobs all k mine → TookIn (view mine.pass) w outs
+  took_all : (jobs : Jobs J D F) (all : List J) (k : ℕ) (mine : Worker J D F) (outs : List (Option (Answers D F))) (w : Known J)
+      → HasServedCaller allows jobs all k mine → TookIn (view mine.pass) w outs
       → w ≡ known all (taken_list 0 (numbered (present mine.out.list)) ∷ (lists_left MOST_WORKERS (suc k) ++ lists_back 1 outs))
   took_all jobs all k mine outs w h t = t ∙ ap (λ (y : Known J). known y.jobs (y.lists ++ lists_back 1 outs)) h.served.knows
 
-  pub jobs_last : (jobs : Jobs J D F) (all : List J) (k : ℕ) (mine : Worker J D F) (outs : List (Option (Answers D F))) (w : Known J) → HasServedCaller allows jobs all k mine → TookIn (view mine.pass) w outs → w.jobs ≡ all
+  pub jobs_last : (jobs : Jobs J D F) (all : List J) (k : ℕ) (mine : Worker J D F) (outs : List (Option (Answers D F))) (w : Known J)
+      → HasServedCaller allows jobs all k mine → TookIn (view mine.pass) w outs → w.jobs ≡ all
   jobs_last jobs all k mine outs w h t = ap (λ (y : Known J). y.jobs) (took_all jobs all k mine outs w h t)
 
-  pub room_last : (jobs : Jobs J D F) (all : List J) (k : ℕ) (mine : Worker J D F) (outs : List (Option (Answers D F))) (w : Known J) → HasServedCaller allows jobs all k mine → TookIn (view mine.pass) w outs
+  pub room_last : (jobs : Jobs J D F) (all : List J) (k : ℕ) (mine : Worker J D F) (outs : List (Option (Answers D F))) (w : Known J)
+      → HasServedCaller allows jobs all k mine → TookIn (view mine.pass) w outs
       → length w.jobs ≤ mine.out.spare + length (numbers_of w.lists)
   room_last jobs all k mine outs w h t =
       let e = took_all jobs all k mine outs w h t in
@@ -68,7 +72,8 @@ module _ {J D F : Type 0} (allows : J → Result D F → Type 0) where
       }
 
 -- in places that were empty, the caller's answers come first, and then those of the others
-module _ {J D F : Type 0} (allows : J → Result D F → Type 0) (all : List J) (own rest : List (Answer D F)) (may : AllMay allows all (own ++ rest)) (empty : List (Option (Result D F))) (none : empty ≡ replicate (length all) None) where
+module _ {J D F : Type 0} (allows : J → Result D F → Type 0) (all : List J) (own rest : List (Answer D F)) (may : AllMay allows all (own ++ rest)) (empty
+    : List (Option (Result D F))) (none : empty ≡ replicate (length all) None) where
   all_below : (slots : List (Option (Result D F))) → length slots ≡ length empty → AllBelow (length slots) (own ++ rest)
   all_below slots e = below_all allows all (length slots) (own ++ rest) (e ∙ (ap length none ∙ length-replicate (length all) None)) may
 

@@ -14,7 +14,8 @@ use Rattle.bt_gang.specs.Numbers.{sum_over, is_it, occurrences, below, once_belo
 use Rattle.bt_gang.specs.Board.{State, start, after_put, after_take}
 use Rattle.bt_gang.specs.Board.Event.{Put, Take}
 use Rattle.bt_gang.specs.Queue.{taken_list, no_lists, list_given, lists_kept, workers_of, numbers_of, AreOwnLists, known, HasList, queued, Stand, EachPass, IsBoard, IsBoardOf, Pushed, Popped}
-use Rattle.bt_gang.proofs.Numbers.{sum_over-append, sum_over-set, sum_over-one, sum_over-two, sum_over-length, sum_over-concatenation, sum_over-map, sum_over-places, length-below, occurrences-below, at_more, at_end, once_itself, besides, same_sums}
+use Rattle.bt_gang.proofs.Numbers.{sum_over-append, sum_over-set, sum_over-one, sum_over-two, sum_over-length, sum_over-concatenation, sum_over-map}
+use Rattle.bt_gang.proofs.Numbers.{sum_over-places, length-below, occurrences-below, at_more, at_end, once_itself, besides, same_sums}
 use Rattle.bt_gang.proofs.Accounts.{accounted, freed}
 
 pub count_lists : (ls : List TakenList) → sum_over (λ _. 1) (workers_of ls) ≡ length ls
@@ -102,7 +103,8 @@ module _ {J : Type 0} where
   each_one P w new zero u e = subst P (some-injective w u e) new
   each_one P w new (suc j) u e = absurd (some-ne-none u (sym e))
 
-  weigh_workers : (h : ℕ → ℕ) (views : List (Known J)) → sum_over h (concatenation (map (λ (v : Known J). workers_of v.lists) views)) ≡ sum_over (λ (v : Known J). sum_over h (workers_of v.lists)) views
+  weigh_workers : (h : ℕ → ℕ) (views : List (Known J))
+      → sum_over h (concatenation (map (λ (v : Known J). workers_of v.lists) views)) ≡ sum_over (λ (v : Known J). sum_over h (workers_of v.lists)) views
   weigh_workers h views = sum_over-concatenation h (map (λ (v : Known J). workers_of v.lists) views) ∙ sum_over-map (λ l. sum_over h l) (λ (v : Known J). workers_of v.lists) views
 
   -- what a pass learns: each job that it knows is in one of its lists, in the queue, or in a list that it does not have
@@ -145,7 +147,8 @@ module _ {J P : Type 0} where
   }
 
   -- each worker's list is in one pass, stated as a sum for any weights of the workers
-  apart_weighed : (n : ℕ) (items : List (NumberedJob J P)) (views : List (Known J)) → IsBoard n items views → (h : ℕ → ℕ) → sum_over (λ (v : Known J). sum_over h (workers_of v.lists)) views ≡ sum_over h (below n)
+  apart_weighed : (n : ℕ) (items : List (NumberedJob J P)) (views : List (Known J)) → IsBoard n items views → (h : ℕ → ℕ)
+      → sum_over (λ (v : Known J). sum_over h (workers_of v.lists)) views ≡ sum_over h (below n)
   apart_weighed n items views b h =
       sym (weigh_workers h views)
       ∙ same_sums (concatenation (map (λ (v : Known J). workers_of v.lists) views)) (below n) (λ w. weigh_workers (is_it w) views ∙ (b.apart w ∙ sym (occurrences-below w n))) h
@@ -259,7 +262,8 @@ module _ {J P : Type 0} where
 
   -- the board is the same if the lists are moved between passes
   same_board : (n : ℕ) (items : List (NumberedJob J P)) (views new : List (Known J)) (b : IsBoard {J = J} {P = P} n items views) → EachPass (λ u. AreOwnLists b.board.taken u.lists) new
-      → ((worker : ℕ) → sum_over (λ (u : Known J). occurrences worker (workers_of u.lists)) new ≡ once_below worker n) → EachPass (λ u. HasList u → u.jobs ≡ b.jobs) new → IsBoard {J = J} {P = P} n items new
+      → ((worker : ℕ) → sum_over (λ (u : Known J). occurrences worker (workers_of u.lists)) new ≡ once_below worker n)
+      → EachPass (λ u. HasList u → u.jobs ≡ b.jobs) new → IsBoard {J = J} {P = P} n items new
   same_board n items views new b taken apart know = record {
     jobs = b.jobs;
     board = b.board;
@@ -298,7 +302,8 @@ module _ {J P : Type 0} where
       let there : get_elem? views other ≡ some u = sym (set_else views port other both two) ∙ at' in
       same_board n items views (set vs other spent) b
       (each_set (λ x. AreOwnLists b.board.taken x.lists) vs other spent tt
-      (λ j x _ e. each_set (λ y. AreOwnLists b.board.taken y.lists) views port both (taken-append b.board.taken v.lists u.lists (b.taken port v at) (b.taken other u there)) (λ i y _ f. b.taken i y f) j x e))
+      (λ j x _ e. each_set (λ y. AreOwnLists b.board.taken y.lists) views port both
+      (taken-append b.board.taken v.lists u.lists (b.taken port v at) (b.taken other u there)) (λ i y _ f. b.taken i y f) j x e))
       (λ w.
       let f : Known J → ℕ = λ x. occurrences w (workers_of x.lists) in
       let s = sum_over-set f views port v both at in

@@ -1,5 +1,6 @@
 -- One more job in the list of a pass and in the answers.
-use Rattle.std.proofs.Common.{◌≡◌, ℕ, zero, suc, ◌+◌, ◌<◌, ◌≤◌, List, [], ◌∷◌, ◌++◌, All, length, length-append, map, get_or, Option, Some, None, Result, sym, refl, ap, ◌∙◌, subst, append_assoc, append-nil, arith}
+use Rattle.std.proofs.Common.{◌≡◌, ℕ, zero, suc, ◌+◌, ◌<◌, ◌≤◌, List, [], ◌∷◌, ◌++◌, All, length, length-append, map, get_or}
+use Rattle.std.proofs.Common.{Option, Some, None, Result, sym, refl, ap, ◌∙◌, subst, append_assoc, append-nil, arith}
 use Rattle.std.proofs.lemmas.List.{map-append, length-map, nil_from_length}
 use mathlib.Core.Option.{some, some-injective}
 use lib.ListN.{get_elem?}
@@ -146,7 +147,8 @@ module _ {J P : Type 0} where
   nothing_waits n v w e (items, none, b) = subst (λ u. IsBoardOf n u []) (sym e) (subst (λ left. IsBoardOf n v (queued left)) (nil_from_length items none) b)
 
   -- a queue with as many places as jobs is not full before the last job
-  pub never_full : (n : ℕ) (v : Known J) (jobs : List J) (places : ℕ) → v ≡ known jobs (no_lists n) → (items : List (NumberedJob J P)) × (length items ≡ places) × IsBoardOf n v (queued items) → places ≡ length jobs
+  pub never_full : (n : ℕ) (v : Known J) (jobs : List J) (places : ℕ) → v ≡ known jobs (no_lists n) → (items : List (NumberedJob J P))
+      × (length items ≡ places) × IsBoardOf n v (queued items) → places ≡ length jobs
   never_full n v jobs places e (items, full, b) =
       let one : ℕ → ℕ = λ _. 1 in
       let p = all_weighed n v (queued items) b (lists_length n v jobs e) one in

@@ -1,6 +1,8 @@
 -- One more taker is one more number in one list.
-use Rattle.std.proofs.Common.{◌≡◌, ◌≢◌, ℕ, zero, suc, ◌+◌, ◌<◌, ◌≤◌, List, [], ◌∷◌, ◌++◌, length, length-append, map, set, get_or, drop, replicate, Option, None, Some, Bool, true, false, refl, sym, ap, ◌∙◌, subst, arith, nat_eq, if◌then◌else◌}
-use Rattle.std.proofs.lemmas.List.{length-set, length-map, length-replicate, get_or-set_same, get_or-set_other, get_or-map, get_or_push, get_or_append_left, map_push, replicate_more, drop-append-le, drop_more, ext_get_or}
+use Rattle.std.proofs.Common.{◌≡◌, ◌≢◌, ℕ, zero, suc, ◌+◌, ◌<◌, ◌≤◌, List, [], ◌∷◌, ◌++◌, length, length-append, map, set, get_or, drop}
+use Rattle.std.proofs.Common.{replicate, Option, None, Some, Bool, true, false, refl, sym, ap, ◌∙◌, subst, arith, nat_eq, if◌then◌else◌}
+use Rattle.std.proofs.lemmas.List.{length-set, length-map, length-replicate, get_or-set_same, get_or-set_other, get_or-map, get_or_push}
+use Rattle.std.proofs.lemmas.List.{get_or_append_left, map_push, replicate_more, drop-append-le, drop_more, ext_get_or}
 use Rattle.std.proofs.lemmas.Bool.Decides.{nat_tests}
 use mathlib.Core.Logic.{dite}
 use native.Mathlib.Decide.{ℕ_discrete}
@@ -78,7 +80,8 @@ kept_new n takers handed held a b c =
     (λ i. kept_state 0 (a i) (c i) (b i))
     ∙ (λ i. state 0 [] (replicate n None) ((ap (λ k. lists_of k []) (length-replicate {A = Option ℕ} n None) ∙ lists_none n) i) [])
 
-pub kept_put : (put more : ℕ) (takers handed : List ℕ) (held : List (Option ℕ)) → length takers ≤ put → more ≡ put + 1 → kept_state more takers held handed ≡ after_put (kept_state put takers held handed)
+pub kept_put : (put more : ℕ) (takers handed : List ℕ) (held : List (Option ℕ)) → length takers ≤ put → more ≡ put + 1
+    → kept_state more takers held handed ≡ after_put (kept_state put takers held handed)
 kept_put put more takers handed held l e =
     let one : more ≡ suc put = omega arith in
     ap (λ k. kept_state k takers held handed) one
@@ -104,9 +107,12 @@ kept_hand put w job takers handed handed' held held' e f =
     λ i. state put (drop (length takers) (below put)) (e i) (lists_of (workers i) takers) (f i)
 
 pub new_reached : (n : ℕ) (takers handed : List ℕ) (held : List (Option ℕ)) → takers ≡ [] → handed ≡ [] → held ≡ replicate n None → IsReached (length held) (kept_state 0 takers held handed)
-new_reached n takers handed held a b c = subst (λ k. IsReached k (kept_state 0 takers held handed)) (sym (ap length c ∙ length-replicate {A = Option ℕ} n None)) ([], kept_new n takers handed held a b c)
+new_reached n takers handed held a b c =
+    subst (λ k. IsReached k (kept_state 0 takers held handed)) (sym (ap length c ∙ length-replicate {A = Option ℕ} n None))
+    ([], kept_new n takers handed held a b c)
 
-pub put_reached : (n put more : ℕ) (takers handed : List ℕ) (held : List (Option ℕ)) → IsReached n (kept_state put takers held handed) → length takers ≤ put → more ≡ put + 1 → IsReached n (kept_state more takers held handed)
+pub put_reached : (n put more : ℕ) (takers handed : List ℕ) (held : List (Option ℕ)) → IsReached n (kept_state put takers held handed) → length takers ≤ put
+    → more ≡ put + 1 → IsReached n (kept_state more takers held handed)
 put_reached n put more takers handed held r l e = (Put ∷ r.0, (kept_state put takers held handed, r.1, kept_put put more takers handed held l e))
 
 pub take_reached : (put w : ℕ) (takers new handed : List ℕ) (held held' : List (Option ℕ)) → IsReached (length held) (kept_state put takers held handed) → w < length held → get_or held w None ≡ None
@@ -114,10 +120,17 @@ pub take_reached : (put w : ℕ) (takers new handed : List ℕ) (held held' : Li
 take_reached put w takers new handed held held' r l none room e f =
     let workers : length held' ≡ length held = ap length f ∙ length-set held w (Some (length takers)) in
     let longer : length new ≡ length takers + 1 = let a = ap length e in let b = length-append takers (w ∷ []) in omega arith in
-    subst (λ n. IsReached n (kept_state put new held' handed)) (sym workers)
-    (Take w ∷ r.0, (kept_state put takers held handed, r.1, (length takers, drop (length new) (below put), l, none, front_waits put takers new room longer, kept_take put w takers new handed held held' l e f)))
+    subst (λ n. IsReached n (kept_state put new held' handed)) (sym workers) (
+      Take w ∷ r.0,
+      (
+        kept_state put takers held handed,
+        r.1,
+        (length takers, drop (length new) (below put), l, none, front_waits put takers new room longer, kept_take put w takers new handed held held' l e f),
+      ),
+    )
 
-pub hand_reached : (put w job : ℕ) (takers handed handed' : List ℕ) (held held' : List (Option ℕ)) → IsReached (length held) (kept_state put takers held handed) → w < length held → get_or held w None ≡ Some job
+pub hand_reached : (put w job : ℕ) (takers handed handed' : List ℕ) (held held' : List (Option ℕ))
+    → IsReached (length held) (kept_state put takers held handed) → w < length held → get_or held w None ≡ Some job
     → held' ≡ set held w None → handed' ≡ handed ++ job ∷ [] → IsReached (length held') (kept_state put takers held' handed')
 hand_reached put w job takers handed handed' held held' r l holds e f =
     let workers : length held' ≡ length held = ap length e ∙ length-set held w None in
@@ -125,7 +138,8 @@ hand_reached put w job takers handed handed' held held' r l holds e f =
     (Hand w ∷ r.0, (kept_state put takers held handed, r.1, (job, l, holds, kept_hand put w job takers handed handed' held held' e f)))
 
 -- if a job is held, fewer jobs were handed in than were put
-pub hand_room : (put w job : ℕ) (takers handed : List ℕ) (held : List (Option ℕ)) → IsReached (length held) (kept_state put takers held handed) → w < length held → get_or held w None ≡ Some job → length handed < put
+pub hand_room : (put w job : ℕ) (takers handed : List ℕ) (held : List (Option ℕ)) → IsReached (length held) (kept_state put takers held handed)
+    → w < length held → get_or held w None ≡ Some job → length handed < put
 hand_room put w job takers handed held r l holds =
     let one : ℕ → ℕ = λ _. 1 in
     let a = (accounted (length held) (kept_state put takers held handed) r).all one in

@@ -1,5 +1,6 @@
 -- The lists of the workers, in a pass and on the board.
-use Rattle.std.proofs.Common.{◌≡◌, ◌≢◌, ℕ, zero, suc, ◌+◌, ◌-◌, ◌<◌, ◌≤◌, Bool, true, false, List, [], ◌∷◌, ◌++◌, All, length, map, drop, get_or, nat_eq, if◌then◌else◌, Option, Some, None, IsSome, ◌⊎◌, inl, inr, ⊎_elim, refl, sym, ap, ◌∙◌, append_assoc, arith}
+use Rattle.std.proofs.Common.{◌≡◌, ◌≢◌, ℕ, zero, suc, ◌+◌, ◌-◌, ◌<◌, ◌≤◌, Bool, true, false, List, [], ◌∷◌, ◌++◌, All, length, map, drop, get_or}
+use Rattle.std.proofs.Common.{nat_eq, if◌then◌else◌, Option, Some, None, IsSome, ◌⊎◌, inl, inr, ⊎_elim, refl, sym, ap, ◌∙◌, append_assoc, arith}
 use Rattle.std.proofs.lemmas.Bool.{cases_lt}
 use Rattle.std.proofs.lemmas.Bool.Decides.{nat_tests}
 use Rattle.std.proofs.lemmas.List.{drop_all, drop_more, get_or_past, length-drop, length-map, nil_from_length}
@@ -135,7 +136,8 @@ module _ {D F : Type 0} where
   numbers-back first (None ∷ outs) = numbers-back (suc first) outs
   numbers-back first (Some out ∷ outs) = ap (λ l. numbered (present out.list) ++ l) (numbers-back (suc first) outs)
 
-  pub back_more : (first next : ℕ) (outs : List (Option (Answers D F))) (out : Option (Answers D F)) → next ≡ first + length outs → lists_back first (outs ++ out ∷ []) ≡ lists_back first outs ++ lists_back next (out ∷ [])
+  pub back_more : (first next : ℕ) (outs : List (Option (Answers D F))) (out : Option (Answers D F)) → next ≡ first + length outs
+      → lists_back first (outs ++ out ∷ []) ≡ lists_back first outs ++ lists_back next (out ∷ [])
   back_more first next [] out e = let k : first ≡ next = omega arith in ap (λ i. lists_back i (out ∷ [])) k
   back_more first next (None ∷ outs) out e = back_more (suc first) next outs out (omega arith)
   back_more first next (Some o ∷ outs) out e = ap (λ ls. taken_list first (numbered (present o.list)) ∷ ls) (back_more (suc first) next outs out (omega arith))

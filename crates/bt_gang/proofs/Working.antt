@@ -69,7 +69,8 @@ module _ {J D F : Type 0} where
 
 module _ {J D F : Type 0} (allows : J → Result D F → Type 0) where
   -- a worker that had taken nothing has exactly the answers that were added
-  pub served : (jobs : Jobs J D F) (all : List J) (others : TakenLists) (number : ℕ) (old new : Worker J D F) → IsReady jobs all others number old → new.number ≡ old.number → IsPassOf jobs.queue new.pass
+  pub served : (jobs : Jobs J D F) (all : List J) (others : TakenLists) (number : ℕ) (old new : Worker J D F) → IsReady jobs all others number old
+      → new.number ≡ old.number → IsPassOf jobs.queue new.pass
       → Gains allows (view old.pass) (view new.pass) old.out new.out → HasServed allows jobs all others number new
   served jobs all others number old new r same p g =
       let added : present new.out.list ≡ g.added = g.list ∙ ap (λ l. l ++ g.added) r.list in
@@ -80,7 +81,8 @@ module _ {J D F : Type 0} (allows : J → Result D F → Type 0) where
         may = subst (AllMay allows all) (sym added) (subst (λ js. AllMay allows js g.added) (ap (λ (y : Known J). y.jobs) r.knows) g.may);
       }
 
-  pub ready_spare : (jobs : Jobs J D F) (all : List J) (others : TakenLists) (number : ℕ) (w : Worker J D F) → IsReady jobs all others number w → length (view w.pass).jobs ≤ w.out.spare + length (numbers_of (view w.pass).lists)
+  pub ready_spare : (jobs : Jobs J D F) (all : List J) (others : TakenLists) (number : ℕ) (w : Worker J D F) → IsReady jobs all others number w
+      → length (view w.pass).jobs ≤ w.out.spare + length (numbers_of (view w.pass).lists)
   ready_spare jobs all others number w r = let l = ap (λ (y : Known J). length y.jobs) r.knows in let s = r.spare in omega arith
 
   -- the caller has exactly the answers that were added

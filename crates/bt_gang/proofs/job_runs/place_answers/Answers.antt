@@ -20,12 +20,16 @@ push_reserved-requires g c = some_room _ _ _ _ c.args.taken.ok.0 (ap length c.re
 pub place-requires : goal.place-requires
 place-requires g c =
     let shift = c.args.shift.now in
-    record { numbers = below_own (g.W.Work.allows shift.work.now) c.args.all.now.value.items (present c.args.mine.list) (concatenation (map answers_in c.args.others.items)) c.requires.may _ c.requires.slots }
+    record {
+      numbers = below_own (g.W.Work.allows shift.work.now) c.args.all.now.value.items (present c.args.mine.list)
+          (concatenation (map answers_in c.args.others.items)) c.requires.may _ c.requires.slots;
+    }
 
 pub place_all-requires-clause-numbers : goal.place_all-requires-clause-numbers
 place_all-requires-clause-numbers g c =
     let shift = c.args.shift.now in
-    below_rest (g.W.Work.allows shift.work.now) c.args.all.now.value.items (present c.args.mine.list) (concatenation (map answers_in c.args.others.items)) c.requires.may _ c.requires.slots _ c.place.ensures.slots
+    below_rest (g.W.Work.allows shift.work.now) c.args.all.now.value.items (present c.args.mine.list) (concatenation (map answers_in c.args.others.items))
+    c.requires.may _ c.requires.slots _ c.place.ensures.slots
 
 pub place_all-requires-clause-room : goal.place_all-requires-clause-room
 place_all-requires-clause-room g c =
@@ -35,7 +39,8 @@ place_all-requires-clause-room g c =
 pub returns-clause-slots : goal.returns-clause-slots
 returns-clause-slots g c =
     let shift = c.args.shift.now in
-    filled_all (g.W.Work.allows shift.work.now) c.args.all.now.value.items (present c.args.mine.list) (concatenation (map answers_in c.args.others.items)) c.requires.may _ c.requires.slots _ c.place.ensures.slots _ c.place_all.ensures.slots
+    filled_all (g.W.Work.allows shift.work.now) c.args.all.now.value.items (present c.args.mine.list) (concatenation (map answers_in c.args.others.items))
+    c.requires.may _ c.requires.slots _ c.place.ensures.slots _ c.place_all.ensures.slots
 
 pub returns-clause-numbers : goal.returns-clause-numbers
 returns-clause-numbers g c =

@@ -23,21 +23,25 @@ pub returns-in-Ok-clause-jobs : goal.returns-in-Ok-clause-jobs
 returns-in-Ok-clause-jobs g c = ap (λ v. v.jobs) c.requires.come.knows
 
 pub returns-in-Ok-clause-taken : goal.returns-in-Ok-clause-taken
-returns-in-Ok-clause-taken g c = are_lists (g.W.Work.allows c.args.shift.now.work.now) c.args.all.now.value.items _ (present c.args.answers.mine.list) c.args.answers.others.items c.requires.come _ c.place_answers-taken.ensures.numbers
+returns-in-Ok-clause-taken g c = are_lists (g.W.Work.allows c.args.shift.now.work.now) c.args.all.now.value.items _ (present c.args.answers.mine.list)
+    c.args.answers.others.items c.requires.come _ c.place_answers-taken.ensures.numbers
 
 pub returns-in-Ok-clause-absent : goal.returns-in-Ok-clause-absent
-returns-in-Ok-clause-absent g c = are_empty (g.W.Work.allows c.args.shift.now.work.now) c.args.all.now.value.items _ (present c.args.answers.mine.list) c.args.answers.others.items c.requires.come _ c.place_answers-taken.ensures.numbers
+returns-in-Ok-clause-absent g c = are_empty (g.W.Work.allows c.args.shift.now.work.now) c.args.all.now.value.items _ (present c.args.answers.mine.list)
+    c.args.answers.others.items c.requires.come _ c.place_answers-taken.ensures.numbers
 
 pub returns-in-Ok-clause-settled : goal.returns-in-Ok-clause-settled
 returns-in-Ok-clause-settled g c = c.requires.come.settled
 
 pub returns-in-Ok-clause-board : goal.returns-in-Ok-clause-board
 returns-in-Ok-clause-board g c =
-    all_taken (g.W.Work.allows c.args.shift.now.work.now) c.args.all.now.value.items _ (present c.args.answers.mine.list) c.args.answers.others.items c.requires.come _ c.place_answers-taken.ensures.numbers _ c.place_answers-taken.ensures.slots (ok_full _ _ c.in-Ok.ensures.values)
+    all_taken (g.W.Work.allows c.args.shift.now.work.now) c.args.all.now.value.items _ (present c.args.answers.mine.list) c.args.answers.others.items
+    c.requires.come _ c.place_answers-taken.ensures.numbers _ c.place_answers-taken.ensures.slots (ok_full _ _ c.in-Ok.ensures.values)
 
 pub returns-in-Ok-clause-once : goal.returns-in-Ok-clause-once
 returns-in-Ok-clause-once g c =
-    once (g.W.Work.allows c.args.shift.now.work.now) c.args.all.now.value.items _ (present c.args.answers.mine.list) c.args.answers.others.items c.requires.come _ c.place_answers-taken.ensures.numbers _ c.place_answers-taken.ensures.slots (ok_full _ _ c.in-Ok.ensures.values)
+    once (g.W.Work.allows c.args.shift.now.work.now) c.args.all.now.value.items _ (present c.args.answers.mine.list) c.args.answers.others.items
+    c.requires.come _ c.place_answers-taken.ensures.numbers _ c.place_answers-taken.ensures.slots (ok_full _ _ c.in-Ok.ensures.values)
 
 pub returns-in-Ok-clause-done : goal.returns-in-Ok-clause-done
 returns-in-Ok-clause-done g c = answered (g.W.Work.allows c.args.shift.now.work.now) c.args.all.now.value.items _ _ _ c.place_answers-taken.ensures.slots c.in-Ok.ensures.values
@@ -46,4 +50,5 @@ pub returns-in-Err-clause-fault : goal.returns-in-Err-clause-fault
 returns-in-Err-clause-fault g c = least_among (g.W.Work.allows c.args.shift.now.work.now) c.args.all.now.value.items _ _ _ c.place_answers-taken.ensures.slots c.in-Err.ensures.fault
 
 pub returns-in-Err-clause-memory : goal.returns-in-Err-clause-memory
-returns-in-Err-clause-memory g c = memory_wanted (g.W.Work.allows c.args.shift.now.work.now) c.args.all.now.value.items _ (present c.args.answers.mine.list) c.args.answers.others.items c.requires.come _ _ c.place_answers-taken.ensures.slots c.in-Err.ensures.fault
+returns-in-Err-clause-memory g c = memory_wanted (g.W.Work.allows c.args.shift.now.work.now) c.args.all.now.value.items _ (present c.args.answers.mine.list)
+    c.args.answers.others.items c.requires.come _ _ c.place_answers-taken.ensures.slots c.in-Err.ensures.fault

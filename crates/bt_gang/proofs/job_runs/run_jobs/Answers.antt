@@ -68,7 +68,8 @@ all_answers-answers-requires-clause-accepts g c κs within = subst (λ v. All (�
 
 pub results-requires-clause-places : goal.results-requires-clause-places
 results-requires-clause-places g c κs within =
-    let workers : c.args.crew.now.workers ≡ vec_len c.all_answers-answers.result.others + 1 = omega (arith, c.all_answers-answers.ensures.len, c.serve_threads-served.ensures.len, c.split-workers.ensures.len, c.in-Ok.ensures.outs.1) in
+    let workers : c.args.crew.now.workers ≡ vec_len c.all_answers-answers.result.others + 1 =
+    omega (arith, c.all_answers-answers.ensures.len, c.serve_threads-served.ensures.len, c.split-workers.ensures.len, c.in-Ok.ensures.outs.1) in
     let n : c.len-n.result ≡ length c.of-all.result.value.items = same_len _ _ _ _ c.len-n.ensures c.args.jobs.ok.0 (ap (λ v. length v.items) c.of-all.ensures) in
     let places = c.in-Ok.room.places in
     subst (λ k. AreEmptyPlaces k (length c.of-all.result.value.items) places) workers (subst (λ k. AreEmptyPlaces c.args.crew.now.workers k places) n c.in-Ok.ensures.places)

@@ -44,12 +44,14 @@ pub returns-clause-whole : goal.returns-clause-whole
 returns-clause-whole g c =
     let all = c.args.items.now in
     let i = c.loop-place.invariant in
-    all_items all c.loop-place.start (length all) c.loop-place.pieces.items c.push_reserved-2.new.self.items c.piece_at-2.result c.push_reserved-2.ensures.items i.within c.piece_at-2.ensures.items i.whole refl
+    all_items all c.loop-place.start (length all) c.loop-place.pieces.items c.push_reserved-2.new.self.items c.piece_at-2.result
+    c.push_reserved-2.ensures.items i.within c.piece_at-2.ensures.items i.whole refl
 
 pub returns-clause-row : goal.returns-clause-row
 returns-clause-row g c =
     let i = c.loop-place.invariant in
-    row_more c.args.items.now c.loop-place.start (length c.args.items.now) c.loop-place.pieces.items c.push_reserved-2.new.self.items c.piece_at-2.result c.push_reserved-2.ensures.items i.row i.start c.piece_at-2.ensures.before
+    row_more c.args.items.now c.loop-place.start (length c.args.items.now) c.loop-place.pieces.items c.push_reserved-2.new.self.items c.piece_at-2.result
+    c.push_reserved-2.ensures.items i.row i.start c.piece_at-2.ensures.before
 
 pub returns-clause-even : goal.returns-clause-even
 returns-clause-even g c =
@@ -57,4 +59,5 @@ returns-clause-even g c =
     let i = c.loop-place.invariant in
     let share = length all / c.args.count in
     let places : c.args.count - c.loop-place.place + 1 ≡ 1 = search rules in
-    even_more share c.loop-place.start (length all) all c.loop-place.pieces.items c.push_reserved-2.new.self.items c.piece_at-2.result c.push_reserved-2.ensures.items c.piece_at-2.ensures.items (omega arith) i.even (last_part share _ _ places i.rest)
+    even_more share c.loop-place.start (length all) all c.loop-place.pieces.items c.push_reserved-2.new.self.items c.piece_at-2.result
+    c.push_reserved-2.ensures.items c.piece_at-2.ensures.items (omega arith) i.even (last_part share _ _ places i.rest)

@@ -10,13 +10,15 @@ use Rattle.bt_gang.proofs.slots.is_full.Goals as goal
 pub returns-then-is_none-clause-free : goal.returns-then-is_none-clause-free
 returns-then-is_none-clause-free g c = λ _. (
   c.loop-place.place,
-  empty_there c.args.slots.now.items c.loop-place.place c.index.result.now c.is_none.result (omega (arith, c.loop-place-test.true, c.len-place-end.ensures, c.args.slots.now.ok.0)) c.index.ensures c.is_none.ensures c.if-is_none.true,
+  empty_there c.args.slots.now.items c.loop-place.place c.index.result.now c.is_none.result
+      (omega (arith, c.loop-place-test.true, c.len-place-end.ensures, c.args.slots.now.ok.0)) c.index.ensures c.is_none.ensures c.if-is_none.true,
 )
 
 pub loop-place-preserved : goal.loop-place-preserved
 loop-place-preserved g c = λ i l e.
     dite (ℕ_discrete i c.loop-place.place)
-    (λ same. full_there c.args.slots.now.items c.loop-place.place c.index.result.now c.is_none.result (omega (arith, c.loop-place-test.true, c.len-place-end.ensures, c.args.slots.now.ok.0)) c.index.ensures c.is_none.ensures c.if-is_none.false
+    (λ same. full_there c.args.slots.now.items c.loop-place.place c.index.result.now c.is_none.result
+    (omega (arith, c.loop-place-test.true, c.len-place-end.ensures, c.args.slots.now.ok.0)) c.index.ensures c.is_none.ensures c.if-is_none.false
     (subst (λ k. get_elem? c.args.slots.now.items k ≡ some None) same e))
     (λ ne. c.loop-place.invariant i (omega arith) e)
 

@@ -20,11 +20,14 @@ serve-requires-clause-spare g c κs within = room_last (g.W.Work.allows c.args.s
 pub serve-requires-clause-accepts : goal.serve-requires-clause-accepts
 serve-requires-clause-accepts g c κs within =
     let shift = c.args.shift.now in
-    subst (All (λ job. g.W.Work.accepts shift.work.now job)) (sym (jobs_last (g.W.Work.allows shift.work.now) _ _ _ _ c.take_in-others.result.items _ c.requires.served.mine c.take_in-others.ensures.pass.1)) c.requires.accepts
+    subst (All (λ job. g.W.Work.accepts shift.work.now job))
+    (sym (jobs_last (g.W.Work.allows shift.work.now) _ _ _ _ c.take_in-others.result.items _ c.requires.served.mine c.take_in-others.ensures.pass.1))
+    c.requires.accepts
 
 pub returns-clause-come : goal.returns-clause-come
 returns-clause-come g c =
     let shift = c.args.shift.now in
     let taken_in = c.take_in-others.ensures in
-    have_come (g.W.Work.allows shift.work.now) shift.jobs.now c.args.all.now.value.items _ c.args.served c.take_in-others.result.items _ _ c.serve.new.out c.requires.served c.args.served.others.ok.0 taken_in.outs taken_in.pass.1 c.serve.ensures.gains c.serve.ensures.last
+    have_come (g.W.Work.allows shift.work.now) shift.jobs.now c.args.all.now.value.items _ c.args.served c.take_in-others.result.items _ _ c.serve.new.out
+    c.requires.served c.args.served.others.ok.0 taken_in.outs taken_in.pass.1 c.serve.ensures.gains c.serve.ensures.last
     c.serve.ensures.settled

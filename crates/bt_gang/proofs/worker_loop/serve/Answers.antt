@@ -24,12 +24,14 @@ run-value-requires g c =
     at_all (g.W.Work.accepts c.args.work.now) was.jobs item.number item.job c.requires.accepts at
 
 pub add-requires : goal.add-requires
-add-requires g c = spare_left (g.W.Work.allows c.args.work.now) (view c.args.pass.now) _ _ c.args.out.now c.loop.out c.in-Some-pop_as.item c.loop.invariant.gains c.in-Some-pop_as.ensures.rule c.requires.pass.1 c.requires.spare
+add-requires g c = spare_left (g.W.Work.allows c.args.work.now) (view c.args.pass.now) _ _ c.args.out.now c.loop.out c.in-Some-pop_as.item
+    c.loop.invariant.gains c.in-Some-pop_as.ensures.rule c.requires.pass.1 c.requires.spare
 
 pub loop-preserved : goal.loop-preserved
 loop-preserved g c = record {
   pass = search rules;
-  gains = gains_more (g.W.Work.allows c.args.work.now) (view c.args.pass.now) _ _ c.args.out.now c.loop.out _ c.in-Some-pop_as.item _ c.loop.invariant.gains c.in-Some-pop_as.ensures.rule c.run-value.ensures c.add.ensures.list c.add.ensures.spare;
+  gains = gains_more (g.W.Work.allows c.args.work.now) (view c.args.pass.now) _ _ c.args.out.now c.loop.out _ c.in-Some-pop_as.item _ c.loop.invariant.gains
+      c.in-Some-pop_as.ensures.rule c.run-value.ensures c.add.ensures.list c.add.ensures.spare;
 }
 
 pub returns-in-None-pop_as-clause-settled : goal.returns-in-None-pop_as-clause-settled

@@ -3,8 +3,18 @@ use denote.Param.Send.{sendable}
 use Rattle.bt_gang.proofs.workers.child.Goals as goal
 
 pub spawn_scoped_with-requires-clause-runs : goal.spawn_scoped_with-requires-clause-runs
-spawn_scoped_with-requires-clause-runs g c κs within =
-    ((c.requires.worker, c.requires.accepts), (search sendable depth 20, search sendable depth 20, search sendable depth 20, search sendable depth 20, search sendable depth 20, search sendable depth 20))
+spawn_scoped_with-requires-clause-runs g c κs within = (
+  (c.requires.worker, c.requires.accepts),
+  (
+    search sendable depth 20,
+    search sendable depth 20,
+    search sendable depth 20,
+    search sendable depth 20,
+    search
+        sendable depth 20,
+    search sendable depth 20,
+  ),
+)
 
 pub returns-in-Ok : goal.returns-in-Ok
 returns-in-Ok g c =

@@ -21,10 +21,12 @@ loop-child-preserved g c =
     let shift = c.args.shift.now in
     let more = c.push_reserved.ensures in
     let number = 1 + vec_len c.loop-child.back in
-    let both = from_next (IsChild shift.work.now shift.jobs.now c.args.all.now.value.items) number (1 + vec_len c.push_reserved.new.self) _ _ _ c.in-Some.ensures.steps.0 (omega (arith, more.len)) i.children in
+    let both = from_next (IsChild shift.work.now shift.jobs.now c.args.all.now.value.items) number (1 + vec_len c.push_reserved.new.self) _ _ _
+    c.in-Some.ensures.steps.0 (omega (arith, more.len)) i.children in
     record {
       children = both.1;
-      back = from_more (HasServedIfStarted (g.W.Work.allows shift.work.now) shift.jobs.now c.args.all.now.value.items) 1 number c.loop-child.back.items _ c.join.result more.items (ap (λ k. 1 + k) c.loop-child.back.ok.0) i.back (c.join.ensures number both.0);
+      back = from_more (HasServedIfStarted (g.W.Work.allows shift.work.now) shift.jobs.now c.args.all.now.value.items) 1 number c.loop-child.back.items _
+          c.join.result more.items (ap (λ k. 1 + k) c.loop-child.back.ok.0) i.back (c.join.ensures number both.0);
       count = search rules;
       room = search rules;
     }

@@ -56,7 +56,8 @@ loop-out-preserved g c =
       count = search rules;
       few = i.few;
       room = search rules;
-      each = from_more Q 1 (vec_len c.push_reserved.new.self) c.loop-out.workers.items _ _ c.push_reserved.ensures.items (omega (arith, c.push_reserved.ensures.len, c.loop-out.workers.ok.0)) i.each ready;
+      each = from_more Q 1 (vec_len c.push_reserved.new.self) c.loop-out.workers.items _ _ c.push_reserved.ensures.items
+          (omega (arith, c.push_reserved.ensures.len, c.loop-out.workers.ok.0)) i.each ready;
     }
 
 pub returns-clause-pass : goal.returns-clause-pass

@@ -20,7 +20,8 @@ outs_more outs more w left rest all e f g =
 outs_none : {J D F : Type 0} (outs : List (Option (Answers D F))) → outs ≡ [] → (left all : List (Option (Worker J D F))) → left ≡ all → outs ++ map out_of left ≡ map out_of all
 outs_none outs none left all e = ap (λ l. l ++ map out_of left) none ∙ ap (map out_of) e
 
-pass_back : {J D F : Type 0} (allows : J → Result D F → Type 0) (jobs : Jobs J D F) (all : List J) (number : ℕ) (w : Option (Worker J D F)) → HasServedIfStarted allows jobs all number w → IfSome w (λ w. IsPassOf jobs.queue w.pass)
+pass_back : {J D F : Type 0} (allows : J → Result D F → Type 0) (jobs : Jobs J D F) (all : List J) (number : ℕ) (w : Option (Worker J D F))
+    → HasServedIfStarted allows jobs all number w → IfSome w (λ w. IsPassOf jobs.queue w.pass)
 pass_back allows jobs all number None h = tt
 pass_back allows jobs all number (Some w) h = h.pass
 
@@ -32,7 +33,8 @@ loop-worker-init g c =
     record {
       pass = c.requires.pass.0;
       took = took_nothing (view c.args.pass.now) c.args.outs.items empty;
-      workers = from_same (HasServedIfStarted (g.W.Work.allows shift.work.now) shift.jobs.now c.args.all.now.value.items) _ _ _ _ given.0 (omega (arith, c.args.outs.ok.0, ap length empty)) c.requires.workers;
+      workers = from_same (HasServedIfStarted (g.W.Work.allows shift.work.now) shift.jobs.now c.args.all.now.value.items) _ _ _ _ given.0
+          (omega (arith, c.args.outs.ok.0, ap length empty)) c.requires.workers;
       outs = outs_none c.args.outs.items empty _ _ given.0;
       count = counted _ _ _ _ c.args.outs.ok.0 (ap length empty) given.1;
       room = c.requires.room.1;
@@ -42,7 +44,9 @@ pub take_one-requires-clause-worker : goal.take_one-requires-clause-worker
 take_one-requires-clause-worker g c κs within =
     let shift = c.args.shift.now in
     let allows = g.W.Work.allows shift.work.now in
-    pass_back allows shift.jobs.now c.args.all.now.value.items _ c.in-Some.worker (from_next (HasServedIfStarted allows shift.jobs.now c.args.all.now.value.items) _ _ _ _ _ c.in-Some.ensures.steps.0 refl c.loop-worker.invariant.workers).0
+    pass_back allows shift.jobs.now c.args.all.now.value.items _ c.in-Some.worker
+    (from_next (HasServedIfStarted allows shift.jobs.now c.args.all.now.value.items) _ _ _ _ _ c.in-Some.ensures.steps.0 refl
+    c.loop-worker.invariant.workers).0
 
 pub take_one-requires-clause-pass : goal.take_one-requires-clause-pass
 take_one-requires-clause-pass g c κs within = (c.loop-worker.invariant.pass, took_list (view c.args.pass.now) _ c.loop-worker.outs.items c.loop-worker.invariant.took c.requires.pass.1)
@@ -54,7 +58,8 @@ loop-worker-preserved g c =
     let shift = c.args.shift.now in
     let more = c.push_reserved.ensures in
     let number = 1 + vec_len c.loop-worker.outs in
-    let both = from_next (HasServedIfStarted (g.W.Work.allows shift.work.now) shift.jobs.now c.args.all.now.value.items) number (1 + vec_len c.push_reserved.new.self) _ _ _ s.0 (omega (arith, more.len)) i.workers in
+    let both = from_next (HasServedIfStarted (g.W.Work.allows shift.work.now) shift.jobs.now c.args.all.now.value.items) number
+    (1 + vec_len c.push_reserved.new.self) _ _ _ s.0 (omega (arith, more.len)) i.workers in
     record {
       pass = c.take_one.ensures.pass;
       took = took_more (view c.args.pass.now) _ _ c.loop-worker.outs.items _ _ number more.items (ap (λ k. 1 + k) c.loop-worker.outs.ok.0) i.took (c.take_one.ensures.took number both.0);

@@ -12,4 +12,5 @@ pub serve-requires-clause-spare : goal.serve-requires-clause-spare
 serve-requires-clause-spare g c κs within = ready_spare (g.W.Work.allows c.args.shift.now.work.now) _ _ _ _ _ c.requires.worker
 
 pub returns : goal.returns
-returns g c = served (g.W.Work.allows c.args.shift.now.work.now) c.args.shift.now.jobs.now c.args.all.now.value.items [] _ c.args.worker _ c.requires.worker refl c.serve.ensures.pass c.serve.ensures.gains
+returns g c = served (g.W.Work.allows c.args.shift.now.work.now) c.args.shift.now.jobs.now c.args.all.now.value.items [] _ c.args.worker _ c.requires.worker
+    refl c.serve.ensures.pass c.serve.ensures.gains

@@ -8,7 +8,9 @@ pub push_reserved-requires : goal.push_reserved-requires
 push_reserved-requires c =
     let i = c.self.invariant in
     let here : c.args.worker < length c.self.inside.held.items = omega (arith, ap (λ b. length b.state.held) c.self.view_is, c.requires.worker) in
-    let holds : get_or c.self.inside.held.items c.args.worker None ≡ Some c.in-Some.job = sym (get_or_read_under c.self.inside.held.items c.args.worker (length c.self.inside.held.items) c.index.result.now None c.index.ensures here refl) ∙ c.in-Some.is in
+    let holds : get_or c.self.inside.held.items c.args.worker None ≡ Some c.in-Some.job =
+    sym (get_or_read_under c.self.inside.held.items c.args.worker (length c.self.inside.held.items) c.index.result.now None c.index.ensures here refl)
+    ∙ c.in-Some.is in
     let room = hand_room c.self.inside.put c.args.worker c.in-Some.job c.self.inside.takers.items c.self.inside.handed.items c.self.inside.held.items i.0 here holds in
     omega (arith, room, i.1, i.4, c.self.inside.handed.ok.0)
 
@@ -16,7 +18,9 @@ pub invariant_of-self : goal.invariant_of-self
 invariant_of-self c =
     let i = c.self.invariant in
     let here : c.args.worker < length c.self.inside.held.items = omega (arith, ap (λ b. length b.state.held) c.self.view_is, c.requires.worker) in
-    let holds : get_or c.self.inside.held.items c.args.worker None ≡ Some c.in-Some.job = sym (get_or_read_under c.self.inside.held.items c.args.worker (length c.self.inside.held.items) c.index.result.now None c.index.ensures here refl) ∙ c.in-Some.is in (
+    let holds : get_or c.self.inside.held.items c.args.worker None ≡ Some c.in-Some.job =
+    sym (get_or_read_under c.self.inside.held.items c.args.worker (length c.self.inside.held.items) c.index.result.now None c.index.ensures here refl)
+    ∙ c.in-Some.is in (
       hand_reached c.self.inside.put c.args.worker c.in-Some.job c.self.inside.takers.items c.self.inside.handed.items _ c.self.inside.held.items _ i.0 here holds refl c.push_reserved.ensures.items,
       i.1,
       i.2,

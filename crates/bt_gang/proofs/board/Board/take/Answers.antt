@@ -25,7 +25,8 @@ invariant_of-self c =
     let here : c.args.worker < length c.self.inside.held.items = omega (arith, ap (λ b. length b.state.held) c.self.view_is, c.requires.worker) in
     let front : c.len-front.result ≡ length c.self.inside.takers.items = omega (arith, c.len-front.ensures, c.self.inside.takers.ok.0) in
     let free : length c.self.inside.takers.items < c.self.inside.put = omega (arith, front, c.if-front-self.false, i.2) in (
-      take_reached c.self.inside.put c.args.worker c.self.inside.takers.items c.push_reserved.new.self.items c.self.inside.handed.items c.self.inside.held.items _ i.0 here none free items (ap (λ k. set c.self.inside.held.items c.args.worker (Some k)) front),
+      take_reached c.self.inside.put c.args.worker c.self.inside.takers.items c.push_reserved.new.self.items c.self.inside.handed.items
+          c.self.inside.held.items _ i.0 here none free items (ap (λ k. set c.self.inside.held.items c.args.worker (Some k)) front),
       i.1,
       omega (arith, free, ap length items, length-append c.self.inside.takers.items (c.args.worker ∷ [])),
       (let k = c.push_reserved.ensures.capacity in let l = i.3 in omega arith),
@@ -47,7 +48,8 @@ returns-clause-taken c =
     let items = c.push_reserved.ensures.items in
     let here : c.args.worker < length c.self.inside.held.items = omega (arith, ap (λ b. length b.state.held) c.self.view_is, c.requires.worker) in
     let front : c.len-front.result ≡ length c.self.inside.takers.items = omega (arith, c.len-front.ensures, c.self.inside.takers.ok.0) in
-    kept_take c.self.inside.put c.args.worker c.self.inside.takers.items c.push_reserved.new.self.items c.self.inside.handed.items c.self.inside.held.items _ here items (ap (λ k. set c.self.inside.held.items c.args.worker (Some k)) front)
+    kept_take c.self.inside.put c.args.worker c.self.inside.takers.items c.push_reserved.new.self.items c.self.inside.handed.items c.self.inside.held.items _
+    here items (ap (λ k. set c.self.inside.held.items c.args.worker (Some k)) front)
     ∙ (λ k. after_take c.args.worker (sym front k) (drop (length c.push_reserved.new.self.items) (below c.self.inside.put)) (c.self.view_is k).state)
 
 pub returns-clause-accounted : goal.returns-clause-accounted
