@@ -45,7 +45,7 @@ module _ {X M : Type 0} (effect : Option X → M → Option X) where
       ∙ sym (find-covered covers k (rows_after effect batch map))
 
 module _ {X E D : Type 0} (entry : List ℕ → X → Option (List ℕ × E)) (same : E → E → Bool) where
-  -- what is sent for covered keys looks at covered rows alone
+  -- what is sent for covered keys depends on covered rows alone
   entry_changes-covered : (covers : List ℕ → Bool) (old new : Rows X) (ks : Rows (Unit {0})) →
       entry_changes entry {D = D} same (λ k. find key_cmp k old) (λ k. find key_cmp k new) (covered covers ks)
       ≡ entry_changes entry {D = D} same (λ k. find key_cmp k (covered covers old)) (λ k. find key_cmp k (covered covers new)) (covered covers ks)
@@ -63,7 +63,7 @@ module _ {X E D : Type 0} (entry : List ℕ → X → Option (List ℕ × E)) (s
       ] refl
 
 module _ {X E D : Type 0} (entry : List ℕ → X → Option (List ℕ × E)) (same : E → E → Bool) (sound : (a b : E) → same a b ≡ true → a ≡ b) (merged : Option E → D → E) (Stands : List ℕ → X → Type 0) (apart : AreApart Stands entry) where
-  -- The messages of a batch, sorted by key, take the index of the covered rows before it to that of the covered rows after it.
+  -- The messages of a batch, sorted by key, change the index of the covered rows before it to that of the covered rows after it.
   pub index_turns : {M : Type 0} (effect : Option X → M → Option X) (covers : List ℕ → Bool) (batch : Messages M) (map : Rows X) → T (is_sorted key_cmp map) →
       EachStands Stands map → EachStands Stands (rows_after effect batch map) →
       rows_after (effect_of merged) (sorted_batch (index_messages entry same effect covers batch map)) (select entry (covered covers map)) ≡ select entry (covered covers (rows_after effect batch map))

@@ -1,4 +1,4 @@
--- A step of building sends what the rows that it reads add to the index.
+-- A step of building sends the entries that the rows it reads add to the index.
 use Rattle.std.proofs.Common.{◌≡◌, ℕ, zero, suc, ◌<◌, Bool, true, false, cond, not, ◌&&◌, T, List, [], ◌∷◌, ◌++◌, length, take, refl, sym, ap, subst, ◌∙◌, Option, Some, None, is_some, if◌then◌else◌, true≢false, arith}
 use Rattle.std.specs.Prelude.{nat_lt}
 use borrow.Author.Tests.{ltb-true}
@@ -39,7 +39,7 @@ module _ {X : Type 0} where
   last_later j k [] l h = l
   last_later j k (r ∷ rows) l h = last_later j r.0 rows (true_t _ (t_first _ _ h)) (t_second _ _ h)
 
-  -- a row, or none, where one is at most the key of this row
+  -- looking a key up in the first row alone finds what all rows have, if the key is at most that row's, and nothing otherwise
   alone : (k : List ℕ) (u : List ℕ × X) (us : Rows X) → T (is_sorted key_cmp (u ∷ us)) → find key_cmp k (u ∷ []) ≡ cond (not (is_before u.0 k)) (find key_cmp k (u ∷ us)) None
   alone k u us h = elim (eq_by_cmp key_cmp k u.0) as (λ b. eq_by_cmp key_cmp k u.0 ≡ b → cond b (Some u.1) None ≡ cond (not (is_before u.0 k)) (cond b (Some u.1) (find key_cmp k us)) None) [
     | true ↦ λ b. sym (ap (λ t. cond (not t) (Some u.1) None) (ap (λ j. is_before u.0 j) (same_key k u.0 b) ∙ not_before_itself u.0))
@@ -52,7 +52,7 @@ module _ {X : Type 0} where
     ] refl
   ] refl
 
-  -- the first rows are those at most the last key of them
+  -- the first rows are those up to the last key among them
   front : (k : List ℕ) (n : ℕ) (u : List ℕ × X) (us : Rows X) → T (is_sorted key_cmp (u ∷ us)) →
       find key_cmp k (u ∷ take n us) ≡ cond (not (is_before (last_key u.0 (take n us)) k)) (find key_cmp k (u ∷ us)) None
   front k zero u us h = alone k u us h
@@ -140,7 +140,7 @@ read_new true true x h = absurd (true≢false (sym h))
 read_new true false x h = absurd (true≢false (sym h))
 read_new false d x h = refl
 
--- what a key has after a step: what was read, and else what was covered before, which was nothing where something was read
+-- what a key has after a step: what was read, or else what was covered before, which was nothing if something was read
 abbrev Adds : {X : Type 0} → Option X → Option X → Option X → Type 0
 Adds old read new = (new ≡ cond (is_some read) read old) × (is_some read ≡ true → old ≡ None)
 
@@ -204,7 +204,7 @@ module _ {X E D : Type 0} (entry : List ℕ → X → Option (List ℕ × E)) (s
       ∙ ap (λ x. between {D = D} same (entry_in entry r.0 (find key_cmp r.0 old)) (entry_in entry r.0 x) ++ rest) (sym is)
 
 module _ {X E D : Type 0} (entry : List ℕ → X → Option (List ℕ × E)) (same : E → E → Bool) (sound : (a b : E) → same a b ≡ true → a ≡ b) (merged : Option E → D → E) (Stands : List ℕ → X → Type 0) (apart : AreApart Stands entry) where
-  -- The puts of a step of building, sorted by key, take the index of the rows covered before it to that of the rows covered after it.
+  -- The puts of a step of building, sorted by key, change the index of the rows covered before it to that of the rows covered after it.
   pub builds : (n : ℕ) (cover : Cover) (rows : Rows X) → T (is_sorted key_cmp rows) → EachStands Stands rows →
       rows_after (effect_of merged) (sorted_batch (puts_of entry (next_rows n cover rows))) (select entry (covered (is_covered cover) rows)) ≡ select entry (covered (is_covered (cover_after n cover rows)) rows)
   builds n cover rows h stand =

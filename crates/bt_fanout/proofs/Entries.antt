@@ -9,7 +9,7 @@ use Rattle.bt_keycode.proofs.offered.Codes.{no_proper_prefix}
 use Rattle.bt_fanout.specs.Entries.{Definition, StandsUnder, entry_of, passes, picked, value_in}
 use Rattle.bt_fanout.specs.Selections.{AreApart}
 
--- of two lists that are the same with something behind them, one begins the other
+-- of two lists that are equal once something is appended to each, one begins the other
 abbrev Begins : List ℕ → List ℕ → List ℕ → List ℕ → Type 0
 Begins first xs longer ys = (more : List ℕ) × ((longer ≡ first ++ more) × (xs ≡ more ++ ys))
 
@@ -24,7 +24,7 @@ one_begins (a ∷ one) xs (b ∷ other) ys e =
       | inr f ↦ inr (f.0, (ap (λ c. c ∷ one) head ∙ ap (λ cs. b ∷ cs) f.1.0, f.1.1))
     ]
 
--- where two codes of the same kinds have something behind them and are the same with it, what is behind is the same
+-- if two codes of the same kinds, each followed by something, are equal together with it, what follows is equal
 pub behind_all : (vs ws : List Value) → HaveSameKinds vs ws → (xs ys : List ℕ) → code_of vs ++ xs ≡ code_of ws ++ ys → xs ≡ ys
 behind_all vs ws kinds xs ys e = elim (one_begins (code_of vs) xs (code_of ws) ys e) as (λ _. xs ≡ ys) [
   | inl f ↦ f.1.1 ∙ ap (λ more. more ++ ys) (no_proper_prefix vs ws kinds f.0 f.1.0)

@@ -31,7 +31,7 @@ module _ (cover : Cover) where
     abbrev effect_at : List ℕ → Effect
     effect_at k = record { key = k; before = before k; after = after k }
 
-    -- behind a key that isn't covered there is no effect
+    -- after a key that isn't covered there is no effect
     none_at : (k : List ℕ) (ks : Rows (Unit {0})) → T (below_all key_cmp k ks) → is_covered cover k ≡ false → within (effects_at before after ks) ≡ []
     none_at k [] below none = refl
     none_at k (j ∷ ks) below none =
@@ -66,7 +66,7 @@ module _ (cover : Cover) where
     keys-by [] ms = refl
     keys-by (g ∷ gs) ms = ap (λ ks. g.0 ∷ ks) (keys-by gs (drop (suc g.1) ms))
 
-    -- those of the first group, and of the others
+    -- the effects of the first group, and of the others
     within-effects : (m : List ℕ × RowMessage) (ms : Messages RowMessage) → IsSorted (m ∷ ms) → effects_within cover (m ∷ ms) rows
         ≡ cond (is_covered cover m.0) (record { key = m.0; before = find key_cmp m.0 rows; after = value_of_group row_effect m.0 ms (row_effect (find key_cmp m.0 rows) m.1) } ∷ effects_within cover (behind_group m.0 ms) rows)
         (effects_within cover (behind_group m.0 ms) rows)
@@ -102,7 +102,7 @@ module _ (cover : Cover) where
 
 -- ---- the effects, one after the other
 
--- one effect more
+-- one more effect
 pub one_effect : {K : Type 0} (seen : K → List ℕ) (keys : List K) (others : List ℕ) (rows later : List (Option (List Value))) (row : Option (List Value)) (ms left : Messages RowMessage) (place : ℕ) (key : K)
     (count : ℕ) (effect : Effect) (whole old new : List Effect) → length old < length keys → length old < length others → place ≡ length old → key ≡ get_or keys place key → count ≡ get_or others place count →
     rows ≡ row ∷ later → effect.key ≡ seen key → effect.before ≡ row → effect.after ≡ value_after_first row_effect (count + 1) ms row → left ≡ drop (count + 1) ms → new ≡ old ++ effect ∷ [] →
@@ -125,7 +125,7 @@ one_effect seen keys others rows later row ms left place key count effect whole 
     ∙ sym (append_assoc old (effect ∷ []) (effects_in (map seen (drop (length new) keys)) (drop (length new) others) later left))
     ∙ ap (λ es. es ++ effects_in (map seen (drop (length new) keys)) (drop (length new) others) later left) (sym more)
 
--- The keys of a packet that a cover covers, and how many messages each has behind its first one.
+-- The keys of a packet that a cover covers, and for each how many messages it has after its first one.
 module _ {K : Type 0} (seen : K → List ℕ) (cover : Cover) (ms : Messages RowMessage) (keys : List K) (others : List ℕ) (is_keys : map seen keys ≡ map (λ g. g.0) (groups_within cover ms)) (is_others : others ≡ map (λ g. g.1) (groups_within cover ms)) (sorted : IsSorted ms) where
   pub keys_rise : AreRising (map seen keys)
   keys_rise = subst AreRising (sym is_keys) (groups_rise cover [] ms sorted)

@@ -25,14 +25,14 @@ use Rattle.bt_fanout.proofs.Lookups.{equal_itself}
 use Rattle.bt_fanout.proofs.offered.Packets.{sorted-named}
 use Rattle.bt_fanout.proofs.Sendings.{turned}
 
--- a key before another one, by the two tests that say so
+-- two keys that are not equal and not in descending order are in ascending order
 goes_before : (j k : List ℕ) → eq_by_cmp key_cmp j k ≡ false → is_before k j ≡ false → is_before j k ≡ true
 goes_before j k e h = elim (is_before j k) as (λ b. is_before j k ≡ b → b ≡ true) [
   | true ↦ λ b. refl
   | false ↦ λ b. absurd (true≢false (sym (equal_itself j) ∙ ap (eq_by_cmp key_cmp j) (neither_before j k b h) ∙ e))
 ] refl
 
--- what the first messages, as far as these are to one key, make of a value
+-- a value after the first messages, as far as these are to one key
 abbrev pub value_of_group : {V M : Type 0} → (Option V → M → Option V) → List ℕ → Messages M → Option V → Option V
 value_of_group effect k [] old = old
 value_of_group effect k (m ∷ ms) old = if eq_by_cmp key_cmp k m.0 then value_of_group effect k ms (effect old m.1) else old
@@ -122,7 +122,7 @@ effects-group m ms rows h =
     find-rows_after row_effect k (m ∷ ms) rows ∙ ap (λ t. value_after row_effect k ms (cond t (row_effect (f k) m.1) (f k))) other
     ∙ behind-value row_effect m.0 k ms (f k) other ∙ sym (find-rows_after row_effect k past rows)))
 
--- one group fewer is left
+-- fewer groups are left
 pub fewer_left : {M : Type 0} (m : List ℕ × M) (ms left later : Messages M) → left ≡ m ∷ ms → later ≡ behind_group m.0 ms → length later < length left
 fewer_left m ms left later is behind =
     let shorter = length-behind m.0 ms in
@@ -130,7 +130,7 @@ fewer_left m ms left later is behind =
 
 -- ---- covers
 
--- behind a key that isn't covered no key is
+-- after a key that isn't covered no key is
 pub uncovered_from : (cover : Cover) (k j : List ℕ) → is_before j k ≡ false → is_covered cover k ≡ false → is_covered cover j ≡ false
 uncovered_from Nothing k j from none = refl
 uncovered_from (UpTo last) k j from none = elim (is_before last k) as (λ b. is_before last k ≡ b → not b ≡ false → not (is_before last j) ≡ false) [
@@ -199,7 +199,7 @@ module _ {M : Type 0} where
         | false ↦ refl
       ]
 
-  -- one message fewer is left
+  -- fewer messages are left
   pub next_value : {V : Type 0} (effect : Option V → M → Option V) (n k : ℕ) (m : List ℕ × M) (ms left : Messages M) (old after : Option V) → left ≡ m ∷ ms → n ≡ suc k → after ≡ effect old m.1 →
       value_after_first effect n left old ≡ value_after_first effect k ms after
   next_value effect n k m ms left old after is count value =
@@ -217,12 +217,12 @@ moved whole old new rest x is more = is ∙ sym (append_assoc old (x ∷ []) res
 none_left : {A B : Type 0} (f : A → B) (whole old : List B) (left : List A) → left ≡ [] → whole ≡ old ++ map f left → old ≡ whole
 none_left f whole old left none is = sym (is ∙ ap (λ xs. old ++ map f xs) none ∙ append-nil old)
 
--- and where the next key isn't covered
+-- and if the next key isn't covered
 pub none_left_covered : {M B : Type 0} (f : List ℕ × ℕ → B) (cover : Cover) (m : List ℕ × M) (ms left : Messages M) (whole old : List B) → left ≡ m ∷ ms → IsSorted left → is_covered cover m.0 ≡ false →
     whole ≡ old ++ map f (groups_within cover left) → old ≡ whole
 none_left_covered f cover m ms left whole old is sorted none are = none_left f whole old (groups_within cover left) (none_covered cover m ms left is sorted none) are
 
--- one key more, and how many messages it has behind its first one
+-- one more key, and how many messages it has after its first one
 pub one_key : {M K : Type 0} (seen : K → List ℕ) (cover : Cover) (m : List ℕ × M) (ms left later : Messages M) (key : K) (count : ℕ) (keys new_keys : List K) (others new_others : List ℕ)
     (whole : List (List ℕ × ℕ)) → left ≡ m ∷ ms → IsSorted left → seen key ≡ m.0 → is_covered cover m.0 ≡ true → count ≡ group_count m.0 ms → later ≡ behind_group m.0 ms →
     map (λ g. g.0) whole ≡ map seen keys ++ map (λ g. g.0) (groups_within cover left) → map (λ g. g.1) whole ≡ others ++ map (λ g. g.1) (groups_within cover left) →

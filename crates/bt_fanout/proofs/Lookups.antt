@@ -32,7 +32,7 @@ module _ {E : Type 0} where
   is_at q None = false
   is_at q (Some e) = eq_by_cmp key_cmp q e.0
 
-  -- its value, where it has this key
+  -- its value, if it has this key
   abbrev pub value_at : List ℕ → Option (List ℕ × E) → Option E
   value_at q None = None
   value_at q (Some e) = cond (eq_by_cmp key_cmp q e.0) (Some e.1) None
@@ -63,7 +63,7 @@ module _ {X E : Type 0} (entry : List ℕ → X → Option (List ℕ × E)) wher
   IsOwner q k [] = Unit {0}
   IsOwner q k (r ∷ rows) = (is_at q (entry r.0 r.1) ≡ true → r.0 ≡ k) × IsOwner q k rows
 
-  -- what the index has at q is of that row
+  -- what the index has at q comes from that row
   pub find-select : (q k : List ℕ) (rows : Rows X) → T (is_sorted key_cmp rows) → IsOwner q k rows → find key_cmp q (select entry rows) ≡ value_at q (entry_in entry k (find key_cmp k rows))
   find-select q k [] s o = refl
   find-select q k (r ∷ rows) s o = elim (is_at q (entry r.0 r.1)) as (λ t. is_at q (entry r.0 r.1) ≡ t → find key_cmp q (select entry (r ∷ rows)) ≡ value_at q (entry_in entry k (find key_cmp k (r ∷ rows)))) [

@@ -31,7 +31,7 @@ placed : (old : List ℕ) (place : ℕ) (found : Option (List ℕ)) →
 placed old place None = refl
 placed old place (Some places) = ap Some (sym (append_assoc old (place ∷ []) places))
 
--- the place of one name more
+-- the place of one more name
 pub one_place : (columns : List Column) (name : List ℕ) (names : List (List ℕ)) (c : ℕ × Kind) (old new : List ℕ) → named_from 0 name columns ≡ Some c → new ≡ old ++ c.0 ∷ [] →
     option_map (λ others. old ++ others) (places_of columns (name ∷ names)) ≡ option_map (λ others. new ++ others) (places_of columns names)
 one_place columns name names c old new is more =
@@ -61,7 +61,7 @@ is_there start name (column ∷ columns) c e = by_test (pointwise ◌==◌ colum
         let later = others f in
         (suc later.0, (omega (arith, later.1.0), (omega (arith, later.1.1.0), later.1.1.1)))
 
--- a value that a field spells is of the kind
+-- a value that is written as a field of a kind is of that kind
 value_kind : (k : Kind) (field : List ℕ) (v : Value) → value_of k field ≡ Some v → kind_of v ≡ k
 value_kind k field v e = fits_kind_of k v (value_fits k field v e)
 
@@ -122,7 +122,7 @@ chosen_within columns on include places e = by_count (nat_le (length on) most_on
     by_count true f = by_places (places_of columns on) (places_of columns include) refl refl f
     by_count false f = cc
 
--- a definition that names make suits rows of the columns' kinds
+-- a definition that is made by names suits rows of the columns' kinds
 pub parts_suit : (columns schema : List Column) (on include : List (List ℕ)) (filter : Option Filter) (condition : Option Condition) (places : List ℕ × List ℕ) (keys : ℕ) →
     columns ≡ schema → keys ≤ length schema → both_read (condition_in columns filter) (chosen columns on include) ≡ Ok (condition, places) →
     SuitsKinds (record { on = places.0; include = places.1; condition = condition; keys = keys }) (kinds_of schema)
@@ -147,7 +147,7 @@ parts_suit columns schema on include filter condition places keys same few e = b
 
 -- ---- faults
 
--- the other names decide whether all columns are there, where one is
+-- if one name is a column, the other names decide whether all are
 pub one_there : (columns : List Column) (name : List ℕ) (names : List (List ℕ)) → is_none (named_from 0 name columns) ≡ false →
     is_some (places_of columns (name ∷ names)) ≡ is_some (places_of columns names)
 one_there columns name names there = by_column (named_from 0 name columns) (places_of columns names) there
@@ -164,7 +164,7 @@ one_absent columns name names absent = by_column (named_from 0 name columns) abs
     by_column None e = refl
     by_column (Some c) e = cc
 
--- a fault of the second part, and what the first part makes of it
+-- a fault of the second part, and the result together with the first part
 pub both_faulty : {S T : Type 0} (first : Result S Refusal) (second : Result T Refusal) (fault result : Refusal) → Some fault ≡ result_err second →
     both_read {T = Unit {0}} first (Err fault) ≡ Err result → both_read first second ≡ Err result
 both_faulty first (Ok y) fault result is e = cc

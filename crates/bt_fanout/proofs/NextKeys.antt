@@ -1,4 +1,4 @@
--- The keys past a key are those from its next key on. Serves steps of building.
+-- The keys after a key are those from its next key on. Serves steps of building.
 use Rattle.std.proofs.Common.{◌≡◌, ℕ, zero, suc, ◌<◌, Bool, true, false, not, ◌&&◌, List, [], ◌∷◌, ◌++◌, Some, None, refl, sym, ap, ◌∙◌, take, arith}
 use Rattle.std.proofs.Math.Seq.{take-nil}
 use Rattle.std.proofs.lemmas.List.Elements.{filter_agree}
@@ -14,13 +14,13 @@ use Rattle.bt_fanout.specs.declared.cover.Cover.{Cover}
 use Rattle.bt_fanout.specs.declared.cover.Cover.TheVariants.{UpTo, Whole}
 use Rattle.bt_fanout.proofs.offered.Suiting.{none_covered}
 
--- first bytes that tie leave it to the others; else two keys the other way round stand the other way round
+-- if the first bytes are equal, the others decide; the two keys in the other order give the opposite result
 by_first : (o : Ordering) (back others : Ordering) → (is_lt back ≡ not (is_lt others)) → is_lt (ordering_then (ordering_reverse o) back) ≡ not (is_lt (ordering_then o others))
 by_first Less back others h = refl
 by_first Equal back others h = h
 by_first Greater back others h = refl
 
--- a key is past another one just where it is not before that with a byte 0 behind it
+-- a key is after another one exactly if it is not before that one followed by a byte 0
 past : (c k : List ℕ) → is_before k (c ++ 0 ∷ []) ≡ not (is_before c k)
 past [] [] = refl
 past [] (zero ∷ []) = refl
@@ -34,18 +34,18 @@ and_true : (b : Bool) → (b && true) ≡ b
 and_true true = refl
 and_true false = refl
 
--- so it is not covered up to that other one just where it lies from the next key on
+-- so it is not covered up to that other one exactly if it lies from the next key on
 between_is : (last k : List ℕ) → is_between (Some (last ++ 0 ∷ [])) None k ≡ not (is_covered (UpTo last) k)
 between_is last k = and_true (not (is_before k (last ++ 0 ∷ []))) ∙ ap not (past last k)
 
 module _ {X : Type 0} (count : ℕ) (cover : Cover) (rows : Rows X) where
-  -- the next rows behind a key
+  -- the next rows after a key
   pub from_next : (last next : List ℕ) → cover ≡ UpTo last → next ≡ last ++ 0 ∷ [] → take count (messages_between (Some next) None rows) ≡ next_rows count cover rows
   from_next last next up_to is =
       ap (λ k. take count (messages_between (Some k) None rows)) is
       ∙ ap (take count) (filter_agree (λ (r : List ℕ × X). is_between (Some (last ++ 0 ∷ [])) None r.0) (λ r. not (is_covered (UpTo last) r.0)) (λ r. between_is last r.0) rows)
       ∙ ap (λ c. next_rows count c rows) (sym up_to)
 
-  -- where all are covered there is none
+  -- if all keys are covered there are no next rows
   pub none_left : cover ≡ Whole → next_rows count cover rows ≡ []
   none_left whole = ap (λ c. next_rows count c rows) whole ∙ ap (take count) (none_covered rows) ∙ take-nil count

@@ -6,7 +6,7 @@ use Rattle.bt_fanout.specs.Selections.{AreApart, EachStands}
 use Rattle.bt_fanout.proofs.Lookups.{IsOwner, is_at}
 
 module _ {X E : Type 0} (entry : List ℕ → X → Option (List ℕ × E)) (Stands : List ℕ → X → Type 0) (apart : AreApart Stands entry) where
-  -- two rows that have an entry with one key are under one key
+  -- two rows that have entries with the same key are under the same key
   pub one_owner : (q j k : List ℕ) (x y : X) → Stands j x → Stands k y → is_at q (entry j x) ≡ true → is_at q (entry k y) ≡ true → j ≡ k
   one_owner q j k x y s t = go (entry j x) (entry k y) refl refl
     where
@@ -22,7 +22,7 @@ module _ {X E : Type 0} (entry : List ℕ → X → Option (List ℕ × E)) (Sta
   abbrev Found : List ℕ → Type 0
   Found q = (k : List ℕ) × ((x : X) × (Stands k x × (is_at q (entry k x) ≡ true)))
 
-  -- a row with an entry at q, or none has one
+  -- either a row has an entry at q, or no row has one
   searched : (q : List ℕ) (rows : Rows X) → EachStands Stands rows → Found q ⊎ ((k : List ℕ) → IsOwner entry q k rows)
   searched q [] all = inr (λ k. tt)
   searched q (r ∷ rows) all = elim (is_at q (entry r.0 r.1)) as (λ t. is_at q (entry r.0 r.1) ≡ t → Found q ⊎ ((k : List ℕ) → IsOwner entry q k (r ∷ rows))) [

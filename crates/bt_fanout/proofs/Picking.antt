@@ -12,14 +12,14 @@ use Rattle.bt_fanout.specs.Entries.{picked, value_in}
 pub value_seen : (row : List Value) (place : ℕ) (v : Value) → slice_get row place ≡ Some v → value_in row place ≡ v
 value_seen row place v is = get_or_from_slice_get row place v (value.Flag false) is
 
--- the value at one place more
+-- one more value
 pub one_more : (places : List ℕ) (i d : ℕ) (row : List Value) (v : Value) (whole old new : List Value) → i < length places → slice_get row (get_or places i d) ≡ Some v →
     whole ≡ old ++ picked (drop i places) row → new ≡ old ++ v ∷ [] → whole ≡ new ++ picked (drop (i + 1) places) row
 one_more places i d row v whole old new within is so more =
     so ∙ ap (λ ps. old ++ picked ps row) (drop_more places i d within) ∙ ap (λ x. old ++ x ∷ picked (drop (i + 1) places) row) (value_seen row (get_or places i d) v is)
     ∙ sym (append_assoc old (v ∷ []) (picked (drop (i + 1) places) row)) ∙ ap (λ vs. vs ++ picked (drop (i + 1) places) row) (sym more)
 
--- and its code
+-- and one more code
 pub one_code_more : (places : List ℕ) (i d : ℕ) (row : List Value) (v : Value) (whole old new : List ℕ) → i < length places → slice_get row (get_or places i d) ≡ Some v →
     whole ≡ old ++ code_of (picked (drop i places) row) → new ≡ old ++ code_of_value v → whole ≡ new ++ code_of (picked (drop (i + 1) places) row)
 one_code_more places i d row v whole old new within is so more =

@@ -1,4 +1,4 @@
--- The packets of pieces of the effects, one behind the other, are sorted to the packet of all effects.
+-- The packets of pieces of the effects, one after the other, are sorted to the packet of all effects.
 use Rattle.std.proofs.Common.{◌≡◌, List, [], ◌∷◌, ◌++◌, append_assoc, map, refl, sym, ap, ◌∙◌}
 use mathlib.Core.List.{map-map}
 use Rattle.std.proofs.lemmas.List.Elements.{All-cons, All-head, All-nil, All-tail}
@@ -11,7 +11,7 @@ use Rattle.bt_fanout.specs.Entries.{Definition}
 use Rattle.bt_fanout.specs.declared.cover.Cover.{Cover}
 use Rattle.bt_fanout.specs.declared.effect.Effect.{Effect}
 
--- ---- what holds of each item holds of each item of a piece
+-- ---- what is true of each item is true of each item of a piece
 
 module _ {X : Type 0} (P : X → Type 0) where
   front : (xs ys : List X) → All P (xs ++ ys) → All P xs

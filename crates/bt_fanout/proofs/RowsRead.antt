@@ -89,7 +89,7 @@ module _ (def : Definition) where
   last_read read r [] h = ap (λ n. if n == 1 then Some r.0 else read.last) h
   last_read read r (s ∷ rows) h = last_read (after_row def read r) s rows (omega (arith, h))
 
-  -- the cover behind rows
+  -- the cover after rows
   cover_read : (count : ℕ) (cover : Cover) (rows : Rows (List Value)) → length rows ≤ count →
       cover_behind cover (fold (after_row def) (none_read count) rows).left (fold (after_row def) (none_read count) rows).last ≡ next_cover count cover rows
   cover_read count cover [] h = refl

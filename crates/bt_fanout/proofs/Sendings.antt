@@ -1,4 +1,4 @@
--- What is sent to an index takes it from the entries of the rows before to those of the rows after.
+-- What is sent to an index changes it from the entries of the rows before to those of the rows after.
 use Rattle.std.proofs.Common.{◌≡◌, ℕ, Bool, true, false, cond, T, List, [], ◌∷◌, ◌++◌, refl, sym, ap, subst, ◌∙◌, ◌⊎◌, inl, inr, Option, Some, None, if◌then◌else◌, is_some}
 use Rattle.std.specs.Ordering.{eq_by_cmp}
 use Rattle.std.specs.FinMap.{find}
@@ -13,7 +13,7 @@ use Rattle.bt_messages.proofs.offered.Rows.{find-rows_after, same_rows, sorted-r
 use Rattle.bt_fanout.specs.Selections.{between, entry_changes, entry_in, select}
 use Rattle.bt_fanout.proofs.Lookups.{IsOwner, find-select, is_at, not-owner, sorted-select, value_at}
 
--- messages behind others come after them
+-- messages appended to others apply after them
 value_after-append : {V M : Type 0} (effect : Option V → M → Option V) (q : List ℕ) (ms ns : Messages M) (o : Option V) → value_after effect q (ms ++ ns) o ≡ value_after effect q ns (value_after effect q ms o)
 value_after-append effect q [] ns o = refl
 value_after-append effect q (m ∷ ms) ns o = value_after-append effect q ms ns (cond (eq_by_cmp key_cmp q m.0) (effect o m.1) o)
@@ -58,7 +58,7 @@ module _ {E D : Type 0} (same : E → E → Bool) (sound : (a b : E) → same a 
   flipped (inl h) = inr h
   flipped (inr h) = inl h
 
-  -- what is sent for a row leaves the value of its new entry, where there was that of its old one, or this already
+  -- what is sent for a row leaves the value of its new entry, if the value was that of its old entry or already that of the new one
   pub here : (q : List ℕ) (a b : Option (List ℕ × E)) (o : Option E) → (o ≡ value_at q a) ⊎ (o ≡ value_at q b) → value_after (effect_of merged) q (between same a b) o ≡ value_at q b
   here q None None o h = joined refl h
   here q None (Some new) o h = put_is (eq_by_cmp key_cmp q new.0) (Some new.1) o (λ e. none_or _ _ o e h)
@@ -79,12 +79,12 @@ alike : {A : Type 0} (b : Bool) (x : A) → cond b x x ≡ x
 alike true x = refl
 alike false x = refl
 
--- the test of two keys the other way round
+-- the test of two keys in the other order
 pub turned : (j k : List ℕ) → eq_by_cmp key_cmp j k ≡ false → eq_by_cmp key_cmp k j ≡ false
 turned j k e = (eq_by_cmp_equiv total_keys).symm k j ∙ e
 
 module _ {X E D : Type 0} (entry : List ℕ → X → Option (List ℕ × E)) (same : E → E → Bool) (sound : (a b : E) → same a b ≡ true → a ≡ b) (merged : Option E → D → E) where
-  -- of the keys, the one that has the entry at q decides, and else nothing is sent to q
+  -- only the key that has the entry at q decides; for all other keys nothing is sent to q
   entry_changes-at : (q k : List ℕ) (old new : Rows X) → IsOwner entry q k old → IsOwner entry q k new → (ks : Rows (Unit {0})) (o : Option E) →
       (o ≡ value_at q (entry_in entry k (find key_cmp k old))) ⊎ (o ≡ value_at q (entry_in entry k (find key_cmp k new))) →
       value_after (effect_of merged) q (entry_changes entry same (λ j. find key_cmp j old) (λ j. find key_cmp j new) ks) o
@@ -107,7 +107,7 @@ module _ {X E D : Type 0} (entry : List ℕ → X → Option (List ℕ × E)) (s
             ap (value_after (effect_of merged) q rest) (elsewhere same sound merged q a b o (not-owner entry q k j.0 old c other) (not-owner entry q k j.0 new d other)) ∙ entry_changes-at q k old new c d ks o h
       ] refl
 
-  -- Between two maps in which each key q has one owner, what is sent for all keys at which they differ takes the index of the one to the index of the other.
+  -- Between two maps in which each key q has one owner, what is sent for all keys at which they differ changes the index of the one to the index of the other.
   pub sends : (old new : Rows X) (ks : Rows (Unit {0})) → T (is_sorted key_cmp old) → T (is_sorted key_cmp new) →
       ((k : List ℕ) → is_some (find key_cmp k ks) ≡ false → find key_cmp k old ≡ find key_cmp k new) →
       ((q : List ℕ) → (k : List ℕ) × (IsOwner entry q k old × IsOwner entry q k new)) →

@@ -92,7 +92,7 @@ module _ {E : Type 0} where
   in_order [] h = tt
   in_order (e ∷ es) h = (from_below e.0 es (t_first _ _ h), in_order es (t_second _ _ h))
 
-  -- no two of strictly rising keys are one
+  -- no two of strictly rising keys are equal
   none_tied : (x : List ℕ × E) (k : List ℕ) (es : Rows E) → x.0 ≡ k → T (below_all key_cmp k es) → filter (ties earlier x) es ≡ []
   none_tied x k [] same h = refl
   none_tied x k (e ∷ es) same h =
@@ -131,7 +131,7 @@ module _ {X E : Type 0} (entry : List ℕ → X → Option (List ℕ × E)) wher
               ∙ ap (λ zs. cond (ties earlier x a) (a ∷ zs) zs) (selects_in_order rows (t_second _ _ sorted) stand.1 x)
         ] refl
 
-    -- so entries are in one order by rising key
+    -- so entries have only one order by rising key
     reordered_are_selected : (rows : Rows X) (es : Rows E) → T (is_sorted key_cmp rows) → EachStands Stands rows → IsPermutation (entries_of rows) es → IsSorted es → es ≡ select entry rows
     reordered_are_selected rows es sorted stand moved up =
         stable_is_sorted_batch (entries_of rows) es up
@@ -151,7 +151,7 @@ sorted_entries-are def rows sorted suits moved up =
 
 -- ---- while they are collected
 
--- the entry of one row more
+-- the entry of one more row
 pub one_more : (def : Definition) (rows : Rows (List Value)) (i : ℕ) (row : List ℕ × List Value) (whole old new : Rows (List Value)) → i < length rows → row ≡ get_or rows i row →
     whole ≡ old ++ own_entries def (drop i rows) → new ≡ old ++ option_to_list (own_entry def (Some row.1)) → whole ≡ new ++ own_entries def (drop (i + 1) rows)
 one_more def rows i row whole old new within is so more =

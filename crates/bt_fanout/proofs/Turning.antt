@@ -22,7 +22,7 @@ use Rattle.bt_fanout.proofs.Batches.{index_turns}
 use Rattle.bt_fanout.proofs.Entries.{apart}
 
 module _ (def : Definition) (kinds : List Kind) where
-  -- where rows stand under their keys, a row's entry is the one under its own key
+  -- if rows are under the codes of their key columns, a row's entry is the one under its own key
   own-is : (k : List ℕ) (rows : Rows (List Value)) → EachStands (StandsUnder def kinds) rows → own_entry def (find key_cmp k rows) ≡ entry_in (entry_of def) k (find key_cmp k rows)
   own-is k [] h = refl
   own-is k (r ∷ rows) h = elim (eq_by_cmp key_cmp k r.0) as (λ b. eq_by_cmp key_cmp k r.0 ≡ b →
@@ -57,7 +57,7 @@ turns_index def cover effects kinds batch rows e sorted s t =
           ∙ index_turns (entry_of def) same_values same_values-sound merged_entry (StandsUnder def kinds) (apart def kinds) row_effect (is_covered cover) batch rows sorted s t;
     }
 
--- the messages for one effect more
+-- the messages for one more effect
 pub one_more : (def : Definition) (cover : Cover) (effects : List Effect) (i : ℕ) (effect : Effect) (whole old new : Messages EntryMessage) → i < length effects → effect ≡ get_or effects i effect →
     whole ≡ old ++ sent_for_all def cover (drop i effects) → new ≡ old ++ sent_for def cover effect → whole ≡ new ++ sent_for_all def cover (drop (i + 1) effects)
 one_more def cover effects i effect whole old new within is so more =

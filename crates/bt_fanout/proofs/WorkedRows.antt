@@ -65,7 +65,7 @@ from_effects : sent_for_all on_qty (UpTo (k 2)) (effects_of batch rows) ≡ (k 1
 unfolding eight_bytes
 from_effects = refl
 
--- what the law says of them
+-- what the law says about them
 turned : rows_after entry_effect (packet on_qty (UpTo (k 2))) (index_of on_qty (UpTo (k 2)) rows) ≡ index_of on_qty (UpTo (k 2)) (rows_after row_effect batch rows)
 unfolding eight_bytes
 turned = refl
@@ -84,7 +84,7 @@ complete : cover_after 2 (UpTo (k 2)) rows ≡ Whole
 unfolding eight_bytes
 complete = refl
 
--- the same where it is to read five; one that is to read just the row that is left doesn't complete the index, and the next one reads nothing and does
+-- the same if it is to read five rows; a step that is to read exactly the row that is left doesn't complete the index, and the next one reads nothing and does
 abbrev behind_two : Rows (List Value)
 behind_two = (k 3, row 3 30) ∷ []
 
@@ -117,7 +117,7 @@ no_rows : (cover_after 0 Nothing rows ≡ Nothing) × (cover_after 0 (UpTo (k 2)
 unfolding eight_bytes
 no_rows = (refl, refl, refl, refl)
 
--- the rows behind the second one are those from its next key on
+-- the rows after the second one are those from its next key on
 behind : messages_between (Some (k 2 ++ 0 ∷ [])) None rows ≡ behind_two
 unfolding eight_bytes
 behind = refl

@@ -1,4 +1,4 @@
--- Which keys an index covers, and how a step of its building moves that on.
+-- Which keys an index covers, and how a step of building widens that.
 use Rattle.std.specs.Prelude.{ℕ, Bool, true, false, not, [], ◌∷◌, ◌++◌, take, length, nat_lt, Option, Some, None, if◌then◌else◌}
 use Rattle.bt_keycode.specs.Keys.{Key, is_before}
 use Rattle.bt_messages.specs.Effects.{Rows}
@@ -9,7 +9,7 @@ use Rattle.bt_fanout.specs.Selections.{covered}
 use Rattle.bt_fanout.specs.declared.cover.Cover.{Cover}
 use Rattle.bt_fanout.specs.declared.cover.Cover.TheVariants.{Nothing, UpTo, Whole}
 
--- whether a key is covered: none is, those at most a last one are, or all are
+-- whether a key is covered: none is, or those up to and including a last one are, or all are
 abbrev pub is_covered : Cover → Key → Bool
 is_covered Nothing k = false
 is_covered (UpTo last) k = not (is_before last k)
@@ -38,12 +38,12 @@ abbrev pub last_key : {X : Type 0} → Key → Rows X → Key
 last_key k [] = k
 last_key k (r ∷ rows) = last_key r.0 rows
 
--- up to the last key that was read; as it was, where none was read
+-- up to the last key that was read; unchanged if none was read
 abbrev pub moved_to : {X : Type 0} → Cover → Rows X → Cover
 moved_to cover [] = cover
 moved_to cover (r ∷ rows) = UpTo (last_key r.0 rows)
 
--- the cover after a step of building that was to read n rows and read these: whole, where they are fewer
+-- the cover after a step of building that was to read n rows and read these: whole, if they are fewer than n
 abbrev pub next_cover : {X : Type 0} → ℕ → Cover → Rows X → Cover
 next_cover n cover read = if nat_lt (length read) n then Whole else moved_to cover read
 

@@ -13,11 +13,11 @@ use Rattle.bt_fanout.specs.Entries.{Definition}
 use Rattle.bt_fanout.specs.declared.definition.Condition.{Condition}
 use Rattle.bt_row.specs.declared.filter.Filter.{Filter}
 
--- columns that an index is ordered by
+-- the largest number of columns that an index is ordered by
 abbrev pub most_on : ℕ
 most_on = 4
 
--- columns that an index includes
+-- the largest number of columns that an index includes
 abbrev pub most_included : ℕ
 most_included = 8
 
@@ -25,19 +25,19 @@ most_included = 8
 abbrev pub kinds_of : List Column → List Kind
 kinds_of columns = map (λ c. c.kind) columns
 
--- the places of the columns with these names, in the order of the names, where all are there
+-- the places of the columns with these names, in the order of the names, if all of them exist
 abbrev pub places_of : List Column → List (List ℕ) → Option (List ℕ)
 places_of columns [] = Some []
 places_of columns (name ∷ names) = option_and_then (λ c. option_map (λ places. c.0 ∷ places) (places_of columns names)) (named_from 0 name columns)
 
--- the columns that an index is ordered by and those that it includes, or the refusal of them: too many, or one that is not there
+-- the columns that an index is ordered by and those that it includes, or the refusal of them: too many, or one that doesn't exist
 abbrev pub chosen : List Column → List (List ℕ) → List (List ℕ) → Result (List ℕ × List ℕ) Refusal
 chosen columns on include =
     if nat_le (length on) most_on && nat_le (length include) most_included
     then or_refused NoSuchColumn (option_and_then (λ first. option_map (λ others. (first, others)) (places_of columns include)) (places_of columns on))
     else Err TooMany
 
--- the condition of a filter on a column that is there; its constant may be no value of the column
+-- the condition of a filter on a column that exists; its constant may not be a value of the column
 abbrev pub condition_at : Filter → ℕ × Kind → Result Condition Refusal
 condition_at filter column =
     or_refused (BadField 1) (option_map (λ constant. record { place = column.0; test = filter.test; constant = constant }) (value_of column.1 filter.constant))
@@ -51,7 +51,7 @@ abbrev pub condition_in : List Column → Option Filter → Result (Option Condi
 condition_in columns None = Ok None
 condition_in columns (Some filter) = result_map_both Some (λ e. e) (condition_of columns filter)
 
--- the definition of an index by names, or the least refusal of its filter and of its columns
+-- the definition of an index by names, or the smallest refusal of its filter and of its columns
 abbrev pub definition_as : Schema → List (List ℕ) → List (List ℕ) → Option Filter → Result Definition Refusal
 definition_as schema on include filter =
     result_map_both (λ read. record { on = read.1.0; include = read.1.1; condition = read.0; keys = schema.keys }) (λ e. e)

@@ -1,4 +1,4 @@
--- What a batch does to rows, and the messages of an index for that.
+-- How a batch changes rows, and the messages of an index for that.
 use Rattle.std.specs.Prelude.{List, [], ◌∷◌, ◌++◌, length, Option, Some, None, if◌then◌else◌}
 use Rattle.std.specs.FinMap.{find}
 use Rattle.std.specs.List.{filter}
@@ -23,14 +23,14 @@ RowMessage = Message (List Value) Change
 abbrev pub EntryMessage : Type 0
 EntryMessage = Message (List Value) (List Value)
 
--- what a message makes of a row, and of an entry
+-- a row after a message, and an entry after a message
 abbrev pub row_effect : Option (List Value) → RowMessage → Option (List Value)
 row_effect = effect_of row_terms.merged
 
 abbrev pub entry_effect : Option (List Value) → EntryMessage → Option (List Value)
 entry_effect = effect_of entry_terms.merged
 
--- what a message to a row means, and to an entry: what it makes of it, and what it weighs
+-- the meaning of a message to a row, and to an entry: its effect and its weight
 abbrev pub row_meaning : Meaning (List Value) RowMessage
 row_meaning = meaning_of row_terms
 

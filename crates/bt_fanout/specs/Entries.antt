@@ -1,4 +1,4 @@
--- What an index is, and the entry of a row.
+-- The definition of an index, and the entry of a row.
 use Rattle.std.specs.Prelude.{ℕ, ◌≡◌, ◌<◌, ◌≤◌, ◌&&◌, ◌++◌, Bool, true, false, not, List, get_or, length, map, nat_lt, Option, Some, None, if◌then◌else◌}
 use Rattle.std.specs.List.{All, list_all}
 use Rattle.std.specs.Ordering.{is_eq, is_lt}
@@ -16,8 +16,8 @@ use Rattle.bt_fanout.specs.declared.definition.Condition.{Condition}
 use Rattle.bt_row.specs.declared.filter.Test.{Test}
 use Rattle.bt_row.specs.declared.filter.Test.TheVariants as test
 
--- what a contract sees of a definition of an index: the places of the columns that it is ordered by and of those that it includes, the condition on its
--- rows, if it has one, and how many columns are the key of the table
+-- the definition of an index as a contract sees it: the places of the columns that it is ordered by and of those that it includes, the condition on its
+-- rows, if it has one, and the number of key columns of the table
 pub record Definition : Type 0 where
   pub on : List ℕ
   pub include : List ℕ
@@ -32,7 +32,7 @@ value_in row place = get_or row place (value.Flag false)
 abbrev pub picked : List ℕ → List Value → List Value
 picked places row = map (value_in row) places
 
--- whether a value that stands so to a constant passes a test
+-- whether a value that compares to a constant like this passes a test
 abbrev pub meets : Test → Ordering → Bool
 meets test.Equal order = is_eq order
 meets test.Less order = is_lt order
@@ -43,7 +43,8 @@ abbrev pub passes : Option Condition → List Value → Bool
 passes None row = true
 passes (Some condition) row = meets condition.test (value_cmp (value_in row condition.place) condition.constant)
 
--- the entry of a row that passes: its key is the code of the columns that the index is ordered by, followed by the key of the row, its value the included columns
+-- the entry of a row that passes: its key is the code of the columns that the index is ordered by, followed by the key of the row; its value is the
+-- included columns
 abbrev pub entry_of : Definition → Key → List Value → Option (Key × List Value)
 entry_of def key row = if passes def.condition row then Some (code_of (picked def.on row) ++ key, picked def.include row) else None
 
@@ -70,7 +71,7 @@ pub record IsWithin (def : Definition) (columns : ℕ) : Type 0 where
   pub include : All (λ place. place < columns) def.include
   pub condition : HasPlace def.condition columns
 
--- the same as tests
+-- the same two facts as tests
 abbrev pub has_place : Option Condition → ℕ → Bool
 has_place None columns = true
 has_place (Some condition) columns = nat_lt condition.place columns

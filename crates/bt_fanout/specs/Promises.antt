@@ -1,4 +1,4 @@
--- What is promised of the messages of an index.
+-- What is promised about the messages of an index.
 use Rattle.std.specs.Prelude.{◌≡◌, ◌++◌, ℕ, List, [], ◌∷◌, Some, T, length}
 use Rattle.std.specs.FinMap.{is_sorted}
 use Rattle.std.specs.List.{All}
@@ -20,12 +20,12 @@ index_of def cover rows = select (entry_of def) (covered (is_covered cover) rows
 
 -- ---- batches
 
--- a packet is that of a batch on rows, and turns the index of the covered rows before it into that of the covered rows after it
+-- a packet is that of a batch on rows, and changes the index of the covered rows before it to that of the covered rows after it
 pub record Turns (def : Definition) (cover : Cover) (batch : Messages RowMessage) (rows : Rows (List Value)) (packet : Messages EntryMessage) : Type 0 where
   pub messages : packet ≡ sorted_batch (index_messages (entry_of def) same_values row_effect (is_covered cover) batch rows)
   pub index : rows_after entry_effect packet (index_of def cover rows) ≡ index_of def cover (rows_after row_effect batch rows)
 
--- whatever batch effects are of, where each row stands under the code of its key columns before and after it
+-- for any batch that the effects come from, if each row is under the code of its key columns before it and after it
 abbrev pub TurnsIndex : Definition → Cover → List Effect → Messages EntryMessage → Type 0
 TurnsIndex def cover effects packet =
     (kinds : List Kind) (batch : Messages RowMessage) (rows : Rows (List Value)) → effects ≡ effects_of batch rows → T (is_sorted key_cmp rows) →
@@ -38,7 +38,7 @@ abbrev pub own_puts : Definition → Rows (List Value) → Messages EntryMessage
 own_puts def [] = []
 own_puts def (r ∷ rows) = put_of_entry (own_entry def (Some r.1)) ++ own_puts def rows
 
--- where the rows are those that a step of building reads, the packet turns the index of the rows covered before it into that of the rows covered after it
+-- if the rows are those that a step of building reads, the packet changes the index of the rows covered before it to that of the rows covered after it
 abbrev pub BuildsFrom : Definition → Rows (List Value) → Messages EntryMessage → Type 0
 BuildsFrom def read packet =
     (kinds : List Kind) (n : ℕ) (cover : Cover) (rows : Rows (List Value)) → read ≡ next_rows n cover rows → T (is_sorted key_cmp rows) →

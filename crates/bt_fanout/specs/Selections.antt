@@ -1,4 +1,4 @@
--- What an index selects of a map, and the messages that keep it so.
+-- What an index selects of a map, and the messages that keep it equal to that.
 use Rattle.std.specs.Prelude.{◌≡◌, Bool, [], ◌∷◌, ◌++◌, Option, Some, None, if◌then◌else◌}
 use Rattle.std.specs.FinMap.{find, put}
 use Rattle.std.specs.FinMap.Entries.{where_key}
@@ -30,8 +30,8 @@ module _ {E : Type 0} where
   with_entry None index = index
   with_entry (Some e) index = put key_cmp e.0 e.1 index
 
-  -- what takes an index from the entry that a row had to the one that it has: nothing where they are equal, a put where they have the
-  -- same key, else a del of the old one and a put of the new one, as far as they are there
+  -- the messages that change an index from the entry that a row had to the one that it has: none if the entries are equal, a put if they have the same key,
+  -- otherwise a del of the old one and a put of the new one, as far as they exist
   abbrev pub between : {D : Type 0} → (E → E → Bool) → Option (Key × E) → Option (Key × E) → Messages (Message E D)
   between same None None = []
   between same None (Some new) = (new.0, Put new.1) ∷ []
@@ -40,7 +40,7 @@ module _ {E : Type 0} where
       if eq_by_cmp key_cmp old.0 new.0 then (if same old.1 new.1 then [] else (new.0, Put new.1) ∷ [])
       else (old.0, Del) ∷ (new.0, Put new.1) ∷ []
 
--- An index has, for a row under its key, an entry or none.
+-- An index has one entry or none for a row under its key.
 module _ {X E : Type 0} (entry : Key → X → Option (Key × E)) where
   -- the entry of the row that a key has, if it has one
   abbrev pub entry_in : Key → Option X → Option (Key × E)
@@ -63,14 +63,14 @@ module _ {X E : Type 0} (entry : Key → X → Option (Key × E)) where
     index_messages effect covers batch map =
         entry_changes (λ k. find key_cmp k map) (λ k. find key_cmp k (rows_after effect batch map)) (covered covers (named batch))
 
--- ---- rows whose entries have keys of their own
+-- ---- rows whose entries have different keys
 
 module _ {X : Type 0} (Stands : Key → X → Type 0) where
-  -- each row stands as it should under its key
+  -- each row and its key meet a condition
   abbrev pub EachStands : Rows X → Type 0
   EachStands [] = Unit {0}
   EachStands (r ∷ rows) = Stands r.0 r.1 × EachStands rows
 
-  -- rows that stand so under two keys have entries with two keys
+  -- rows that meet it under two keys have entries with two keys
   abbrev pub AreApart : {E : Type 0} → (Key → X → Option (Key × E)) → Type 0
   AreApart {E} entry = (j k : Key) (x y : X) (a b : Key × E) → Stands j x → Stands k y → entry j x ≡ Some a → entry k y ≡ Some b → a.0 ≡ b.0 → j ≡ k

@@ -1,4 +1,4 @@
-//! What rows mean for an index that does not cover them yet.
+//! The entries of rows that an index does not cover yet.
 ghost use Rattle.std.specs.FinMap.{is_sorted};
 ghost use Rattle.std.specs.Prelude.{◌≡◌, ◌++◌, IfOk, IsTrue, OnOk, length};
 ghost use Rattle.std.specs.List.{All};
@@ -62,8 +62,8 @@ fn entries_in_order(
     Ok(entries)
 }
 
-/// The entries of all rows, by rising key: what an index that is made of these rows has. No two rows have entries of one key, since the key of the row is
-/// behind it.
+/// The entries of all rows, in ascending order of their keys: the contents of an index that is made from these rows. No two entries have the same key, since
+/// the key of an entry ends with the key of its row.
 pub fn sorted_entries(
     alloc: Global,
     def: &IndexDef,

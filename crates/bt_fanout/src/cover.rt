@@ -7,18 +7,18 @@ use bt_keycode::Key;
 use std::alloc::{AllocError, Global};
 use std::cmp::Ordering;
 
-/// The keys whose rows an index has.
+/// The part of the keys whose rows an index has.
 #[derive(Debug, Drop)]
 pub enum Cover {
-    /// None.
+    /// No key.
     Nothing,
-    /// The keys at most this one, the last that was read.
+    /// The keys up to and including this one, which was the last that was read.
     UpTo(Key),
-    /// All.
+    /// All keys.
     Whole,
 }
 
-/// Whether a key is covered. Takes no memory.
+/// Whether a key is covered. Allocates nothing.
 pub fn covers(cover: &Cover, key: &Key) -> bool
     ensures { result ≡ is_covered cover.now key.now }
 {
@@ -29,7 +29,7 @@ pub fn covers(cover: &Cover, key: &Key) -> bool
     }
 }
 
-/// The wider of two covers: it covers the keys that one of them does. Takes no memory.
+/// The wider of two covers: it covers each key that one of them covers. Allocates nothing.
 pub fn wider<'a>(cover: &'a Cover, other: &'a Cover) -> &'a Cover
     ensures { result.now ≡ spec.wider cover.now other.now }
 {
@@ -61,7 +61,7 @@ pub(crate) fn copy_cover(alloc: Global, cover: &Cover) -> Result<Cover, AllocErr
     }
 }
 
-// The least of the keys past a key: its bytes, and a byte 0 behind them.
+// The smallest key that is larger than this one: its bytes followed by a byte 0.
 pub(crate) fn next_key(alloc: Global, key: &Key) -> Result<Key, AllocError>
     ensures { IfOk result (λ next. next ≡ key.now ++ 0 ∷ []) }
 {

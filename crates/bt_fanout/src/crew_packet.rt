@@ -1,4 +1,4 @@
-//! The packet of an index, made in pieces by a crew.
+//! The packet of an index, made in pieces by a crew of workers.
 ghost use Rattle.std.specs.Prelude.{◌≡◌, IfOk};
 ghost use Rattle.std.specs.List.{All};
 ghost use Rattle.bt_messages.specs.Messages.{sorted_batch};
@@ -49,8 +49,8 @@ impl<'a> Work for EffectPackets<'a> {
 
 /// The packet of an index for the effects of a batch.
 ///
-/// Each worker makes the packet of a piece of the effects, and these are merged. There is no more than one worker for each four grains of effects; where
-/// that is one worker, no thread starts. An `Err` is for want of memory; every worker has ended then.
+/// Each worker makes the packet of a piece of the effects, and these packets are merged. There is at most one worker for every four grains of effects; if
+/// that is one worker, no thread starts. An `Err` means out of memory; every worker has ended by then.
 pub fn index_packet<G: Gate + Sync, T: Threads + Wait + Sync>(
     rt: &T,
     alloc: Global,

@@ -1,4 +1,4 @@
-//! What an index is.
+//! The definition of an index.
 ghost use Rattle.std.specs.Prelude.{◌≡◌, Err, IfErr, IfOk, nat_lt};
 ghost use Rattle.std.specs.List.{list_all};
 ghost use Rattle.std.specs.Option.{option_copied};
@@ -12,13 +12,13 @@ use bt_value::{Refusal, Sequence, Texts, Value};
 use std::alloc::Global;
 use std::marker::Model;
 
-/// The most columns that an index is ordered by.
+/// The largest number of columns that an index is ordered by.
 pub const MOST_ON: usize = 4;
 
-/// The most columns that an index includes.
+/// The largest number of columns that an index includes.
 pub const MOST_INCLUDED: usize = 8;
 
-/// Which rows an index has: those whose value at a place, counted from 0, passes the test against a constant.
+/// The rows that an index has: those whose value at a place, counted from 0, passes the test against a constant.
 #[derive(Debug, Drop)]
 pub struct Condition {
     pub place: usize,
@@ -26,8 +26,8 @@ pub struct Condition {
     pub constant: Value,
 }
 
-/// What an index is: the places of the columns that it is ordered by and of those that it includes, counted from 0 and each in the
-/// order in which they were named, the condition on its rows, and how many columns are the key of the table.
+/// The definition of an index: the places of the columns that it is ordered by and of those that it includes, the condition on its rows, and the number of
+/// key columns of the table. Places are counted from 0 and are in the order in which the columns were named.
 #[derive(Debug, Drop)]
 pub struct IndexDef {
     on: Sequence<usize>,
@@ -44,7 +44,7 @@ impl Model for IndexDef {
     ghost view = { λ d. record { on = d.on; include = d.include; condition = d.condition; keys = d.keys } };
 }
 
-// Whether places are below a number of columns.
+// Whether all places are below a number of columns.
 fn are_below(places: &[usize], columns: usize) -> bool
     ensures { result ≡ list_all (λ place. nat_lt place columns) places.now }
 {
@@ -56,7 +56,7 @@ fn are_below(places: &[usize], columns: usize) -> bool
     true
 }
 
-// Whether the place of a condition is.
+// Whether the place of a condition, if there is one, is below a number of columns.
 fn has_place(condition: &Option<Condition>, columns: usize) -> bool
     ensures { result ≡ spec.has_place condition.now columns }
 {
@@ -67,11 +67,11 @@ fn has_place(condition: &Option<Condition>, columns: usize) -> bool
 }
 
 impl IndexDef {
-    /// The definition of an index on 1 to 4 columns, which includes up to 8, with these names; a name may stand twice.
+    /// The definition of an index on 1 to 4 columns that includes up to 8, by the names of the columns. A name may occur twice.
     ///
-    /// The least refusal that applies is answered: `BadField` of item 1 where the constant is no value of its column, which is not tested
-    /// where there is no such column; `TooMany` where one of the lists is too long; `NoSuchColumn` where a name is not of the schema.
-    /// Each of them is found before memory is asked for.
+    /// If several refusals apply, the smallest of them is returned: `BadField` of item 1 if the constant is not a value of the filter's column, which is not
+    /// tested if there is no such column; `TooMany` if one of the lists is too long; `NoSuchColumn` if a name is not in the schema.
+    /// Each of them is found before any memory is allocated.
     pub fn new(
         alloc: Global,
         schema: &Schema,
@@ -129,7 +129,7 @@ impl IndexDef {
         &self.condition
     }
 
-    // How many columns are the key of the table.
+    // The number of key columns of the table.
     pub(crate) fn keys(&self) -> usize
         ensures { result ≡ self.now.keys }
     {

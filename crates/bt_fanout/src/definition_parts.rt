@@ -55,7 +55,7 @@ fn are_there(columns: &[Column], names: &[String]) -> bool
     true
 }
 
-// The refusal of the columns that an index is ordered by and of those that it includes, if they have one. Takes no memory.
+// The refusal of the columns that an index is ordered by and of those that it includes, if they have one. Allocates nothing.
 fn chosen_fault(columns: &[Column], on: &[String], include: &[String]) -> Option<Refusal>
     ensures fault { result ≡ result_err (spec.chosen columns.now (map string_bytes on.now) (map string_bytes include.now)) }
     ensures least { IfSome result (λ fault. lesser Refusal.OutOfMemory fault ≡ fault) }
@@ -69,7 +69,7 @@ fn chosen_fault(columns: &[Column], on: &[String], include: &[String]) -> Option
     Some(Refusal::NoSuchColumn)
 }
 
-// The lesser of the refusal of a filter, if it has one, and a fault. Want of memory is the greater one of two.
+// The smaller of the refusal of a filter, if it has one, and a fault. Out of memory is larger than any fault.
 fn refusal_with(read: Result<Option<Condition>, Refusal>, fault: Refusal) -> Refusal
     requires { lesser Refusal.OutOfMemory fault ≡ fault }
     ensures { (answer : Result (Option Condition) Refusal) → Answers answer read → IfErr answer (λ e. read ≡ Err e) → both_read {T = Unit {0}} answer (Err fault) ≡ Err result }
@@ -99,7 +99,7 @@ fn read_places(
     Ok(places)
 }
 
-// The places of the columns that an index is ordered by and of those that it includes, which have no fault.
+// The places of the columns that an index is ordered by and of those that it includes, if these have no fault.
 fn read_chosen(
     alloc: Global,
     columns: &[Column],
@@ -114,7 +114,7 @@ fn read_chosen(
     Ok((first, others))
 }
 
-// The condition of a filter, if there is one, and the chosen columns. Faults go before want of memory.
+// The condition of a filter, if there is one, and the chosen columns. A fault is reported rather than out of memory.
 pub(crate) fn read_parts(
     alloc: Global,
     columns: &[Column],

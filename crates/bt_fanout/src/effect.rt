@@ -1,4 +1,4 @@
-//! What a batch does to the row of a key.
+//! How a batch changes the row of a key.
 use bt_keycode::Key;
 use bt_row::Row;
 

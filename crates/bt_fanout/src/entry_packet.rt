@@ -1,4 +1,4 @@
-//! The messages of an index for what a batch does to rows.
+//! The messages of an index for the effects of a batch on the rows.
 ghost use Rattle.std.specs.Prelude.{◌≡◌, ◌++◌, ◌∷◌, [], IfOk, OnOk, Some};
 ghost use Rattle.std.specs.List.{All};
 ghost use Rattle.bt_value.specs.Views.{value_of_ref};
@@ -20,7 +20,7 @@ use bt_row::{Row, same_values};
 use std::alloc::{AllocError, Global};
 use std::cmp::Ordering;
 
-// Adds a del of a key and a put of an entry with another one.
+// Adds a del of one key and a put of an entry with another key.
 fn add_move(
     messages: &mut Vec<(Key, Message<Entry>)>,
     old: Key,
@@ -34,7 +34,7 @@ fn add_move(
     Ok(())
 }
 
-// Adds what takes an entry to another one that is there too.
+// Adds the messages that change one entry to another; both are present.
 fn add_change(
     messages: &mut Vec<(Key, Message<Entry>)>,
     old: (Key, Entry),
@@ -57,7 +57,7 @@ fn add_change(
     add_put(messages, Some(new))
 }
 
-// Adds what takes an entry, or none, to another one, or none.
+// Adds the messages that change one entry, or none, to another one, or none.
 fn add_between(
     messages: &mut Vec<(Key, Message<Entry>)>,
     old: Option<(Key, Entry)>,
@@ -94,7 +94,7 @@ fn own_entry(
     }
 }
 
-// Adds what an effect sends.
+// Adds the messages for one effect.
 fn add_effect(
     alloc: Global,
     messages: &mut Vec<(Key, Message<Entry>)>,
@@ -113,7 +113,7 @@ fn add_effect(
     add_between(messages, old, new)
 }
 
-/// The packet of an index for the effects of a batch, by the caller alone.
+/// The packet of an index for the effects of a batch, made by the caller without workers.
 pub fn index_packet_alone(
     alloc: Global,
     def: &IndexDef,

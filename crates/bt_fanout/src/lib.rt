@@ -1,28 +1,29 @@
-//! Secondary indexes: the entries of rows, and the messages that keep an index what its definition selects.
+//! Secondary indexes: the entries of rows, and the messages that keep an index equal to what its definition selects.
 //!
-//! An index is ordered by some columns of a table, may include others, and may have a filter. A row that passes it has one entry:
-//! its key is the code of the columns that the index is ordered by, with the key of the row behind it, and its value the included
-//! columns. So rows with different keys have entries with different keys.
+//! An index is ordered by some columns of a table, may include other columns, and may have a filter. A row that passes the filter has
+//! one entry. The key of the entry is the code of the columns that the index is ordered by, followed by the key of the row. Its value is
+//! the included columns. So rows with different keys have entries with different keys.
 //!
-//! An index that is building covers a part of the keys: none at first, then those up to the last row that was read, in the end all. A
-//! batch sends it what changes at keys that it covers. A step of building sends it the entries of the next rows, which are read where
-//! they stand in the tree. A load packs the tree of an index of the sorted entries of all rows.
+//! An index that is building covers a part of the keys: none at first, then those up to the last row that was read, and in the end all. A
+//! batch sends it the changes at keys that it covers. A step of building sends it the entries of the next rows, which it reads in the tree
+//! without copying them. A load builds the tree of an index from the sorted entries of all rows.
 //!
 //! ```text
 //! // an index on the quantity, of the rows that have a quantity of 15 or more
 //! let filter = Filter { column: qty, test: Test::AtLeast, constant: Bytes::from_slice(alloc, b"15")? };
 //! let def = IndexDef::new(alloc, &schema, &on, &include, Some(&filter))?;
-//! // the messages that a packet of rows means for it, worked out while the tree of rows is as it was before
+//! // how a packet changes the rows, worked out before the tree of rows has the packet, and the messages of the index for that
 //! let effects = effects(&rt, alloc, &rows, &packet, &Cover::Whole, &crew)?;
 //! let entries = index_packet(&rt, alloc, &def, &Cover::Whole, effects.as_slice(), &crew)?;
-//! // the messages of a step of building that reads the first hundred rows not covered yet, and how far the index covers them with it
+//! // the messages of a step of building that reads the first hundred rows not covered yet, and the cover after it
 //! let BuildStep { packet, cover, read } = build_step(alloc, &def, &cover, &rows, 100)?;
 //! ```
 //!
-//! `specs` has the definitions. `Selections` says, for any entries, what an index selects of a map and which messages a batch sends to
-//! it; `Entries` what the entry of a row is, `Definitions` what names and filters mean, `Covers` which keys a building index covers and
-//! what a step of building reads, `Effects` what a batch does to rows, and `Promises` what the messages of an index do. `inside/Readings` has
-//! what a step of building keeps of the rows while it reads them, `inside/RowEntries` the entries of rows before they are sorted.
+//! `specs` has the definitions. `Selections` says, for any kind of entries, what an index selects of a map and which messages a batch
+//! sends to it. `Entries` defines the entry of a row, `Definitions` the meaning of names and filters, and `Covers` which keys a building
+//! index covers and which rows a step of building reads. `Effects` defines how a batch changes rows, and `Promises` what the messages of
+//! an index do. `inside/Readings` has what a step of building keeps of the rows while it reads them, and `inside/RowEntries` the entries
+//! of rows before they are sorted.
 #![tactic(auto)]
 
 mod building;

@@ -1,4 +1,4 @@
-//! What messages do to the rows of their keys.
+//! How messages change the rows of their keys.
 ghost use Rattle.std.specs.Prelude.{◌≡◌, ◌+◌, ◌<◌, ◌^◌, IfOk, OnOk, drop, length, map, option_map};
 ghost use Rattle.bt_keycode.specs.Keys.{IsSorted};
 ghost use Rattle.bt_node.specs.Flushes.{holds};
@@ -20,14 +20,14 @@ use std::thread::Threads;
 
 // ---- the keys
 
-// The keys that a packet names, each once and in order, and beside each how many messages it has behind its first one.
+// The keys that a packet names, each once and in order, and for each key the number of its messages after the first.
 #[derive(Drop)]
 struct NamedKeys<'a> {
     keys: Vec<&'a Key>,
     others: Vec<usize>,
 }
 
-// How many messages are to this key before the first to another one, and that one, from which on messages are left.
+// The number of messages to this key that come next, and the first message to another key, if there is one. That message is taken from the iterator too.
 fn messages_behind<'a>(
     key: &Key,
     messages: &mut BufferMessages<'a, Row>,
@@ -46,7 +46,7 @@ fn messages_behind<'a>(
     (count, None)
 }
 
-// The keys that a packet names, as far as a cover goes: behind the first that it doesn't cover none is looked at.
+// The keys that a packet names and that a cover covers. Messages after the first key that is not covered are not looked at.
 fn named_keys<'a>(
     alloc: Global,
     packet: &'a Packet<Row>,
@@ -85,7 +85,7 @@ fn copy_of(alloc: Global, row: &Option<Row>) -> Result<Option<Row>, AllocError>
     }
 }
 
-// What a message makes of a row, or of none, that stays. Only an upsert looks at it, so it is copied for that alone.
+// A row, or none, after a message. The row that was there before stays; only an upsert reads it, so it is copied for an upsert alone.
 fn effect_on(
     alloc: Global,
     before: &Option<Row>,
@@ -100,7 +100,7 @@ fn effect_on(
     }
 }
 
-// What the next message, and so many others behind it, make of a row, or of none, that stays.
+// A row, or none, after the next message and that many others after it. The row that was there before stays.
 fn row_after(
     alloc: Global,
     before: &Option<Row>,
@@ -123,7 +123,7 @@ fn row_after(
     Ok(after)
 }
 
-// The effects of a packet on its keys, which had these rows. No keys are compared.
+// The effects of a packet on its keys, which have these rows before it. No keys are compared.
 fn effects_on(
     alloc: Global,
     packet: &Packet<Row>,
@@ -145,8 +145,8 @@ fn effects_on(
     Ok(effects)
 }
 
-/// What the messages of a packet do to the rows of a tree, which doesn't have them yet: for each key that they name and the cover covers, the row
-/// before and the row after, in order of the keys. The rows are looked up by a crew; other keys are neither looked up nor copied.
+/// How the messages of a packet change the rows of a tree that does not have the messages yet: for each key that they name and that the cover covers, the row
+/// before and the row after, in order of the keys. A crew looks the rows up. Other keys are neither looked up nor copied.
 pub fn effects<G: Gate + Sync, T: Threads + Wait + Sync>(
     rt: &T,
     alloc: Global,
@@ -162,7 +162,7 @@ pub fn effects<G: Gate + Sync, T: Threads + Wait + Sync>(
     effects_on(alloc, packet, &named, rows)
 }
 
-/// The same, where the caller alone looks the rows up: it goes through the tree once, and only where these keys lead.
+/// The same effects, without workers: the caller looks the rows up in one pass through the tree that reads only the nodes of these keys.
 pub fn effects_alone(
     alloc: Global,
     tree: &Tree<Row>,

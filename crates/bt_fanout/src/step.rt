@@ -20,7 +20,7 @@ use bt_row::Row;
 use std::alloc::{AllocError, Global};
 use std::marker::Model;
 
-/// What a step of building sends to an index, how far the index covers the rows after it, and how many rows it read.
+/// The messages that a step of building sends to an index, the cover of the index after it, and the number of rows that it read.
 #[derive(Drop)]
 pub struct BuildStep {
     pub packet: Packet<Entry>,
@@ -28,8 +28,8 @@ pub struct BuildStep {
     pub read: usize,
 }
 
-// What becomes a step, row by row: the messages for the index, how many more rows are to be read, and the key of the last one, copied once
-// none is to be read. A contract sees the definition, and beside it the rest.
+// A step that is being made row by row: the messages for the index, how many more rows are to be read, and the key of the last row, which is copied when
+// no more rows are to be read. A contract sees the definition, and the rest beside it.
 #[derive(Drop)]
 struct Builder<'a> {
     def: &'a IndexDef,
@@ -76,7 +76,7 @@ impl<'a> Visitor<Row> for Builder<'a> {
     }
 }
 
-// The cover behind rows with this last key, where so many more were to be read.
+// The cover after rows with this last key; `left` is how many more rows were to be read.
 fn cover_behind(
     alloc: Global,
     cover: &Cover,
@@ -95,7 +95,7 @@ fn cover_behind(
 }
 
 impl<'a> Builder<'a> {
-    // Before the first of so many rows.
+    // The state before the first of `count` rows.
     fn new(alloc: Global, def: &'a IndexDef, count: usize) -> Self
         ensures { result ≡ (def.now, spec.none_read count) }
     {
@@ -107,7 +107,7 @@ impl<'a> Builder<'a> {
         }
     }
 
-    // The step that was to read so many rows.
+    // The step that was to read `count` rows.
     fn finish(self, alloc: Global, cover: &Cover, count: usize) -> Result<BuildStep, AllocError>
         requires { self.1.left ≤ count }
         ensures packet { IfOk result (λ step. step.packet ≡ sorted_batch self.entry.1.messages) }
@@ -130,7 +130,7 @@ impl<'a> Builder<'a> {
     }
 }
 
-// Reads the first rows of a tree that are not covered, so many at most. They begin at the next key past the last one that is covered.
+// Reads at most `count` rows of a tree: the first that are not covered. They begin at the smallest key after the last one that is covered.
 fn read_next(
     alloc: Global,
     cover: &Cover,
@@ -150,13 +150,12 @@ fn read_next(
     }
 }
 
-/// A step of building that is to read so many rows of a tree: the first that the index doesn't cover yet. Where fewer are left, it reads
-/// these, and the index then covers all; else it covers the rows up to the last one that was read, whether that has an entry or not. So a
-/// step that is to read just the rows that are left doesn't complete the index. A step of 0 rows leaves the cover as it is, and so does
-/// each step of an index that covers all.
+/// A step of building that is to read `count` rows of a tree: the first that the index does not cover yet. If fewer are left, it reads these, and the index
+/// then covers all keys. Otherwise the index covers the keys up to the last row that was read, whether that row has an entry or not. So a step that reads
+/// exactly the rows that are left does not complete the index. A step of 0 rows leaves the cover as it is, and so does each step of an index that covers all.
 ///
-/// The tree is entered behind the last row that was read before, and left behind the last one of the step; rows are lent, not copied. An
-/// `Err` is for want of memory.
+/// The step enters the tree after the last row that was read before, and leaves it after its own last row. Rows are borrowed, not copied. An `Err` means out
+/// of memory.
 pub fn build_step(
     alloc: Global,
     def: &IndexDef,

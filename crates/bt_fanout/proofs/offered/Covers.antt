@@ -1,4 +1,4 @@
--- Effects on fewer keys: what an index is sent is the same, where the keys that it covers are among them.
+-- Effects on fewer keys: what an index is sent is the same, if the keys that it covers are among them.
 use Rattle.std.proofs.Common.{◌≡◌, true, false, not, cond, List, [], ◌∷◌, ◌++◌, refl, sym, ap, ◌∙◌, if◌then◌else◌, true≢false}
 use Rattle.std.specs.List.{filter}
 use Rattle.bt_value.specs.declared.value.Value.{Value}
@@ -62,7 +62,7 @@ effects-whole batch rows = all (effects_of batch rows)
     all [] = refl
     all (effect ∷ effects) = ap (λ es. effect ∷ es) (all effects)
 
--- and none by the least one
+-- and none by the empty one
 pub effects-nothing : (batch : Messages RowMessage) (rows : Rows (List Value)) → effects_within Nothing batch rows ≡ []
 effects-nothing batch rows = none (effects_of batch rows)
   where

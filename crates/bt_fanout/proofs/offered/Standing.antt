@@ -1,4 +1,4 @@
--- A row of a schema, under the code of its key columns, stands as the laws of an index ask.
+-- A row of a schema, under the code of its key columns, meets the premises of the laws of an index.
 use Rattle.std.proofs.Common.{◌≡◌, ◌&&◌, ◌∙◌, Bool, true, false, List, [], ◌∷◌, ap, map, refl, sym, take, true≢false}
 use Rattle.bt_row.specs.Schemas.{Schema, fit_columns}
 use Rattle.bt_value.specs.Values.{fits_kind}
@@ -35,7 +35,7 @@ stands_under schema def key row keys fits placed = record {
   under = ap (λ n. code_of (take n row)) keys ∙ sym placed;
 }
 
--- what holds of each row where another fact does
+-- what is true of each row is true if another fact is
 pub all_stand : {X : Type 0} (P Q : Key → X → Type 0) → ((k : Key) (x : X) → P k x → Q k x) → (rows : Rows X) → EachStands P rows → EachStands Q rows
 all_stand P Q more [] h = tt
 all_stand P Q more (r ∷ rows) h = (more r.0 r.1 h.0, all_stand P Q more rows h.1)

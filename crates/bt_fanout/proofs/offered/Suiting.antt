@@ -1,4 +1,4 @@
--- A definition of a schema is one of each row of the schema, so of all effects on them; and indexes that cover nothing, or all.
+-- A definition of a schema is one of each row of the schema, so of all effects on them; and indexes that cover no keys, or all.
 use Rattle.std.proofs.Common.{◌≡◌, ℕ, zero, suc, true, false, cond, List, [], ◌∷◌, length, map, refl, sym, ap, subst, ◌∙◌, Some, arith}
 use Rattle.std.specs.List.{All}
 use Rattle.std.specs.Ordering.{eq_by_cmp}

@@ -1,4 +1,4 @@
--- The packet for the effects of a batch turns an index.
+-- The packet for the effects of a batch changes an index from the rows before to the rows after.
 use Rattle.std.proofs.Common.{List, T, refl}
 use Rattle.std.specs.FinMap.{is_sorted}
 use Rattle.bt_value.specs.declared.value.Kind.{Kind}

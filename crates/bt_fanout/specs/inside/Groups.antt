@@ -10,22 +10,22 @@ use Rattle.bt_fanout.specs.Effects.{RowMessage, row_effect}
 use Rattle.bt_fanout.specs.declared.cover.Cover.{Cover}
 use Rattle.bt_fanout.specs.declared.effect.Effect.{Effect}
 
--- the messages behind the first ones, as far as these are to one key
+-- the messages after the first ones, as far as these are to one key
 abbrev pub behind_group : {M : Type 0} → Key → Messages M → Messages M
 behind_group k [] = []
 behind_group k (m ∷ ms) = if eq_by_cmp key_cmp k m.0 then behind_group k ms else m ∷ ms
 
--- how many those first ones are
+-- how many those first messages are
 abbrev pub group_count : {M : Type 0} → Key → Messages M → ℕ
 group_count k [] = 0
 group_count k (m ∷ ms) = if eq_by_cmp key_cmp k m.0 then suc (group_count k ms) else 0
 
--- a message that was taken off before those that are left; where none could be taken off, none are left
+-- a message that was removed from before those that are left; if none could be removed, none are left
 abbrev pub with_next : {M : Type 0} → Option (Key × M) → Messages M → Messages M
 with_next None ms = []
 with_next (Some m) ms = m ∷ ms
 
--- ---- keys, each once, and beside each how many messages it has behind its first one
+-- ---- keys, each once, and for each how many messages it has after its first one
 
 -- with a message to a key before the others
 abbrev pub with_key : Key → List (Key × ℕ) → List (Key × ℕ)
@@ -41,13 +41,13 @@ groups (m ∷ ms) = with_key m.0 (groups ms)
 abbrev pub groups_within : {M : Type 0} → Cover → Messages M → List (Key × ℕ)
 groups_within cover ms = filter (λ g. is_covered cover g.0) (groups ms)
 
--- ---- what they do
+-- ---- their effects
 
--- what the first messages make of a value, so many
+-- a value after the first n messages
 abbrev pub value_after_first : {V M : Type 0} → (Option V → M → Option V) → ℕ → Messages M → Option V → Option V
 value_after_first effect n ms old = fold (λ value m. effect value m.1) old (take n ms)
 
--- for each of these keys the row before and the row after its messages, so many behind the first one
+-- for each of these keys the row before its messages and the row after them; each has that many messages after its first one
 abbrev pub effects_in : List Key → List ℕ → List (Option (List Value)) → Messages RowMessage → List Effect
 effects_in [] others rows ms = []
 effects_in (k ∷ keys) [] rows ms = []

@@ -9,13 +9,14 @@ use Rattle.bt_fanout.specs.Entries.{Definition, is_within, own_entry}
 use Rattle.bt_fanout.specs.declared.cover.Cover.{Cover}
 use Rattle.bt_fanout.specs.declared.cover.Cover.TheVariants.{UpTo, Whole}
 
--- what is kept of the rows that were read: the messages for the index, how many more rows are to be read, and the key of the last row, once none is to be read
+-- what is kept of the rows that were read: the messages for the index, how many more rows are to be read, and the key of the last row, once no more are to
+-- be read
 pub record RowsRead : Type 0 where
   pub messages : Messages EntryMessage
   pub left : ℕ
   pub last : Option Key
 
--- before the first of so many rows
+-- before the first of n rows
 abbrev pub none_read : ℕ → RowsRead
 none_read count = record { messages = []; left = count; last = None }
 
@@ -40,6 +41,6 @@ abbrev pub moved_by : Cover → Option Key → Cover
 moved_by cover None = cover
 moved_by cover (Some key) = UpTo key
 
--- the cover behind them, where so many more were to be read: whole, where there were any
+-- the cover after the rows that were read: whole, if more were to be read
 abbrev pub cover_behind : Cover → ℕ → Option Key → Cover
 cover_behind cover left last = if nat_lt 0 left then Whole else moved_by cover last

@@ -3,7 +3,7 @@ use Rattle.std.specs.Vec.Iter.{into_iter_items}
 use Rattle.bt_fanout.specs.inside.Groups.{effects_in}
 use Rattle.bt_fanout.proofs.row_effects.effects_on.Given as goal
 
--- the effects so far stand before those of the keys from here on
+-- the effects so far come before those of the keys from here on
 abbrev pub invariant-loop-before : goal.invariant-loop-before
 invariant-loop-before l = record {
   many : length l.effects.items + length (into_iter_items l.before-iterator) ≡ length l.fn.rows.items;

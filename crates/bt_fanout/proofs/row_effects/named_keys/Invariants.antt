@@ -3,7 +3,7 @@ use Rattle.bt_keycode.specs.Keys.{IsSorted}
 use Rattle.bt_fanout.specs.inside.Groups.{groups_within, with_next}
 use Rattle.bt_fanout.proofs.row_effects.named_keys.Given as goal
 
--- the keys so far, and those that the messages left name
+-- the keys so far, followed by those that the remaining messages name
 abbrev pub invariant-loop-next : goal.invariant-loop-next
 invariant-loop-next l = record {
   few : length (with_next (option_map (λ m. (m.0.now, m.1.now)) l.next) l.messages) ≤ length l.packet;
