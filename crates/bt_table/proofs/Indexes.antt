@@ -1,4 +1,4 @@
--- What a batch, a step of building or a load makes of the indexes of a table, and that they are sound then. Serves the calls of a table.
+-- How a batch, a step of building or a load changes the indexes of a table, and that they are sound then. Serves the calls of a table.
 use Rattle.std.proofs.Common.{ℕ, zero, suc, ◌+◌, ◌≡◌, ◌∙◌, ◌&&◌, Bool, T, List, [], ◌∷◌, ◌++◌, ap, arith, drop, false, get_or, if◌then◌else◌, length, map, refl, set, slice_get, subst, sym, true, IfSome, Some}
 use Rattle.std.proofs.lemmas.List.{set-get_or, set-set}
 use Rattle.std.proofs.lemmas.List.Elements.{All-filter}
@@ -38,12 +38,12 @@ use Rattle.bt_fanout.specs.declared.cover.Cover.TheVariants.{Nothing}
 use Rattle.bt_fanout.specs.declared.effect.Effect.{Effect}
 use Rattle.bt_table.specs.declared.index.IndexHead.{IndexHead}
 
--- rows of a schema stand as the laws of an index ask
+-- rows of a schema meet the premises of the laws of an index
 stand : (schema : Schema) (def : Definition) → def.keys ≡ schema.keys → (rows : Rows (List Value)) → AllStand schema rows → selection.EachStands (StandsUnder def (kinds_of schema.columns)) rows
 stand schema def keys [] all = tt
 stand schema def keys (row ∷ rows) all = (stands_under schema def row.0 row.1 keys all.0.fits all.0.placed, stand schema def keys rows all.1)
 
--- an index is sound after a packet that makes of its entries those of other rows, or of more rows that it covers
+-- an index is sound after a packet that changes its entries to those of other rows, or of more rows that it covers
 advanced-sound : (schema : Schema) (shape : Shape) (old new : Rows (List Value)) (index : Index) → IsSoundIndex schema shape old index → (packet : Messages EntryMessage) (cover : Cover)
     → rows_after entry_effect packet (index_of index.def index.cover old) ≡ index_of index.def cover new → IsSoundIndex schema shape new (advanced index packet cover)
 advanced-sound schema shape old new index sound packet cover turned = record {
@@ -79,7 +79,7 @@ module _ (schema : Schema) (shape : Shape) (rows : Rows (List Value)) (batch : R
   counts_are (head ∷ heads) (tree ∷ trees) many sound =
       λ i. sent_count (index_with head tree) (packet_is head tree sound.0 i) ∷ counts_are heads trees (omega (arith, many)) sound.1 i
 
-  -- the definitions are those of rows as the effects have
+  -- the definitions suit the rows that the effects have
   pub indexes_suit : (heads : List IndexHead) (trees : List (Shape × EntryTree)) → length trees ≡ length heads → AreSoundIndexes schema shape rows (indexes_of heads trees)
       → All (λ head. All (SuitsEffect head.def) (effects_of (sorted_batch batch) rows)) heads
   indexes_suit [] trees many sound = all_none (λ head. All (SuitsEffect head.def) (effects_of (sorted_batch batch) rows))
@@ -117,7 +117,7 @@ module _ (schema : Schema) (shape : Shape) (rows : Rows (List Value)) (sorted : 
   stands : (index : Index) → index.def.keys ≡ schema.keys → selection.EachStands (StandsUnder index.def (kinds_of schema.columns)) rows
   stands index keys = stand schema index.def keys rows stand_in
 
-  -- the packet of a step of building is that of the rows under their own keys
+  -- the packet of a step of building is that of the entries of the rows under their own keys
   pub building_packet-is : (n : ℕ) (index : Index) → IsSoundIndex schema shape rows index → sorted_batch (own_puts index.def (next_rows n index.cover rows)) ≡ building_packet n rows index
   building_packet-is n index sound = ap sorted_batch (step_puts index.def (kinds_of schema.columns) rows sorted (stands index sound.keys) n index.cover)
 
@@ -166,7 +166,7 @@ module _ (schema : Schema) (shape : Shape) (rows : Rows (List Value)) (sorted : 
         let both = both_hold (is_complete index) (list_all is_complete indexes) whole in
         (packed-sound index sound.0 both.0, all_packed-sound indexes sound.1 both.1)
 
-    -- the tree that a load packs of the entries is that of the packed index
+    -- the tree that a load packs from the entries is that of the packed index
     entry_tree-is : (head : IndexHead) (tree : Shape × EntryTree) → IsSoundIndex schema shape old (index_with head tree)
         → index_with head (entry_tree shape rows head.def) ≡ packed_index rows (index_with head tree)
     entry_tree-is head tree sound =
@@ -207,7 +207,7 @@ index_at zero (h ∷ heads) (t ∷ trees) head tree there beside =
     λ i. index_with (same i) (like i) ∷ indexes_of heads trees
 index_at (suc place) (h ∷ heads) (t ∷ trees) head tree there beside = index_at place heads trees head tree there beside
 
--- so the index of the place has a name, or it is looked for from the next one on
+-- so the index at the place has a name, or the search goes on with the next one
 module _ (name : List ℕ) (place : ℕ) (heads : List IndexHead) (trees : List (Shape × EntryTree)) (head : IndexHead) (tree : Shape × EntryTree) (there : slice_get heads place ≡ Some head) (beside : slice_get trees place ≡ Some tree) where
   named_at : index_named_from place name (indexes_of (drop place heads) (drop place trees))
       ≡ (if is_name_of name (index_with head tree) then Some (place, index_with head tree) else index_named_from (suc place) name (indexes_of (drop (suc place) heads) (drop (suc place) trees)))
@@ -257,7 +257,7 @@ length-remove_same place (x ∷ xs) [] many = absurd (omega (arith, many))
 length-remove_same zero (x ∷ xs) (y ∷ ys) many = omega (arith, many)
 length-remove_same (suc place) (x ∷ xs) (y ∷ ys) many = ap suc (length-remove_same place xs ys (omega (arith, many)))
 
--- what is put in a place where something else was put before
+-- an item put in a place where another item was put before
 pub put_again : {A : Type 0} (place : ℕ) (xs between new : List A) (x y : A) → between ≡ set xs place x → new ≡ set between place y → new ≡ set xs place y
 put_again place xs between new x y first last = last ∙ ap (λ zs. set zs place y) first ∙ set-set xs place x y
 
@@ -315,7 +315,7 @@ module _ (batch : RowMessages) (rows : Rows (List Value)) where
       let wide = wider cover head.cover in
       λ i. record { name = head.name; count = length (packet-within head (widest wide heads) (λ k is. stays_among wide heads k (second_among_wider cover head.cover k is)) i) } ∷ counts-within wide heads i
 
-  -- so the effects within the widest cover send each index what all effects do
+  -- so the effects within the widest cover send each index the same messages as all effects
   module _ (heads : List IndexHead) (wide : Cover) (wide_is : wide ≡ widest Nothing heads) (effects : List Effect) (effects_are : effects ≡ effects_within wide batch rows) where
     pub all_packets : map (packet_for effects) heads ≡ map (packet_for (effects_of batch rows)) heads
     all_packets = ap (λ effects. map (packet_for effects) heads) (effects_are ∙ ap (λ wide. effects_within wide batch rows) wide_is) ∙ packets-within Nothing heads
@@ -323,10 +323,10 @@ module _ (batch : RowMessages) (rows : Rows (List Value)) where
     pub all_counts : map (count_for effects) heads ≡ map (count_for (effects_of batch rows)) heads
     all_counts = ap (λ effects. map (count_for effects) heads) (effects_are ∙ ap (λ wide. effects_within wide batch rows) wide_is) ∙ counts-within Nothing heads
 
-  -- where no key is covered, there are no effects on those that are
+  -- if no key is covered, there are no effects on covered keys
   pub none_within : (cover : Cover) → cover ≡ Nothing → [] ≡ effects_within cover batch rows
   none_within cover is = sym (ap (λ c. effects_within c batch rows) is ∙ effects-nothing batch rows)
 
-  -- the definitions are those of rows as the effects on them have
+  -- the definitions suit the rows that the effects on them have
   pub suit-within : (wide : Cover) (heads : List IndexHead) → All (λ head. All (SuitsEffect head.def) (effects_of batch rows)) heads → All (λ head. All (SuitsEffect head.def) (effects_within wide batch rows)) heads
   suit-within wide heads suit i d l = All-filter (λ effect. is_covered wide effect.key) (SuitsEffect (get_or heads i d).def) (effects_of batch rows) (suit i d l)

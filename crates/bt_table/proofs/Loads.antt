@@ -1,4 +1,4 @@
--- The rows of a map that is loaded stand under their keys. Serves a table that loads rows.
+-- The rows of a map that is loaded are under their keys. Serves a table that loads rows.
 use Rattle.std.proofs.Common.{◌≡◌, List, [], ◌∷◌, Ok, refl, subst}
 use Rattle.bt_row.specs.Schemas.{Schema}
 use Rattle.bt_value.specs.declared.value.Value.{Value}

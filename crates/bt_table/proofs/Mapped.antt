@@ -1,4 +1,4 @@
--- What is mapped so far of a list that is gone through, one step on. Serves the loops over indexes.
+-- One more item of a list that a loop maps. Serves the loops over indexes.
 use Rattle.std.proofs.Common.{ℕ, ◌+◌, ◌<◌, ◌≡◌, ◌∙◌, List, [], ◌∷◌, ◌++◌, ap, append_assoc, drop, get_or, length, map, sym}
 use Rattle.std.proofs.lemmas.List.{drop_more}
 

@@ -1,4 +1,5 @@
--- A tree after a batch fits its shape, and holds its rows after the batch; and trees beside their packets become what each becomes. Serves a table that applies a batch.
+-- A tree after a batch fits its shape and holds its rows after the batch; and each of several trees becomes that tree after its packet. Serves a table that
+-- applies a batch.
 use Rattle.std.proofs.Common.{◌≡◌, ◌∙◌, List, [], ◌∷◌, ap, refl}
 use Rattle.std.specs.List.{zip}
 use Rattle.bt_messages.specs.Messages.{Messages, sorted_batch}
@@ -26,13 +27,13 @@ holds-after_batch shape t batch has =
 pub has_shape-after_batch : (shape : Shape) (t : RowTree) (batch : RowMessages) → HasShape row_meaning.weigh shape t → HasShape row_meaning.weigh shape (sunk row_meaning shape t (sorted_batch batch))
 has_shape-after_batch shape t batch has = sunk-has_shape row_meaning shape t has (sorted_batch batch)
 
--- the batch makes of it the state by the trees after the batch
+-- the batch changes it to the state that is given by the trees after the batch
 pub stepped : (schema : Schema) (shape : Shape) (t : RowTree) (indexes after : List Index) (batch : RowMessages) → HasShape row_meaning.weigh shape t → after ≡ indexes_after (holds row_effect t) batch indexes
     → held_by schema (shape, sunk row_meaning shape t (sorted_batch batch)) after ≡ after_batch (held_by schema (shape, t) indexes) batch
 stepped schema shape t indexes after batch has are =
     λ i. record { schema = schema; shape = shape; rows = holds-after_batch shape t batch has i; tree = sunk row_meaning shape t (sorted_batch batch); indexes = are i }
 
--- each tree beside its packet becomes what it is after that packet
+-- each tree becomes that tree after its packet
 pub sunk-zip : (trees : List (Shape × EntryTree)) (packets : List (Messages EntryMessage)) → all_sunk entry_meaning (zip trees packets) ≡ sunk_trees trees packets
 sunk-zip [] packets = refl
 sunk-zip (tree ∷ trees) [] = refl

@@ -1,4 +1,4 @@
--- Which messages the records of a batch spell, and that a table stays sound under them. Serves the invariant of a table.
+-- Which messages the records of a batch encode, and that a table stays sound under them. Serves the invariant of a table.
 use Rattle.std.proofs.Common.{ℕ, arith, ◌+◌, ◌≡◌, ◌∙◌, ◌++◌, Bool, true, false, not, List, [], ◌∷◌, refl, sym, ap, subst, T, take, Option, Some, None, IfOk, IfSome, Result, Ok, Err}
 use Rattle.std.specs.FinMap.{is_sorted}
 use Rattle.std.specs.List.{filter_map, list_all}
@@ -37,7 +37,7 @@ use Rattle.bt_table.proofs.Indexes.{all_packed-sound, built-sound, indexes_stay_
 use Rattle.bt_table.proofs.Sinks.{has_shape-after_batch, holds-after_batch}
 use Rattle.bt_table.proofs.Standing.{rows_after-stand}
 
--- ---- messages that records spell
+-- ---- messages that records encode
 
 put_of_schema : (schema : Schema) (row : List Value) → fit_columns schema.columns row ≡ true → AreInRange row → IsOfSchema schema (put_of schema.keys row)
 put_of_schema schema row fits range = λ old stands. record { placed = refl; fits = fits; in_range = range }
@@ -87,13 +87,13 @@ lines_of_schema schema item [] = tt
 lines_of_schema schema item (line ∷ lines) =
     one_message schema (read_message schema item line) (read_batch schema (item + 1) lines) (message_of_schema schema item line) (lines_of_schema schema (item + 1) lines)
 
--- the messages of a batch are of the schema by which they are read
+-- the messages of a batch are of the schema that they are read by
 pub batch_of_schema : (schema : Schema) (items : List Item) → AreOfSchema schema (messages_of schema items)
 batch_of_schema schema items = lines_of_schema schema 1 items
 
 -- ---- tables
 
--- the rows of a sound table rise by their keys
+-- the keys of the rows of a sound table rise
 pub rows_sorted : (table : PlainTable) → IsSoundTable table → T (is_sorted key_cmp table.rows)
 rows_sorted table sound = subst (λ rows. T (is_sorted key_cmp rows)) sound.held (holds-sorted row_meaning table.shape table.tree sound.tree)
 
@@ -127,7 +127,7 @@ with_index-sound table name def suits sound = record {
   );
 }
 
--- an index less
+-- with one index fewer
 pub without_index-sound : (table : PlainTable) (place : ℕ) → IsSoundTable table → IsSoundTable (without_index table place)
 without_index-sound table place sound = record {
   tree = sound.tree;
@@ -144,7 +144,7 @@ none_building true bare allowed = refl
 none_building false true allowed = absurd cc
 none_building false false allowed = absurd cc
 
--- rows that stand in their places, in the order of their keys, in a table whose indexes are complete
+-- rows under their keys, in the order of their keys, in a table whose indexes are complete
 pub with_rows-sound : (table : PlainTable) (rows : Rows (List Value)) → AllStand table.schema rows → T (is_sorted key_cmp rows) → list_all is_complete table.indexes ≡ true → IsSoundTable table
     → IsSoundTable (with_rows table rows)
 with_rows-sound table rows stand sorted complete sound = record {

@@ -1,4 +1,4 @@
--- A batch of messages of the schema leaves each row in its place. Serves the rows of a sound table.
+-- A batch of messages of the schema leaves each row under its key. Serves the rows of a sound table.
 use Rattle.std.proofs.Common.{◌≡◌, Bool, true, false, cond, List, [], ◌∷◌, refl, sym, ap, subst, Option, Some, None, IfSome}
 use Rattle.std.specs.Ordering.{eq_by_cmp, is_eq}
 use Rattle.std.specs.declared.cmp.Ordering.TheVariants.{Less, Equal, Greater}
@@ -28,7 +28,7 @@ put-stand schema k row (r ∷ rs) stands all =
       | Greater ↦ λ is. (all.0, put-stand schema k row rs stands all.1)
     ] refl
 
--- what is found at a key stands there
+-- the row that is found at a key belongs there
 find-stands : (schema : Schema) (k : Key) (rows : Rows (List Value)) → AllStand schema rows → IfSome (find key_cmp k rows) (λ row. Stands schema k row)
 find-stands schema k [] all = tt
 find-stands schema k (r ∷ rs) all =

@@ -1,4 +1,4 @@
--- A table with these trees takes a batch, gets, builds or loses an index, loads rows, gets another tree, or is shown. Serves the calls of a table.
+-- A table with these trees takes a batch, gets, builds or drops an index, loads rows, gets another tree, or is shown. Serves the calls of a table.
 use Rattle.std.proofs.Common.{ℕ, zero, suc, arith, ◌≤◌, ◌<◌, ◌≡◌, ◌∙◌, ◌++◌, Bool, T, true, false, List, [], ◌∷◌, Option, Some, None, Ok, Err, ap, sym, refl, subst, length, length-set, map, option_map, set, slice_get, if◌then◌else◌, ◌+◌, ◌||◌, is_some, nat_le, IfSome}
 use Rattle.std.proofs.lemmas.Bool.{leb-false}
 use Rattle.std.proofs.lemmas.List.{length-map, length_push}
@@ -46,7 +46,7 @@ use Rattle.bt_table.proofs.Sinks.{stepped}
 use Rattle.bt_table.proofs.Sound.{batch_keeps_sound, batch_of_schema, found-sound, none_building, renewed-holds, rows_sorted, with_built_index-sound, with_renewed_index-sound, with_renewed_rows-sound, with_rows-sound, with_index-sound, without_index-sound}
 use Rattle.bt_table.proofs.Standing.{rows_after-stand}
 
--- the call of an upkeep, and what it answers
+-- the call of an upkeep, and its reply
 abbrev pub upkeep_call : Upkeep → List ℕ → Call
 upkeep_call Draining name = Drain name
 upkeep_call Rebuilding name = Rebuild name
@@ -59,11 +59,11 @@ upkeep_step : (upkeep : Upkeep) (table : PlainTable) (name : List ℕ) → step 
 upkeep_step Draining table name = refl
 upkeep_step Rebuilding table name = refl
 
--- what is taken is what stood there
+-- what is taken is what was there
 same : {A : Type 0} {found : Option A} {stood taken : A} → found ≡ Some stood → found ≡ Some taken → taken ≡ stood
 same is took = cc
 
--- where a name is not refused, there may be one index more
+-- if a name is not refused, there may be one more index
 below_most : (taken : Bool) (count : ℕ) → least (one_if taken NameTaken ++ one_if (nat_le most_indexes count) TooMany) ≡ None → count < most_indexes
 below_most taken count free = go taken (nat_le most_indexes count) refl free
   where
@@ -79,12 +79,12 @@ length-remove-le (suc place) [] = omega arith
 length-remove-le zero (x ∷ xs) = omega arith
 length-remove-le (suc place) (x ∷ xs) = let h = length-remove-le place xs in omega arith
 
--- a table is not lost where an index can be created
+-- a table is not lost if an index can be created
 pub has_trees : (schema : Schema) (heads : List IndexHead) (kept : Option Trees) (name : List ℕ) → least (index_refusals (state_of schema heads kept) name) ≡ None → IsSome kept
 has_trees schema heads None name free = absurd cc
 has_trees schema heads (Some trees) name free = refl
 
--- trees that were put back beside what the indexes are then
+-- trees that were put back beside the heads of the indexes after the call
 module _ (schema : Schema) (heads : List IndexHead) (after : Option Trees) (new : Trees) (put : after ≡ Some new) where
   put_is_sound : IsSoundTable (held_by schema new.rows (indexes_of heads new.entries.items)) → length new.entries.items ≡ length heads → length heads ≤ most_indexes → AreSoundParts schema heads after
   put_is_sound sound many few = subst (AreSoundParts schema heads) (sym put) (sound, (many, few))
@@ -167,7 +167,7 @@ module _ (schema : Schema) (heads : List IndexHead) (kept : Option Trees) (trees
       others_to : (entries : List (Shape × EntryTree)) → new.entries.items ≡ entries → held_by schema new.rows (indexes_of others new.entries.items) ≡ held_by schema trees.rows (indexes_of others entries)
       others_to entries are = (λ i. held_by schema (rows_are i) (indexes_of others (are i))) ∙ ap (λ (t : Trees). held_by schema t.rows (indexes_of others entries)) (same is took)
 
-      -- behind the others, or not, where memory is wanting
+      -- the new index is after the others, or missing if memory ran out
       module _ (name : List ℕ) (def : Definition) where
         abbrev new_tree : Shape × EntryTree
         new_tree = (trees.rows.0, leaf [])
@@ -241,7 +241,7 @@ module _ (schema : Schema) (heads : List IndexHead) (kept : Option Trees) (trees
       stand : AllStand schema map_is
       stand = map_of-stand schema rows map_is (text_rows-of schema.columns text rows read) mapped
 
-      -- so the entries of the rows may be asked for
+      -- so `pack_entries` may be called with the rows
       pub loaded_suits : All (λ head. SuitsRows head.def map_is) heads
       loaded_suits = each_suits schema before.shape map_is sorted stand before.rows heads trees.entries.items each_has_tree was_sound.indexes
 
@@ -308,7 +308,7 @@ module _ (schema : Schema) (heads : List IndexHead) (kept : Option Trees) (trees
       index_found : IsSoundIndex schema before.shape before.rows shown
       index_found = found-sound before name (place, shown) found was_sound
 
-      -- so a step of its building may be asked for
+      -- so `build_step` may be called with it
       pub found_within : All (λ row. IsWithin shown.def (length row.1)) before.rows
       found_within = rows_within schema before.shape before.rows (rows_sorted before was_sound) was_sound.rows shown index_found.suits index_found.keys
 
@@ -318,7 +318,7 @@ module _ (schema : Schema) (heads : List IndexHead) (kept : Option Trees) (trees
           let sent = packet_is ∙ building_packet-is schema before.shape before.rows (rows_sorted before was_sound) was_sound.rows n shown index_found in
           λ i. advanced shown (sent i) (cover_is i)
 
-      -- it is changed in its place
+      -- the index is changed in its place
       module _ (taken new : Trees) (took : kept ≡ Some taken) (after : Option Trees) (put : after ≡ Some new) (rows_are : new.rows ≡ taken.rows) (others : List IndexHead) (head : IndexHead) (tree : Shape × EntryTree)
           (heads_are : others ≡ set heads place head) (entries_are : new.entries.items ≡ set taken.entries.items place tree) where
         tree_put : new.entries.items ≡ set trees.entries.items place tree

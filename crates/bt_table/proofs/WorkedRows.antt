@@ -25,7 +25,7 @@ stock = record { columns = record { name = codes "id"; kind = kind.Int } ∷ rec
 abbrev empty : TableState
 empty = Intact (empty_table stock (record { fanout = 4; buffer = 3; leaf = 2; measure = measures.Messages }))
 
--- what a call is answered
+-- the reply to a call
 abbrev reply_of : TableState → Call → Result Reply Refusal
 reply_of state call = map_ok (λ (after : TableState × Reply). after.1) (step state call)
 
@@ -33,7 +33,7 @@ abbrev left_by : TableState → Result (TableState × Reply) Refusal → TableSt
 left_by state (Ok after) = after.0
 left_by state (Err refusal) = state
 
--- what calls in turn leave
+-- the state after several calls, one after the other
 abbrev after : TableState → List Call → TableState
 after state [] = state
 after state (call ∷ calls) = after (left_by state (step state call)) calls
@@ -58,7 +58,7 @@ pub new_key : reply_of (after empty (batch ∷ [])) (Get (codes "9" ∷ [])) ≡
 unfolding eight_bytes values_on_literals
 new_key = refl
 
--- the least refusal with the least item, and then the table stays
+-- the smallest refusal with the smallest item, and then the table does not change
 abbrev faulty : Call
 faulty = Apply (Put (codes "1" ∷ []) ∷ Put (codes "5" ∷ codes "50" ∷ []) ∷ Put (codes "7" ∷ codes "x" ∷ []) ∷ Put (codes "y" ∷ codes "1" ∷ []) ∷ [])
 
@@ -74,7 +74,7 @@ pub key_of_two_fields : reply_of empty (Get (codes "1" ∷ codes "2" ∷ [])) �
 unfolding eight_bytes values_on_literals
 key_of_two_fields = refl
 
--- a lost table refuses each call as failed, whatever else is wrong
+-- a lost table refuses each call as `Failed`, even if other refusals apply too
 pub lost_first : reply_of Lost faulty ≡ Err Failed
 lost_first = refl
 
@@ -96,7 +96,7 @@ q = codes "q"
 abbrev numbers : Definition
 numbers = record { on = 1 ∷ []; include = []; condition = None; keys = 1 }
 
--- what a call is answered after three rows, a new index and these calls
+-- the reply to a call after three rows, a new index and these calls
 abbrev answered : List Call → Call → Result Reply Refusal
 answered calls call = reply_of (after empty (three ∷ CreateIndex q numbers ∷ calls)) call
 
@@ -104,7 +104,7 @@ pub first_step : answered [] (BuildStep q 2) ≡ Ok (Built q 2 false)
 unfolding eight_bytes values_on_literals
 first_step = refl
 
--- a step that reads just the rows that are left does not complete the index, and the next one does
+-- a step that reads exactly the rows that are left does not complete the index, and the next one does
 pub exact_step : answered [] (BuildStep q 3) ≡ Ok (Built q 3 false)
 unfolding eight_bytes values_on_literals
 exact_step = refl
@@ -130,14 +130,14 @@ pub by_cover : answered (BuildStep q 2 ∷ []) (Apply (Del (codes "2" ∷ []) �
 unfolding eight_bytes values_on_literals
 by_cover = refl
 
--- a load comes after complete indexes, and not beside one that is built
+-- a load follows complete indexes; it is refused if one is building
 pub load_beside : answered [] (Load (codes "id,qty\n")) ≡ Err Building
 unfolding eight_bytes values_on_literals
 load_beside = refl
 
 -- ---- the limit of indexes
 
--- so many indexes, each named by a letter
+-- n indexes, each named by a letter
 abbrev creations : ℕ → List Call
 creations n = map (λ letter. CreateIndex ((97 + letter) ∷ []) numbers) (below n)
 

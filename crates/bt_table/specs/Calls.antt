@@ -1,4 +1,4 @@
--- What a table may be asked, what it is then, and what it answers.
+-- The calls on a table, the table after each, and the replies.
 use Rattle.std.specs.Prelude.{ℕ, ◌≡◌, ◌≢◌, ◌≤◌, ◌==◌, ◌||◌, ◌&&◌, ◌⊎◌, Bool, not, List, [], ◌∷◌, ◌++◌, is_some, length, map, nat_le, set, Option, Some, None, option_map, Result, Ok, Err, IfErr, IsErrOf, if◌then◌else◌, codes}
 use Rattle.std.specs.Cmp.Lexicographic.{pointwise}
 use Rattle.std.specs.FinMap.{find}
@@ -34,26 +34,26 @@ use Rattle.bt_table.specs.declared.reply.Reply.{Reply}
 use Rattle.bt_table.specs.declared.reply.Reply.TheVariants.{Batch, Built, Created, Drained, Dropped, Loaded, Rebuilt, Row}
 use Rattle.bt_table.specs.declared.reply.SentCount.{SentCount}
 
--- what a table may be asked
+-- a call on a table
 pub data Call : Type 0 where
-  -- to take the messages of a batch
+  -- apply the messages of a batch
   Apply : (items : List Item) → Call
-  -- for the row of the key that fields spell
+  -- return the row whose key these fields encode
   Get : (fields : List (List ℕ)) → Call
-  -- for a new index of a definition
+  -- create an index of a definition
   CreateIndex : (name : List ℕ) → (def : Definition) → Call
-  -- to read so many more rows for an index
+  -- read n more rows for an index
   BuildStep : (name : List ℕ) → (count : ℕ) → Call
-  -- to have an index no more
+  -- drop an index
   DropIndex : (name : List ℕ) → Call
-  -- to take the records of a text as its rows
+  -- load the records of a text as its rows
   Load : (text : List ℕ) → Call
-  -- to flush every buffer of a tree
+  -- flush every buffer of a tree
   Drain : (name : List ℕ) → Call
-  -- to build a tree anew from what it holds
+  -- rebuild a tree from its contents
   Rebuild : (name : List ℕ) → Call
 
--- a value, or the least of the refusals where some apply
+-- a value, or the smallest of the refusals if some apply
 abbrev pub unless_any : {A : Type 0} → List Refusal → A → Result A Refusal
 unless_any refusals value = unless (least refusals) value
 
@@ -61,7 +61,7 @@ unless_any refusals value = unless (least refusals) value
 abbrev pub is_primary : List ℕ → Bool
 is_primary name = pointwise ◌==◌ name (codes "primary")
 
--- the most indexes of a table
+-- the largest number of indexes of a table
 abbrev pub most_indexes : ℕ
 most_indexes = 16
 
@@ -70,7 +70,7 @@ abbrev pub name_refusals : PlainTable → List ℕ → List Refusal
 name_refusals table name =
     one_if (is_primary name || is_some (index_named name table.indexes)) NameTaken ++ one_if (nat_le most_indexes (length table.indexes)) TooMany
 
--- those that apply to it in a state
+-- the refusals that apply to it in a state
 abbrev pub index_refusals : TableState → List ℕ → List Refusal
 index_refusals Lost name = Failed ∷ []
 index_refusals (Intact table) name = name_refusals table name
@@ -83,7 +83,7 @@ with_index table name def = record table { indexes = table.indexes ++ empty_inde
 abbrev pub without_index : PlainTable → ℕ → PlainTable
 without_index table place = record table { indexes = remove table.indexes place }
 
--- the index of this name is taken out, or there is none
+-- the index of this name is dropped, or there is none
 abbrev pub dropped : PlainTable → List ℕ → Option (ℕ × Index) → Result (TableState × Reply) Refusal
 dropped table name None = Err NoSuchTree
 dropped table name (Some found) = Ok (Intact (without_index table found.0), Dropped name)
@@ -92,7 +92,7 @@ dropped table name (Some found) = Ok (Intact (without_index table found.0), Drop
 abbrev pub with_index_at : PlainTable → ℕ → Index → PlainTable
 with_index_at table place index = record table { indexes = set table.indexes place index }
 
--- what a step of building of the index at a place, which is to read n rows, leaves of a table, and what it answers: how many rows it read, and whether the index is complete
+-- the table after a step of building of the index at a place, which is to read n rows, and the reply: how many rows it read, and whether the index is complete
 abbrev pub after_build : PlainTable → List ℕ → ℕ → ℕ × Index → TableState × Reply
 after_build table name n found =
     (Intact (with_index_at table found.0 (built_index n table.rows found.1)), Built name (length (next_rows n found.1.cover table.rows)) (is_complete (built_index n table.rows found.1)))
@@ -112,25 +112,25 @@ sent_counts table batch = map (λ index. sent_count index (packet_of table.rows 
 abbrev pub is_bare : RowTree → Bool
 is_bare tree = is_leaf tree && (length (rows_of tree) == 0)
 
--- the refusals that apply to a load, whatever its text is: some index is not complete, or there may be rows
+-- the refusals that apply to a load of any text: some index is not complete, or there may be rows
 abbrev pub load_refusals : List Index → RowTree → List Refusal
 load_refusals indexes tree = one_if (not (list_all is_complete indexes)) Building ++ one_if (not (is_bare tree)) NotEmpty
 
--- the map of the rows of a text, or the least refusal: of its header and its records, of the table, of a key that comes again
+-- the map of the rows of a text, or the smallest refusal: of its header and its records, of the table, of a key that occurs again
 abbrev pub loaded_rows : PlainTable → List ℕ → Result (Rows (List Value)) Refusal
 loaded_rows table text = and_then (map_of table.schema.keys) (and_then (unless_any (load_refusals table.indexes table.tree)) (text_rows table.schema.columns text))
 
--- a table with these rows in place of its own, in a tree that is packed of them, and with indexes whose trees are packed of their entries
+-- a table with these rows in place of its own: its tree is packed from them, and the trees of its indexes from their entries
 abbrev pub with_rows : PlainTable → Rows (List Value) → PlainTable
 with_rows table rows = record table { rows = rows; tree = packed table.shape rows; indexes = map (packed_index rows) table.indexes }
 
--- what rows, by their keys, make of a table that loads them
+-- a table after it has loaded rows, each under its key, and the reply
 abbrev pub after_load : PlainTable → Rows (List Value) → TableState × Reply
 after_load table rows = (Intact (with_rows table rows), Loaded (length rows))
 
 -- ---- upkeep of trees
 
--- what is done for a tree: every buffer is flushed, or it is built anew from what it holds
+-- the upkeep of a tree: every buffer is flushed, or the tree is rebuilt from its contents
 pub data Upkeep : Type 0 where
   Draining : Upkeep
   Rebuilding : Upkeep
@@ -144,19 +144,19 @@ renewed_tree Rebuilding meaning shape t = rebuilt meaning.effect shape t
 abbrev pub renewed_index : Upkeep → Index → Index
 renewed_index upkeep index = with_tree index (index.tree.0, renewed_tree upkeep entry_meaning index.tree.0 index.tree.1)
 
--- a table after it was done for the tree of its rows, and for the index that was found at a place
+-- a table after the upkeep of the tree of its rows, and of the index that was found at a place
 abbrev pub with_renewed_rows : Upkeep → PlainTable → PlainTable
 with_renewed_rows upkeep table = record table { tree = renewed_tree upkeep row_meaning table.shape table.tree }
 
 abbrev pub with_renewed_index : Upkeep → PlainTable → ℕ × Index → PlainTable
 with_renewed_index upkeep table found = with_index_at table found.0 (renewed_index upkeep found.1)
 
--- a table after it was done for the tree of this name, if there is one
+-- a table after the upkeep of the tree of this name, if there is one
 abbrev pub with_renewed : Upkeep → PlainTable → List ℕ → Result PlainTable Refusal
 with_renewed upkeep table name =
     if is_primary name then Ok (with_renewed_rows upkeep table) else or_refused NoSuchTree (option_map (with_renewed_index upkeep table) (index_named name table.indexes))
 
--- A call: the table after it and its reply, or its refusal, and then the table stays. That a table was lost is said first.
+-- A call: the table after it and its reply, or its refusal, and then the table does not change. That the table was lost is reported before all else.
 abbrev pub step : TableState → Call → Result (TableState × Reply) Refusal
 step Lost call = Err Failed
 step (Intact table) (Apply items) =
@@ -170,15 +170,15 @@ step (Intact table) (Load text) = map_ok (after_load table) (loaded_rows table t
 step (Intact table) (Drain name) = map_ok (λ after. (Intact after, Drained name)) (with_renewed Draining table name)
 step (Intact table) (Rebuild name) = map_ok (λ after. (Intact after, Rebuilt name)) (with_renewed Rebuilding table name)
 
--- a call leaves this table and is answered so
+-- this call changes one table to the other and gives this reply
 abbrev pub IsStep : TableState → TableState → Call → Reply → Type 0
 IsStep old new call reply = step old call ≡ Ok (new, reply)
 
--- a call is refused so and leaves the table as it was, unless memory was wanting
+-- a call is refused like this and leaves the table as it was, unless memory ran out
 abbrev pub IsRefused : TableState → TableState → Call → Refusal → Type 0
 IsRefused old new call refusal = refusal ≢ OutOfMemory → (step old call ≡ Err refusal) × (new ≡ old)
 
--- where a call has a refusal, it is answered: memory is never wanting before
+-- if a call has a refusal, it is returned: memory never runs out before that
 abbrev pub IsCertain : TableState → Call → Result Reply Refusal → Type 0
 IsCertain old call result = IfErr (step old call) (IsErrOf result)
 
@@ -201,7 +201,7 @@ abbrev pub tree_named : TableState → List ℕ → Result NamedTree Refusal
 tree_named Lost name = Err Failed
 tree_named (Intact table) name = if is_primary name then Ok (Primary table) else secondary table (index_named name table.indexes)
 
--- a tree is that of the rows of a table, and holds its rows, each of which stands in its place, and which strictly rise by the values of their keys
+-- a tree is that of the rows of a table, and holds its rows; each row is under the code of its key columns, and the rows strictly rise by their key values
 pub record ShowsRows (table : PlainTable) (schema : Schema) (tree : Shape × RowTree) : Type 0 where
   pub schema_is : schema ≡ table.schema
   pub tree_is : tree ≡ (table.shape, table.tree)
@@ -209,7 +209,7 @@ pub record ShowsRows (table : PlainTable) (schema : Schema) (tree : Shape × Row
   pub stand : AllStand table.schema table.rows
   pub order : KeysRise table.schema table.rows
 
--- the tree of an index holds what its definition, which is one of the schema, selects of the rows that it covers: of all rows, where it is complete
+-- the tree of an index holds what its definition, which is one of the schema, selects of the rows that it covers; if it is complete, these are all rows
 pub record ShowsIndex (table : PlainTable) (schema : Schema) (index : Index) : Type 0 where
   pub schema_is : schema ≡ table.schema
   pub held : holds entry_effect index.tree.1 ≡ index_of index.def index.cover table.rows

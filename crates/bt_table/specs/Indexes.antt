@@ -28,17 +28,17 @@ pub record Index : Type 0 where
   pub cover : Cover
   pub tree : Shape × EntryTree
 
--- what an index is, with its tree
+-- an index of this head, with its tree
 abbrev pub index_with : IndexHead → Shape × EntryTree → Index
 index_with head tree = record { name = head.name; def = head.def; cover = head.cover; tree = tree }
 
--- what indexes are, each with the tree that stands at its place
+-- indexes of these heads, each with the tree at its place
 abbrev pub indexes_of : List IndexHead → List (Shape × EntryTree) → List Index
 indexes_of [] trees = []
 indexes_of (head ∷ heads) [] = []
 indexes_of (head ∷ heads) (tree ∷ trees) = index_with head tree ∷ indexes_of heads trees
 
--- an index that is looked at
+-- a borrowed index
 abbrev pub index_of_ref : IndexRef → Index
 index_of_ref index = index_with index.head.now index.tree.now
 
@@ -47,7 +47,7 @@ index_of_ref index = index_with index.head.now index.tree.now
 abbrev pub is_name_of : List ℕ → Index → Bool
 is_name_of name index = pointwise ◌==◌ index.name name
 
--- the first index of this name, and its place, counted from the one that is given
+-- the first index of this name, and its place, counted from a given one
 abbrev pub index_named_from : ℕ → List ℕ → List Index → Option (ℕ × Index)
 index_named_from place name [] = None
 index_named_from place name (index ∷ indexes) = if is_name_of name index then Some (place, index) else index_named_from (suc place) name indexes
@@ -89,11 +89,11 @@ indexes_after rows batch indexes = map (λ index. sunk_index index (packet_of ro
 
 -- ---- building
 
--- the packet that a step of building means for an index: the entries of the rows that it reads, the first n that the index doesn't cover, as puts
+-- the packet of a step of building for an index: the entries of the rows that it reads, the first n that the index doesn't cover, as puts
 abbrev pub building_packet : ℕ → Rows (List Value) → Index → Messages EntryMessage
 building_packet n rows index = sorted_batch (puts_of (entry_of index.def) (next_rows n index.cover rows))
 
--- an index after a packet of its building, which covers more rows then
+-- an index after a packet of its building; it covers more rows then
 abbrev pub advanced : Index → Messages EntryMessage → Cover → Index
 advanced index packet cover = record (sunk_index index packet) { cover = cover }
 
@@ -103,6 +103,6 @@ built_index n rows index = advanced index (building_packet n rows index) (cover_
 
 -- ---- loads
 
--- an index of all these rows: its tree is packed of the entries that its definition selects of them
+-- an index of all these rows: its tree is packed from the entries that its definition selects of them
 abbrev pub packed_index : Rows (List Value) → Index → Index
 packed_index rows index = with_tree index (index.tree.0, packed index.tree.0 (select (entry_of index.def) rows))

@@ -1,4 +1,4 @@
--- Where the rows of a table stand, and what is true of a table between any two commands.
+-- Which key a row of a table is under, and what is true of a table between any two calls.
 use Rattle.std.specs.Prelude.{◌≡◌, ◌≤◌, true, length, List, [], ◌∷◌, Option, IfSome, T, map, take}
 use Rattle.std.specs.FinMap.{is_sorted}
 use Rattle.std.specs.List.{All}
@@ -17,10 +17,11 @@ use Rattle.bt_fanout.specs.Selections.{select}
 use Rattle.bt_batch.specs.Batches.{KeyedMessage, RowMessages}
 use Rattle.bt_table.specs.Indexes.{Index, is_complete}
 use Rattle.bt_table.specs.Tables.{PlainTable, TableState, Intact, Lost}
--- each of the rows stands under the code of its key columns, and is of the schema: one value of each column's kind, within the range of its kind
+-- each row is under the code of its key columns, and is of the schema: it has one value of each column's kind, within the range of the kind
 pub use Rattle.bt_keycode.specs.Standing.{AllStand, Stands}
 
--- an index is sound beside rows: its definition is one of the schema, its tree fits the shape of the table and holds what its definition selects of the rows that it covers
+-- an index is sound beside rows: its definition is one of the schema, its tree fits the shape of the table and holds what its definition selects of the rows
+-- that it covers
 pub record IsSoundIndex (schema : Schema) (shape : Shape) (rows : Rows (List Value)) (index : Index) : Type 0 where
   pub suits : SuitsKinds index.def (kinds_of schema.columns)
   pub keys : index.def.keys ≡ schema.keys
@@ -42,7 +43,8 @@ abbrev pub AreSoundIndexes : Schema → Shape → Rows (List Value) → List Ind
 AreSoundIndexes schema shape rows [] = Unit {0}
 AreSoundIndexes schema shape rows (index ∷ indexes) = IsSoundIndex schema shape rows index × AreSoundIndexes schema shape rows indexes
 
--- its tree fits its shape and holds its rows, each row stands in its place and is of the schema, whose key columns are columns of it, and its indexes are sound
+-- its tree fits its shape and holds its rows, each row is under the code of its key columns and is of the schema, the key columns of the schema are columns
+-- of it, and its indexes are sound
 pub record IsSoundTable (table : PlainTable) : Type 0 where
   pub tree : HasShape row_meaning.weigh table.shape table.tree
   pub held : holds row_effect table.tree ≡ table.rows
@@ -50,22 +52,23 @@ pub record IsSoundTable (table : PlainTable) : Type 0 where
   pub keys : table.schema.keys ≤ length table.schema.columns
   pub indexes : AreSoundIndexes table.schema table.shape table.rows table.indexes
 
--- A table is sound: it is intact, its tree fits its shape and holds its rows, each row stands in its place and is of the schema, and each index holds what its definition selects of the rows that it covers.
+-- A table is sound: it is intact, its tree fits its shape and holds its rows, each row is under the code of its key columns and is of the schema, and each
+-- index holds what its definition selects of the rows that it covers.
 abbrev pub IsSound : TableState → Type 0
 IsSound (Intact table) = IsSoundTable table
 IsSound Lost = ⊥
 
--- it is, if it is intact
+-- it is sound, if it is intact
 abbrev pub IsSoundUnlessLost : TableState → Type 0
 IsSoundUnlessLost (Intact table) = IsSoundTable table
 IsSoundUnlessLost Lost = Unit {0}
 
--- a message is of a schema: of a row that stands at its key, or of none, it makes one that stands there, or none
+-- a message is of a schema: from a row that belongs at its key, or from none, it gives one that belongs there, or none
 abbrev pub IsOfSchema : Schema → KeyedMessage → Type 0
 IsOfSchema schema message =
     (old : Option (List Value)) → IfSome old (λ row. Stands schema message.0 row) → IfSome (row_effect old message.1) (λ row. Stands schema message.0 row)
 
--- each of the messages is
+-- each of the messages is of the schema
 abbrev pub AreOfSchema : Schema → RowMessages → Type 0
 AreOfSchema schema [] = Unit {0}
 AreOfSchema schema (message ∷ messages) = IsOfSchema schema message × AreOfSchema schema messages

@@ -1,4 +1,4 @@
--- A table, and what a batch leaves of it.
+-- A table, and how a batch changes it.
 use Rattle.std.specs.Prelude.{List, [], Option, Some, None}
 use Rattle.bt_row.specs.Ops.{Change}
 use Rattle.bt_row.specs.Schemas.{Schema}
@@ -26,7 +26,7 @@ pub record PlainTable : Type 0 where
   pub tree : RowTree
   pub indexes : List Index
 
--- what a contract sees of a table: it is intact, or it lost its trees when memory was wanting
+-- the state of a table as a contract sees it: the table is intact, or it lost its trees when memory ran out
 pub data TableState : Type 0 where
   Intact : (table : PlainTable) → TableState
   Lost : TableState
@@ -39,7 +39,7 @@ empty_table schema shape = record { schema = schema; shape = shape; rows = []; t
 abbrev pub held_by : Schema → Shape × RowTree → List Index → PlainTable
 held_by schema tree indexes = record { schema = schema; shape = tree.0; rows = holds row_effect tree.1; tree = tree.1; indexes = indexes }
 
--- a table after the messages of a batch: its rows take them in order, its tree takes them sorted by key, and each index what they mean for it
+-- a table after the messages of a batch: its rows take them in order, its tree takes them sorted by key, and each index takes what they mean for it
 abbrev pub after_batch : PlainTable → RowMessages → PlainTable
 after_batch table batch = record table {
   rows = rows_after row_effect batch table.rows;
@@ -47,7 +47,7 @@ after_batch table batch = record table {
   indexes = indexes_after table.rows batch table.indexes;
 }
 
--- the table of a schema by what its indexes are and by its trees, where it still has them
+-- the table of a schema by the heads of its indexes and its trees, if it still has them
 abbrev pub state_of : Schema → List IndexHead → Option Trees → TableState
 state_of schema heads None = Lost
 state_of schema heads (Some trees) = Intact (held_by schema trees.rows (indexes_of heads trees.entries.items))

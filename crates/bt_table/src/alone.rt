@@ -1,4 +1,4 @@
-//! The caller alone, who works for a table without a thread.
+//! The caller alone: a workforce without threads.
 ghost use Rattle.std.specs.Prelude.{◌≡◌, IfOk};
 ghost use Rattle.bt_messages.specs.Meanings.{meaning_of};
 ghost use Rattle.bt_gather.specs.Rounds.{all_sunk};
@@ -16,7 +16,7 @@ use bt_rowtype::Item;
 use bt_value::Refusal;
 use std::alloc::{AllocError, Global};
 
-/// The caller alone: no thread is started, and nothing waits.
+/// The caller alone: no thread is started, and nothing waits for one.
 #[derive(Drop)]
 pub struct Alone;
 

@@ -1,4 +1,4 @@
-//! The indexes of a table: what each is, and beside it the tree of its entries.
+//! The indexes of a table: the head of each index, and beside it the tree of its entries.
 ghost use Rattle.std.specs.Prelude.{◌≡◌, ◌<◌, ◌++◌, ◌∷◌, [], IfOk, IfSome, Some, if◌then◌else◌, is_ok, length, map, option_map, set, slice_get};
 ghost use Rattle.std.specs.List.{All, list_all};
 ghost use Rattle.bt_node.specs.Flushes.{holds};
@@ -21,7 +21,7 @@ use bt_value::{Sequence, Text};
 use std::alloc::{AllocError, Global};
 use std::mem;
 
-/// What an index of a table is, apart from the tree of its entries.
+/// An index of a table without the tree of its entries.
 #[derive(Drop)]
 pub struct IndexHead {
     pub name: Text,
@@ -30,7 +30,7 @@ pub struct IndexHead {
     pub cover: Cover,
 }
 
-/// An index of a table, to be looked at.
+/// A borrowed index of a table.
 #[derive(Clone, Copy)]
 pub struct IndexRef<'a> {
     pub head: &'a IndexHead,
@@ -38,7 +38,7 @@ pub struct IndexRef<'a> {
     pub tree: &'a Tree<Entry>,
 }
 
-/// Adds an index that has no row yet behind the others. An `Err` changes none.
+/// Adds an index that covers no row yet after the others. An `Err` changes none.
 pub(crate) fn add_index(
     alloc: Global,
     heads: &mut Vec<IndexHead>,
@@ -101,13 +101,13 @@ pub(crate) fn find_index<'a>(
     None
 }
 
-/// What a batch sends to indexes: a packet for each, and how many messages it has.
+/// What a batch sends to the indexes: a packet for each, and the number of its messages.
 pub(crate) struct FanOut {
     pub(crate) packets: Vec<Packet<Entry>>,
     pub(crate) sent: Sequence<SentCount>,
 }
 
-// What effects on rows send to indexes.
+// The packets that effects on rows mean for indexes.
 fn packets_for<T, W: Workforce<T>>(
     rt: &T,
     alloc: Global,
@@ -133,7 +133,7 @@ fn packets_for<T, W: Workforce<T>>(
     Ok(FanOut { packets, sent })
 }
 
-// The widest of a cover and those of indexes: it covers each key that one of them does.
+// The widest of a cover and those of indexes: it covers each key that one of them covers.
 fn widest_cover<'a>(cover: &'a Cover, heads: &'a [IndexHead]) -> &'a Cover
     ensures { result.now ≡ widest cover.now heads.now }
 {
@@ -144,8 +144,8 @@ fn widest_cover<'a>(cover: &'a Cover, heads: &'a [IndexHead]) -> &'a Cover
     widest
 }
 
-/// What a packet of rows sends to the indexes of a table with this tree of rows. No key that none of them covers is looked up, and nothing is read
-/// where they cover none.
+/// What a packet of rows sends to the indexes of a table with this tree of rows. A key that none of them covers is not looked up, and if they cover no key at
+/// all, the tree is not read.
 pub(crate) fn fan_out<T, W: Workforce<T>>(
     rt: &T,
     alloc: Global,
@@ -186,7 +186,7 @@ pub(crate) fn put_tree(entries: &mut Vec<Tree<Entry>>, place: usize, tree: Tree<
     drop(mem::replace(&mut entries[place], tree));
 }
 
-/// Has the index at a place cover other keys.
+/// Replaces the cover of the index at a place.
 pub(crate) fn put_cover(heads: &mut Vec<IndexHead>, place: usize, cover: Cover)
     requires { place < length heads.old.items }
     ensures { IfSome (slice_get heads.old.items place) (λ head. heads.new.items ≡ set heads.old.items place (with_cover head cover)) }
@@ -194,7 +194,7 @@ pub(crate) fn put_cover(heads: &mut Vec<IndexHead>, place: usize, cover: Cover)
     drop(mem::replace(&mut heads[place].cover, cover));
 }
 
-// The packed tree of the entries of rows for an index.
+// The tree of an index of these rows, built from their sorted entries.
 fn packed_entries(
     alloc: Global,
     shape: Shape,
@@ -208,7 +208,7 @@ fn packed_entries(
     pack(alloc, shape, entries)
 }
 
-/// For each index the packed tree of the entries of rows.
+/// For each index the tree of the entries of these rows.
 pub(crate) fn pack_entries(
     alloc: Global,
     shape: Shape,

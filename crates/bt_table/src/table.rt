@@ -28,15 +28,14 @@ use bt_value::{Refusal, Text};
 use std::alloc::Global;
 use std::marker::Model;
 
-/// The most indexes of a table.
+/// The largest number of indexes of a table.
 pub const MOST_INDEXES: usize = 16;
 
-/// Rows of a schema in a tree, under the codes of their keys, and secondary indexes of them; or no trees, once they were lost when
-/// memory was wanting.
+/// Rows of a schema in a tree, under the codes of their keys, and secondary indexes on them. A table has no trees if they were lost when memory ran out.
 #[derive(Drop)]
 pub struct Table {
     schema: Schema,
-    // what the indexes are, in order of creation
+    // the heads of the indexes, in order of creation
     heads: Vec<IndexHead>,
     trees: Option<Trees>,
 }
@@ -56,7 +55,7 @@ impl Model for Table {
     ghost invariant = { λ a. AreSoundParts a.schema a.heads.items a.trees };
 }
 
-/// A tree of a table, to be looked at.
+/// A borrowed tree of a table.
 #[derive(Clone, Copy)]
 pub enum TreeRef<'a> {
     /// The tree of the rows.
@@ -78,7 +77,7 @@ fn is_name_of_rows(name: &Text) -> bool
 }
 
 impl Table {
-    // What is true of a table between any two calls. Nothing is done: a call that changed the trees ends with it, so that its own contract says it.
+    // What is true of a table between any two calls. It does nothing: a call that changes the trees ends with it, so that its contract states this.
     fn soundness(&self)
         ensures complete { CompleteIndexesHold self.now }
         ensures sound { IsSoundUnlessLost self.now }
@@ -93,7 +92,7 @@ impl Table {
         ensures sound { IsSoundUnlessLost result }
     {
         let rows = Tree::empty(alloc, shape);
-        // An empty tree fits its shape, which a walk says of every tree; and the key columns of a schema are columns of it.
+        // An empty tree fits its shape, which a walk states for every tree; and the key columns of a schema are columns of it.
         let _root = rows.walk();
         let _keys = schema.keys();
         let entries = Vec::new(alloc);
@@ -117,8 +116,8 @@ impl Table {
         Ok(&self.schema)
     }
 
-    /// Applies the messages of a batch in order, to the rows and to each index, and answers their numbers. A lost table answers `Failed`; else
-    /// the least refusal that applies is answered, and the table is as it was. After `OutOfMemory` it is as it was, or lost.
+    /// Applies the messages of a batch in order, to the rows and to each index, and returns their numbers. A lost table returns `Failed`. Otherwise the
+    /// smallest refusal that applies is returned, and the table does not change. After `OutOfMemory` the table is as it was, or lost.
     pub fn apply<T, W: Workforce<T>>(
         &mut self,
         rt: &T,
@@ -158,8 +157,8 @@ impl Table {
         })
     }
 
-    /// Whether an index of this name can be created: `NameTaken` where it is the name of the tree of rows or of an index, `TooMany` where
-    /// there are as many indexes as there can be. Takes no memory.
+    /// Whether an index of this name can be created: `NameTaken` if the tree of rows or an index has this name, `TooMany` if the table already has as many
+    /// indexes as it can have. Allocates nothing.
     pub fn check_index(&self, name: &Text) -> Result<(), Refusal>
         ensures free { OnOk result (least (index_refusals self.now name.now) ≡ None) }
         ensures refused { IfErr result (λ refusal. least (index_refusals self.now name.now) ≡ Some refusal) }
@@ -180,7 +179,7 @@ impl Table {
         Ok(())
     }
 
-    /// Creates an index of a definition, which covers no row yet, behind the others. Refused as `check_index` says. An `Err` changes nothing.
+    /// Creates an index of a definition after the others. It covers no row yet. The refusals are those of `check_index`. An `Err` changes nothing.
     pub fn create_index(
         &mut self,
         alloc: Global,
@@ -213,9 +212,9 @@ impl Table {
         Ok(Reply::Created(created))
     }
 
-    /// One step of building an index: it reads the first `count` rows that the index doesn't cover, or all where they are fewer, and sends it their
-    /// entries; from then on the index covers these rows too, and batches on them. Where they were fewer it is complete. `NoSuchTree` where there is none
-    /// of this name, `AlreadyComplete` where it is complete. After `OutOfMemory` the table is as it was, or lost.
+    /// One step of building an index. It reads the first `count` rows that the index does not cover, or all of them if they are fewer, and sends the index
+    /// their entries; from then on the index covers these rows too, and the batches on them. If they were fewer, the index is complete. `NoSuchTree` if there
+    /// is no index of this name, `AlreadyComplete` if it is complete. After `OutOfMemory` the table is as it was, or lost.
     pub fn build_step<T, W: Workforce<T>>(
         &mut self,
         rt: &T,
@@ -266,7 +265,7 @@ impl Table {
         })
     }
 
-    /// Takes an index out of the table. `NoSuchTree` where there is none of this name. Takes no memory.
+    /// Removes an index from the table. `NoSuchTree` if there is none of this name. Allocates nothing.
     pub fn drop_index(&mut self, name: &Text) -> Result<Reply, Refusal>
         ensures done { IfOk result (IsStep self.old self.new (DropIndex name.now)) }
         ensures refused { IfErr result (λ refusal. (step self.old (DropIndex name.now) ≡ Err refusal) × (self.new ≡ self.old)) }
@@ -292,7 +291,7 @@ impl Table {
         Ok(Reply::Dropped(name))
     }
 
-    /// The row of the key that fields spell, where it has one.
+    /// The row whose key these fields encode, if there is one.
     pub fn get(&self, alloc: Global, fields: &RecordLine<'_>) -> Result<Reply, Refusal>
         ensures done { IfOk result (IsStep self.now self.now (Get fields.now)) }
         ensures refused { IfErr result (IsRefused self.now self.now (Get fields.now)) }
@@ -309,7 +308,7 @@ impl Table {
         Ok(Reply::Row(trees.rows.get(alloc, &code)?))
     }
 
-    /// The tree of a name: that of the rows is `primary`, and an index has its own. Takes no memory.
+    /// The tree of this name: the tree of the rows is `primary`, and each index has its own name. Allocates nothing.
     pub fn tree(&self, name: &Text) -> Result<TreeRef<'_>, Refusal>
         ensures shown { IfOk result (λ shown. Shows self.now name.now shown) }
         ensures refused { IfErr result (λ refusal. tree_named self.now name.now ≡ Err refusal) }

@@ -1,4 +1,4 @@
-//! The trees of a table: how they leave it and come back, and what they are after packets.
+//! The trees of a table: how they leave it and come back, and how packets change them.
 ghost use Rattle.std.specs.Prelude.{◌≡◌, ◌≤◌, [], IfOk, IsSome, None, Some, length, vec_capacity};
 ghost use Rattle.std.specs.List.{zip};
 ghost use Rattle.bt_node.specs.Flushes.{sunk};
@@ -16,11 +16,11 @@ use std::alloc::{AllocError, Global};
 #[derive(Drop)]
 pub(crate) struct Trees {
     pub(crate) rows: Tree<Row>,
-    /// Those of the indexes, each at the place of its index.
+    /// The trees of the indexes, in the order of the indexes.
     pub(crate) entries: Vec<Tree<Entry>>,
 }
 
-/// Takes the trees out of a table, which is lost until they are put back: an error on the way loses it.
+/// Takes the trees out of a table. The table is lost until they are put back, so an error in between loses it.
 pub(crate) fn take_trees(trees: &mut Option<Trees>) -> Trees
     requires { IsSome trees.old }
     ensures taken { trees.old ≡ Some result }
@@ -36,7 +36,7 @@ pub(crate) fn put_trees(trees: &mut Option<Trees>, put: Trees)
     drop(trees.replace(put));
 }
 
-/// Room for trees with their packets. It is asked for before the trees leave the table.
+/// Space for trees with their packets, allocated before the trees leave the table.
 #[derive(Drop)]
 pub(crate) struct TreeRoom {
     pub(crate) rows: Vec<(Tree<Row>, Packet<Row>)>,
@@ -44,7 +44,7 @@ pub(crate) struct TreeRoom {
 }
 
 impl TreeRoom {
-    /// Room for so many trees of rows and of entries.
+    /// Space for this many trees of rows and of entries.
     pub(crate) fn new(alloc: Global, rows: usize, entries: usize) -> Result<Self, AllocError>
         ensures rows { IfOk result (λ room. (room.rows.items ≡ []) × (rows ≤ vec_capacity room.rows)) }
         ensures entries { IfOk result (λ room. (room.entries.items ≡ []) × (entries ≤ vec_capacity room.entries)) }
@@ -55,7 +55,7 @@ impl TreeRoom {
     }
 }
 
-// Each tree with its packet, in a list that has room for them.
+// Each tree with its packet, in a list that has space for them.
 fn with_packets(
     trees: Vec<Tree<Entry>>,
     packets: Vec<Packet<Entry>>,

@@ -1,4 +1,4 @@
-//! Who works for a table: the caller alone, or a crew.
+//! Who works on the calls of a table: the caller alone, or a crew.
 ghost use Rattle.std.specs.Prelude.{◌≡◌, ◌≢◌, ◌≤◌, ◌+◌, ◌++◌, IfErr, IfOk, IsErrOf, None, OnErr, OnOk, Some, length};
 ghost use Rattle.std.specs.List.{All};
 ghost use Rattle.bt_messages.specs.Messages.{sorted_batch};
@@ -29,16 +29,16 @@ use std::alloc::{AllocError, Global};
 use std::sync::Wait;
 use std::thread::Threads;
 
-/// Who works in the calls of a table. A library for C may start no thread, and a program has a crew: what is generic in a workforce has one body
-/// for both, and starts threads and waits only where its workforce does. Whoever it is, the calls have the same clauses.
+/// Who works on the calls of a table. A library for C may not start threads, and a program has a crew. Code that is generic in a workforce is written once for
+/// both, and starts threads and waits only if its workforce does. The calls have the same clauses for either.
 ///
-/// Two work: [`Alone`](crate::Alone), and a [`Crew`], where the runtime has threads. A crew has no gate, or one that is lent as `&(dyn Gate + Sync)`: inside
-/// an `impl` it is not known of a type parameter that all workers may call its methods, so the type of a gate has to be named.
+/// There are two implementations: [`Alone`](crate::Alone), and [`Crew`], if the runtime has threads. A crew has no gate, or a borrowed one of type
+/// `&(dyn Gate + Sync)`. Inside an `impl` it is not known that all workers may call the methods of a type parameter, so the type of the gate has to be named.
 pub trait Workforce<T> {
-    /// What is asked of a workforce: of a crew, that the runtime may be shared by its workers.
+    /// What is required of a workforce: of a crew, that its workers may share the runtime.
     ghost accepts: { Self → Type 0 };
 
-    /// The packet of a batch: the messages that its records spell, or the least refusal that applies.
+    /// The packet of a batch: the messages that its records encode, or the smallest refusal that applies.
     fn read_packet(
         &self,
         rt: &T,
@@ -51,7 +51,7 @@ pub trait Workforce<T> {
         ensures allowed { OnOk result (least (batch_refusals schema.now items.now) ≡ None) }
         ensures refused { IfErr result (λ r. r ≢ refusal.OutOfMemory → least (batch_refusals schema.now items.now) ≡ Some r) };
 
-    /// What the messages of a packet do to the rows of a tree, which doesn't have them yet, at the keys that a cover covers.
+    /// How the messages of a packet change the rows of a tree, which does not have them yet, at the keys that a cover covers.
     fn effects(
         &self,
         rt: &T,
@@ -89,12 +89,12 @@ pub trait Workforce<T> {
         ensures rows { IfOk result (λ trees. trees.0.items ≡ all_sunk row_meaning rows.items) }
         ensures entries { IfOk result (λ trees. trees.1.items ≡ all_sunk entry_meaning entries.items) };
 
-    /// A tree of rows when all its messages have gone down to the leaves. An `Err` keeps nothing of it.
+    /// A tree of rows after all its messages have moved down to the leaves. An `Err` keeps nothing of it.
     fn drain_rows(&self, rt: &T, alloc: Global, tree: Tree<Row>) -> Result<Tree<Row>, AllocError>
         requires ready { accepts self.now }
         ensures tree { IfOk result (λ dry. dry ≡ (tree.0, drained row_meaning tree.0 tree.1)) };
 
-    /// An index's tree when all its messages have gone down to the leaves. An `Err` keeps nothing of it.
+    /// The tree of an index after all its messages have moved down to the leaves. An `Err` keeps nothing of it.
     fn drain_entries(
         &self,
         rt: &T,
@@ -104,12 +104,12 @@ pub trait Workforce<T> {
         requires ready { accepts self.now }
         ensures tree { IfOk result (λ dry. dry ≡ (tree.0, drained entry_meaning tree.0 tree.1)) };
 
-    /// A tree of what a tree of rows holds, packed.
+    /// A packed tree of the contents of a tree of rows.
     fn rebuild_rows(&self, rt: &T, alloc: Global, tree: &Tree<Row>) -> Result<Tree<Row>, AllocError>
         requires ready { accepts self.now }
         ensures tree { IfOk result (λ anew. anew ≡ (tree.now.0, rebuilt row_effect tree.now.0 tree.now.1)) };
 
-    /// A tree of what an index's tree holds, packed.
+    /// A packed tree of the contents of an index's tree.
     fn rebuild_entries(
         &self,
         rt: &T,
@@ -119,7 +119,7 @@ pub trait Workforce<T> {
         requires ready { accepts self.now }
         ensures tree { IfOk result (λ anew. anew ≡ (tree.now.0, rebuilt entry_effect tree.now.0 tree.now.1)) };
 
-    /// Takes the rows of a CSV text into a table, as [`Table::load`] says.
+    /// Loads the rows of a CSV text into a table, as [`Table::load`] says.
     fn load(&self, rt: &T, alloc: Global, table: &mut Table, text: &[u8]) -> Result<Reply, Refusal>
         requires ready { accepts self.now }
         ensures done { IfOk result (IsStep table.old table.new (Load text.now)) }
@@ -130,7 +130,7 @@ pub trait Workforce<T> {
         ensures sound { IsSoundUnlessLost table.new };
 }
 
-// Takes the rows of a CSV text into a table, as [`Table::load`] says: one worker in turn, several in threads.
+// Loads the rows of a CSV text into a table, as [`Table::load`] says: a single worker one part after the other, several workers in threads.
 fn load_by_workers<T: Threads + Sync>(
     rt: &T,
     alloc: Global,

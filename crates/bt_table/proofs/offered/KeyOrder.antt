@@ -31,7 +31,7 @@ below-rise schema k row [] stands all below = tt
 below-rise schema k row (r ∷ rs) stands all below =
     t_both _ _ (pair-rises schema k r.0 row r.1 stands all.0 (t_first _ _ below)) (below-rise schema k row rs stands all.1 (t_second _ _ below))
 
--- rows by rising code are rows by rising key
+-- rows in ascending order of their codes are in ascending order of their keys
 pub keys_rise : (schema : Schema) (rows : Rows (List Value)) → AllStand schema rows → T (is_sorted key_cmp rows) → KeysRise schema rows
 keys_rise schema [] all sorted = tt
 keys_rise schema (r ∷ rs) all sorted =

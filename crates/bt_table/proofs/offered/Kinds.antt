@@ -1,4 +1,4 @@
--- The kinds of the first values of a row of a schema. The order of a table's rows stands on it, and that of their groups.
+-- The kinds of the first values of a row of a schema. The order of a table's rows rests on it, and that of their groups.
 use Rattle.std.proofs.Common.{◌≡◌, ℕ, Bool, true, false, ◌&&◌, List, [], ◌∷◌, refl, map, take, suc, zero}
 use Rattle.bt_row.specs.Schemas.{fit_columns}
 use Rattle.bt_value.specs.Values.{fits_kind}

@@ -1,4 +1,4 @@
--- What a call leaves of a sound table is sound, and a complete index of one holds what it selects.
+-- A call leaves a sound table sound, and a complete index of a sound table holds what it selects.
 use Rattle.std.proofs.Common.{ℕ, ◌≡◌, ◌≤◌, true, false, refl, length, arith, List, [], ◌∷◌, Option, Some, None, option_map, if◌then◌else◌, IfOk, Result, Ok, Err}
 use Rattle.std.specs.FinMap.{find}
 use Rattle.std.specs.List.{All, list_all}
@@ -132,12 +132,12 @@ complete_indexes_hold table sound = each table.indexes sound.indexes
     each (index ∷ indexes) sound =
         all_more (HoldsSelection table.rows) index indexes (holds_selection table.schema table.shape table.rows index sound.0) (each indexes sound.1)
 
--- the same of a table that may be lost
+-- the same for a table that may be lost
 pub unless_lost_hold : (state : TableState) → IsSoundUnlessLost state → CompleteIndexesHold state
 unless_lost_hold (Intact table) sound = complete_indexes_hold table sound
 unless_lost_hold Lost sound = tt
 
--- and of one that is sound
+-- and for one that is sound
 pub sound_hold : (state : TableState) → IsSound state → CompleteIndexesHold state
 sound_hold (Intact table) sound = complete_indexes_hold table sound
 sound_hold Lost sound = absurd sound

@@ -1,4 +1,5 @@
--- What the code knows of the indexes of a table apart from their trees, and the trees of their entries as a batch and a load make them: by the packets that effects on rows mean, and packed of the entries of all rows.
+-- The heads of the indexes of a table, and the trees of their entries after a batch and after a load: with the packets that effects on rows mean, and packed
+-- from the entries of all rows.
 use Rattle.std.specs.Prelude.{ℕ, Bool, List, [], ◌∷◌, length}
 use Rattle.bt_value.specs.declared.value.Value.{Value}
 use Rattle.bt_messages.specs.Effects.{Rows}

@@ -7,7 +7,7 @@ use Rattle.bt_table.specs.Tables.{state_of}
 use Rattle.bt_table.specs.declared.index.IndexHead.{IndexHead}
 use Rattle.bt_table.specs.declared.trees.Trees.{Trees}
 
--- there is one tree of entries for each index, and no more indexes than a table may have, where there are trees
+-- if there are trees, there is one tree of entries for each index, and no more indexes than a table may have
 abbrev pub HasTreeEach : List IndexHead → Option Trees → Type 0
 HasTreeEach heads None = Unit {0}
 HasTreeEach heads (Some trees) = (length trees.entries.items ≡ length heads) × (length heads ≤ most_indexes)

@@ -1,4 +1,4 @@
-//! How rows are loaded into a table that has none.
+//! Loading rows into a table that has none.
 #![tactic(auto, using(crate::proofs::offered::Steps::unless_lost_hold))]
 
 ghost use Rattle.std.specs.Prelude.{◌≡◌, IfErr, IfOk, IsErrOf, None, OnErr, OnOk, Some, length};
@@ -43,12 +43,11 @@ fn check_load(heads: &[IndexHead], trees: &Trees) -> Result<(), Refusal>
 }
 
 impl Table {
-    /// Takes the rows of a CSV text, under a header with the names of the columns in order, as those of a table that has none, and for each index their
-    /// entries.
+    /// Loads the rows of a CSV text into a table that has none, and their entries into each index. The header of the text names the columns in order.
     ///
-    /// The least refusal that applies is returned, and an `Err` changes nothing: `BadSchema` for another header, `BadField` and `BadLength` with the number of
-    /// the record after the header, `Building` if an index is not complete, `NotEmpty` if the tree of the rows is more than one leaf without rows, `DuplicateKey`
-    /// with the number of the first record whose key an earlier one has. Records are typed and sorted in threads.
+    /// The smallest refusal that applies is returned, and an `Err` changes nothing: `BadSchema` if the header is another one, `BadField` and `BadLength` with
+    /// the number of the record after the header, `Building` if an index is not complete, `NotEmpty` if the tree of the rows is more than one leaf without
+    /// rows, `DuplicateKey` with the number of the first record whose key an earlier one has. Records are typed and sorted in threads.
     pub fn load(
         &mut self,
         rt: &(impl Threads + Sync),
@@ -65,7 +64,7 @@ impl Table {
         self.load_by(&InThreads { rt }, alloc, text)
     }
 
-    /// As [`Table::load`], in threads or alone.
+    /// The same as [`Table::load`], in threads or by the caller alone.
     pub fn load_by<L: Loading>(
         &mut self,
         loading: &L,

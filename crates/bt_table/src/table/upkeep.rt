@@ -1,4 +1,4 @@
-//! The upkeep of the trees of a table: their buffers are flushed, or they are built anew from what they hold.
+//! Upkeep of the trees of a table: flushing their buffers, or rebuilding them from their contents.
 #![tactic(auto, using(crate::proofs::offered::Steps::unless_lost_hold))]
 
 ghost use Rattle.std.specs.Prelude.{◌≡◌, ◌<◌, IfErr, IfNone, IfOk, IfSome, IsErrOf, None, OnErr, Some, false, length, slice_get, true};
@@ -17,7 +17,7 @@ use bt_node::Tree;
 use bt_value::{Refusal, Text};
 use std::alloc::Global;
 
-// Which tree has a name: that of the rows, or that of an index, with its place.
+// The tree that has a name: that of the rows, or that of an index, with its place.
 fn find_tree<'a>(
     heads: &'a [IndexHead],
     entries: &'a [Tree<Entry>],
@@ -40,7 +40,7 @@ fn find_tree<'a>(
 }
 
 impl Table {
-    /// Flushes every buffer of the tree of a name. `NoSuchTree` where there is none. After `OutOfMemory` the table is as it was, or lost.
+    /// Flushes every buffer of the tree of this name. `NoSuchTree` if there is none. After `OutOfMemory` the table is as it was, or lost.
     pub fn drain<T, W: Workforce<T>>(
         &mut self,
         rt: &T,
@@ -80,7 +80,7 @@ impl Table {
         Ok(Reply::Drained(drained))
     }
 
-    /// Builds the tree of a name anew from what it holds, beside the old one. `NoSuchTree` where there is none. An `Err` changes nothing.
+    /// Rebuilds the tree of this name from its contents while the old one stays. `NoSuchTree` if there is none. An `Err` changes nothing.
     pub fn rebuild<T, W: Workforce<T>>(
         &mut self,
         rt: &T,

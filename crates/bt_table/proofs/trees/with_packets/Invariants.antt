@@ -3,7 +3,7 @@ use Rattle.std.specs.List.{zip}
 use Rattle.std.specs.Vec.Iter.{into_iter_items}
 use Rattle.bt_table.proofs.trees.with_packets.Given as goal
 
--- there is a packet for each tree that is left, and room for both
+-- there is a packet for each tree that is left, and space for both
 abbrev pub invariant-loop-tree : goal.invariant-loop-tree
 invariant-loop-tree l = record {
   same : length (into_iter_items l.packets) ≡ length (into_iter_items l.tree-iterator);

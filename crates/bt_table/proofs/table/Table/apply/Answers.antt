@@ -13,7 +13,7 @@ sunk_all-requires-clause-same g c =
     let packets = rw (c.in_ok-packet.ensures.packet, c.as_slice.ensures.value) at c.in_ok-packets.ensures.packets in
     each_has_packet c.self.inside.schema c.self.inside.heads.items c.self.inside.trees c.in-Some.trees c.in-Some.is c.self.invariant c.args.items.now _ packets _ c.take_trees-trees.ensures.taken
 
--- the table is lost where memory is wanting
+-- the table is lost if memory runs out
 pub invariant_of-self : goal.invariant_of-self
 invariant_of-self g c = subst (AreSoundParts c.self.inside.schema c.self.inside.heads.items) (sym c.take_trees-trees.ensures.none) (tt, tt)
 

@@ -12,7 +12,7 @@ build_step-requires g c =
     let found = sym (rw (c.as_slice.ensures.value, c.as_slice-2.ensures.value) at c.in-Some-find_index.ensures.found) in
     found_within c.self.inside.schema c.self.inside.heads.items c.self.inside.trees c.in-Some.trees c.in-Some.is c.self.invariant c.args.self.now c.self.view_is c.args.name.now c.in-Some-find_index.place c.in-Some-find_index.index found
 
--- the table is lost where memory is wanting
+-- the table is lost if memory runs out
 pub invariant_of-self : goal.invariant_of-self
 invariant_of-self g c = subst (AreSoundParts c.self.inside.schema c.self.inside.heads.items) (sym c.take_trees-rows.ensures.none) (tt, tt)
 

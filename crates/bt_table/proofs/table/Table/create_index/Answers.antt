@@ -7,13 +7,13 @@ use Rattle.bt_table.specs.inside.IndexTrees.{empty_head}
 use Rattle.bt_table.proofs.Steps.{added_is_sound, create_is_step, has_trees, not_added_is}
 use Rattle.bt_table.proofs.table.Table.create_index.Goals as goal
 
--- the table is not lost where an index can be created
+-- the table is not lost if an index can be created
 pub take_trees-rows-requires : goal.take_trees-rows-requires
 take_trees-rows-requires c =
     let free : least (index_refusals c.args.self.now c.args.name) ≡ None = search rules in
     has_trees c.self.inside.schema c.self.inside.heads.items c.self.inside.trees c.args.name (subst (λ s. least (index_refusals s c.args.name) ≡ None) (sym c.self.view_is) free)
 
--- the table is sound with the new index, and without it where memory is wanting
+-- the table is sound with the new index, or without it if memory runs out
 pub invariant_of-self : goal.invariant_of-self
 invariant_of-self c =
     let entries = rw (c.shape-shape.ensures) at c.add_index-added.ensures.entries in

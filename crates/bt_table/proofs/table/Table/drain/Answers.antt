@@ -20,7 +20,7 @@ invariant_of-self-in-Some-found g c =
     drained_index_is_sound c.self.inside.schema c.self.inside.heads.items c.self.inside.trees c.in-Some.trees c.in-Some.is c.self.invariant c.args.self.now c.self.view_is c.args.name.now c.in-Some-found.place c.in-Some-found._index (search rules) _ _ c.take_trees-rows-in-Some-found.ensures.taken _ c.put_trees-in-Some-found.ensures refl
     (search rules) (search rules) _ c.take_tree-taken.ensures.taken _ _ c.take_tree-taken.ensures.empty _ c.put_tree.ensures c.in_ok-tree-in-Some-found.ensures.tree
 
--- the table is lost where memory is wanting
+-- the table is lost if memory runs out
 pub invariant_of-self-in_err-tree-in-Some-found : goal.invariant_of-self-in_err-tree-in-Some-found
 invariant_of-self-in_err-tree-in-Some-found g c = subst (AreSoundParts c.self.inside.schema c.self.inside.heads.items) (sym c.take_trees-rows-in-Some-found.ensures.none) (tt, tt)
 

@@ -5,7 +5,7 @@ use Rattle.bt_table.proofs.table.Table.load_by.Goals as goal
 pub check_load-requires : goal.check_load-requires
 check_load-requires g c = rw (c.as_slice.ensures.value) (each_has_tree c.self.inside.schema c.self.inside.heads.items c.self.inside.trees c.in-Some.trees c.in-Some.is c.self.invariant)
 
--- the definitions are of the rows that were read
+-- the definitions suit the rows that were read
 pub pack_entries-requires : goal.pack_entries-requires
 pack_entries-requires g c =
     rw (c.as_slice-2.ensures.value, c.as_slice-3.ensures.value)

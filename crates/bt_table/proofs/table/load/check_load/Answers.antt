@@ -8,7 +8,7 @@ use Rattle.bt_table.specs.Indexes.{indexes_of, is_complete}
 use Rattle.bt_table.proofs.Indexes.{complete_are}
 use Rattle.bt_table.proofs.table.load.check_load.Goals as goal
 
--- that an index is building comes before that there are rows
+-- `Building` comes before `NotEmpty`
 building_first : (bare : Bool) → least (one_if true Building ++ one_if (not bare) NotEmpty) ≡ Some Building
 building_first true = refl
 building_first false = refl
