@@ -1,15 +1,15 @@
--- What stands behind words of a line, and the one field of a record there. Serves the reading of a filter.
+-- What follows words of a line, and the only field of a record there. Serves the reading of a filter.
 use Rattle.std.proofs.Common.{ℕ, zero, suc, List, [], ◌∷◌, ◌≡◌, ◌≢◌, ◌≤◌, ◌-◌, refl, length, Some, None, arith}
 use Rattle.std.specs.Prelude.{slice_get}
 use Rattle.bt_script.specs.Commands.{only_field}
 use Rattle.bt_script.specs.Lines.{behind_word, behind_words}
 
--- behind no word stands all of the line
+-- what follows no word is the whole line
 pub behind_none : (line : List ℕ) → behind_words 0 line ≡ line
 unfolding behind_words
 behind_none line = refl
 
--- behind some words stands what stands behind all but one of them in what stands behind the first
+-- what follows some words is what follows all but one of them in what follows the first
 pub behind_more : (count : ℕ) (line : List ℕ) → 1 ≤ count → behind_words count line ≡ behind_words (count - 1) (behind_word line)
 unfolding behind_words
 behind_more zero line some = absurd (omega arith)
@@ -17,7 +17,7 @@ behind_more (suc count) line some =
     let less : suc count - 1 ≡ count = omega arith in
     rw less refl
 
--- a record of no field or of several has no only one
+-- a record of no field or of several has no only field
 pub only_none : (fields : List (List ℕ)) → length fields ≢ 1 → only_field fields ≡ None
 only_none [] other = refl
 only_none (field ∷ []) other = absurd (other refl)

@@ -1,4 +1,4 @@
--- A line is blank where nothing is left of it behind its spaces. Serves the reading of a line of a block.
+-- A line is blank if nothing follows its spaces. Serves the reading of a line of a block.
 use Rattle.std.proofs.Common.{ℕ, List, [], ◌∷◌, ◌≡◌, ◌==◌, refl, sym, Option, true, false, inl, inr, length}
 use Rattle.std.proofs.Math.Dec.{eqb-suc-zero}
 use Rattle.std.proofs.lemmas.Bool.{cases_Bool}

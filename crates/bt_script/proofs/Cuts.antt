@@ -1,4 +1,4 @@
--- The first line of a text, and what is left behind it. Serves the cutting of a script into lines.
+-- The first line of a text, and what is left after it. Serves the cutting of a script into lines.
 use Rattle.std.proofs.Common.{ℕ, true, false, List, [], ◌∷◌, ◌++◌, ◌+◌, ◌<◌, ◌≡◌, ◌∙◌, refl, sym, ap, not, ◌==◌, take, drop, length, inl, inr, arith, suc, ◌-◌, ◌≤◌, length-drop}
 use Rattle.std.proofs.lemmas.List.{drop-drop, drop_all, take_rest}
 use Rattle.std.proofs.lemmas.List.Folds.{length-prefix_len}
@@ -20,7 +20,7 @@ more_line : (b : ℕ) (bs : List ℕ) (n : ℕ) → lines bs ≡ take n bs ∷ l
     → onto_first b (lines bs) ≡ take (1 + n) (b ∷ bs) ∷ lines (drop (1 + n + 1) (b ∷ bs))
 more_line b bs n e = rw (one_plus_one n, one_plus n) (onto_cut b (lines bs) (take n bs) (lines (drop (n + 1) bs)) e)
 
--- a text with some byte has the bytes before its first LF as its first line, and the lines of what stands after that
+-- the first line of a text that is not empty is the bytes before its first LF, and the other lines are those of what follows that
 pub lines_at : (text : List ℕ) → 0 < length text
     → lines text ≡ take (position_or_len (λ b. b == 10) text) text ∷ lines (drop (position_or_len (λ b. b == 10) text + 1) text)
 lines_at [] some = absurd (omega arith)
@@ -58,7 +58,7 @@ after_feed script at n =
 pub after_all : (script : List ℕ) (at n : ℕ) → length script ≤ at + n → drop (length script) script ≡ drop (n + 1) (drop at script)
 after_all script at n past = drop_all (length script) script (omega arith) ∙ sym (drop_all (n + 1) (drop at script) (omega (arith, length-drop at script)))
 
--- a text with a line feed is what stands before the first one, that line feed, and what stands behind it
+-- a text with a line feed is what precedes the first one, that line feed, and what follows it
 pub feed_at : (text : List ℕ) → position_or_len (λ b. b == 10) text < length text
     → text ≡ take (position_or_len (λ b. b == 10) text) text ++ 10 ∷ drop (position_or_len (λ b. b == 10) text + 1) text
 feed_at [] within = absurd (omega (arith, within))
@@ -77,7 +77,7 @@ feed_at (b ∷ bs) within = elim (cases_Bool (b == 10)) [
         → b ∷ bs ≡ take (position_or_len (λ x. x == 10) (b ∷ bs)) (b ∷ bs) ++ 10 ∷ drop (position_or_len (λ x. x == 10) (b ∷ bs) + 1) (b ∷ bs)
     feed_later b bs other more = rw (other, one_plus_one (position_or_len (λ x. x == 10) bs), one_plus (position_or_len (λ x. x == 10) bs)) (ap (λ (l : List ℕ). b ∷ l) more)
 
--- the bytes of the line at a place, where a line feed ends it
+-- the bytes of the line at a place, if a line feed ends it
 pub feed_behind : (script : List ℕ) (at n : ℕ) → n ≡ length (take_while (λ b. not (b == 10)) (take (length script - at) (drop at script)))
     → at + n < length script → drop at script ≡ take n (take (length script - at) (drop at script)) ++ 10 ∷ drop (at + n + 1) script
 feed_behind script at n count within =

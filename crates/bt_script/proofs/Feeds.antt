@@ -17,7 +17,7 @@ before (b ∷ bs) (suc place) within none feed = elim (cases_Bool (b == 10)) [
       rw other (omega (arith, later))
 ]
 
--- all bytes, where there is none
+-- all bytes, if there is none
 none_at : (text : List ℕ) → Nowhere (Passes (is_byte 10) text) 0 (length text) → length text ≡ prefix_len (λ b. not (b == 10)) text
 none_at [] none = refl
 none_at (b ∷ bs) none = elim (cases_Bool (b == 10)) [

@@ -1,4 +1,4 @@
--- Steps of the cutting of lines into commands. Serves the parser, which goes by places of a script.
+-- Steps of cutting lines into commands. Serves the parser, which goes from place to place in a script.
 use Rattle.std.proofs.Common.{ℕ, Bool, List, [], ◌∷◌, ◌++◌, ◌≡◌, ◌==◌, ◌∙◌, refl, sym, ap, subst, true, false, not, Option, Some, None, drop, length, map, filter, ◌<◌, ◌≤◌, arith, inl, inr, codes, true≢false}
 use Rattle.std.proofs.lemmas.Bool.{cases_Bool, eqb-true}
 use Rattle.std.proofs.lemmas.List.{append-nil, drop_all, map-append}
@@ -43,7 +43,7 @@ not_upper (b ∷ bs) lower = elim (cases_Bool (b == 116)) [
   | inr other ↦ rw other refl
 ]
 
--- after the upper bound comes no other one
+-- after the upper bound there is no other one
 upper_last : (from : Option (List (List ℕ))) (to : List (List ℕ)) (line : List ℕ) → with_bound (bounds_between from (Some to)) line ≡ None
 upper_last from to line = by_test (is_some (behind_prefix (codes "from ") line)) from
   where
@@ -117,7 +117,7 @@ pub inside-cut : (head closing : List ℕ) (block : List (List ℕ)) → command
 unfolding commands_from
 inside-cut head closing block = refl
 
--- inside a block, what stands at one place is what stands at another behind these lines
+-- inside a block, parsing at one place gives the same as parsing at another place after these lines
 abbrev pub Leads : List ℕ → ℕ → ℕ → List ℕ → List (List ℕ) → Type 0
 Leads script start at closing block = (head : List ℕ) → commands_from (Inside head closing []) (lines (drop start script)) ≡ commands_from (Inside head closing block) (lines (drop at script))
 
@@ -138,7 +138,7 @@ leads-cut script start at closing block so_far past head =
     let left : drop (length script) script ≡ [] = drop_all (length script) script (omega arith) in
     so_far head ∙ ap (λ (rest : List ℕ). commands_from (Inside head closing block) (lines rest)) (none ∙ sym left) ∙ rw left (inside-cut head closing block)
 
--- the lines of a block are read from its start up to a place, and something is made of them
+-- the lines of a block are read from its start up to a place, and a fact is true of them
 abbrev pub HasRead : List ℕ → ℕ → ℕ → List ℕ → (List (List ℕ) → Type 0) → Type 0
 HasRead script start at closing IsMade = record {
   within : at ≤ length script;
@@ -151,7 +151,7 @@ tested : (line inner closing : List ℕ) (found answer : Bool) → inner ≡ wit
 tested line inner closing found answer cut test is = ap (λ (l : List ℕ). is_word l closing) (sym cut) ∙ sym test ∙ is
 
 module _ (script : List ℕ) (start at : ℕ) (closing : List ℕ) (IsMade : List (List ℕ) → Type 0) (so_far : HasRead script start at closing IsMade) where
-  -- by a line more, of which more is made
+  -- one more line, and the fact that is true with it
   pub read-more : (next : ℕ) (line inner : List ℕ) (found : Bool) (IsMadeNow : List (List ℕ) → Type 0) → lines (drop at script) ≡ line ∷ lines (drop next script) → (at < next) × (next ≤ length script)
       → inner ≡ without_return line → found ≡ is_word inner closing → found ≡ false → ((block : List (List ℕ)) → IsMade block → IsMadeNow (block ++ line ∷ [])) → HasRead script start next closing IsMadeNow
   read-more next line inner found IsMadeNow first moves cut test other makes =
@@ -186,7 +186,7 @@ pub headed-line : (parsed : Parsed) (script head : List ℕ) (at : ℕ) (command
     → Finds parsed script (or_syntax command ∷ commands (drop at script)) → FindsHeaded parsed script head at
 headed-line parsed script head at command closes makes found = rw (closes, sym makes) found
 
--- the text of a block that is not closed does not count
+-- the text of a block that is not closed does not matter
 pub load-answer : (end : BlockEnd) (ws : List (List ℕ)) (found text : List ℕ) → (is_closed end ≡ true → found ≡ text) → block_answer end (load_command ws text) ≡ block_answer end (load_command ws found)
 load-answer (Closed next) ws found text same = ap (λ (t : List ℕ). or_syntax (load_command ws t)) (sym (same refl))
 load-answer (CutOff next) ws found text same = elim (cases_Bool (length ws == 1)) [

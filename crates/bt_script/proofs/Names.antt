@@ -24,7 +24,7 @@ name_bytes_ascii : (word : List ℕ) → list_all is_name_byte word ≡ true →
 name_bytes_ascii [] test = IsAscii-nil
 name_bytes_ascii (b ∷ bs) test = IsAscii-cons b bs (name_byte_small b (both_first _ _ test)) (name_bytes_ascii bs (both_second _ _ test))
 
--- what is no text is no name
+-- bytes that are not text are not a name
 pub no_name : (word : List ℕ) → ¬ (IsUtf8 word) → is_name word ≡ false
 no_name word broken = elim (cases_Bool (is_name word)) [
   | inl test ↦ absurd (broken (IsUtf8-from_ascii word (name_bytes_ascii word (both_second _ _ test))))

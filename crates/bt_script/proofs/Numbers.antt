@@ -1,4 +1,4 @@
--- What clap has read of an option of a whole number.
+-- What clap has read of an option that takes a whole number.
 use Rattle.std.proofs.Common.{◌≡◌, ◌⊎◌, ◌∙◌, ◌<◌, ◌≤◌, ◌||◌, ap, ℕ, true, false, List, [], ◌∷◌, length, map, Option, Some, None, refl, sym, subst, inl, inr, arith, codes, true≢false}
 use Rattle.std.specs.Borrow.{Bor}
 use Rattle.std.specs.List.{All, slice_index_or}
@@ -26,11 +26,11 @@ use Rattle.clap.proofs.WalkLemmas.{first_value-rows}
 use Rattle.bt_gang.specs.declared.crew.TheConstants.{DEEPEST_CUT, LARGEST_GRAIN, MOST_WORKERS}
 use Rattle.bt_script.specs.Options.{betable, number_given, options, rows_of_words}
 
--- an option of this name is of a whole number from 1 to `most`
+-- an option of this name takes a whole number from 1 to `most`
 abbrev pub HasLimit : Text → ℕ → Rule → Type 0
 HasLimit name most rule = bytes_eq rule.id name ≡ true → rule.parser ≡ Some (Unsigned 1 most)
 
--- the options of this name are of a whole number from 1 to `most`, and clap adds none
+-- the options of this name take a whole number from 1 to `most`, and clap adds none
 pub record IsNumberOption (name : Text) (most : ℕ) : Type 0 where
   pub limit : All (HasLimit name most) options
   pub own : (bytes_eq name (codes "help") || bytes_eq name (codes "version")) ≡ false
@@ -119,7 +119,7 @@ module _ (command : Command) (matches : ArgMatches) (parse : IsParsedFrom comman
   no_groups : groups_of parse.built ≡ []
   no_groups = (parse.from.same_groups (simple_groups command (ap (λ (app : App). all_simple app.top.rules) is))).1 ∙ plain.groups
 
-  -- nothing is found, or a whole number within the limits that is read as it stands
+  -- nothing is found, or a whole number within the limits that is read unchanged
   abbrev IsFound : Type 0
   IsFound = ((one_text (found_of matches) name ≡ None) × (first_value (found_of matches) name ≡ None))
       ⊎ ((t : Text) × IsUnsignedIn 1 most t × (one_text (found_of matches) name ≡ Some t) × (first_value (found_of matches) name ≡ Some t))

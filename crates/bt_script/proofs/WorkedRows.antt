@@ -10,7 +10,7 @@ use Rattle.bt_script.specs.Lines.{behind_words, text_of_lines}
 use Rattle.bt_script.specs.declared.command.Capacity.TheVariants.{Bytes, Messages}
 use Rattle.bt_script.specs.declared.command.Command.TheVariants.{Build, Drain, Drop, Load, Rebuild}
 
--- buffers of three messages, of 60 bytes, and of the greatest number that is read as one
+-- buffers of three messages, of 60 bytes, and of the largest number that is read as one
 pub buffer_of_messages : command_of (codes "table 4 3 2 1 id:int") [] ≡ Some (table_from 4 (Messages 3) 2 1 (record { name = codes "id"; kind = kind.Int } ∷ []))
 unfolding command_of table_command column_of values_on_literals
 buffer_of_messages = refl
@@ -23,7 +23,7 @@ pub most_bytes : command_of (codes "table 4 999999999b 2 1 id:int") [] ≡ Some 
 unfolding command_of table_command column_of values_on_literals
 most_bytes = refl
 
--- no number before the `b`, ten digits, a great letter, two letters, a letter before the number, and bytes where none are measured
+-- no number before the `b`, ten digits, a capital letter, two letters, a letter before the number, and a number of bytes for another limit
 pub letter_alone : command_of (codes "table 4 b 2 1 id:int") [] ≡ None
 unfolding command_of table_command column_of values_on_literals
 letter_alone = refl
@@ -60,7 +60,7 @@ pub quoted_constant : command_of (codes " index  c on city   where  city  = \"Os
 unfolding command_of index_command names_of filter_of behind_words values_on_literals
 quoted_constant = refl
 
--- the spaces behind the first one are the constant's
+-- the spaces after the first one belong to the constant
 pub spaces_in_constant : command_of (codes "index c on city where qty <  a ") []
     ≡ Some (index_from (codes "c") (codes "city" ∷ []) [] (Some (record { column = codes "qty"; test = test.Less; constant = codes " a " })))
 unfolding command_of index_command names_of filter_of behind_words values_on_literals
@@ -71,7 +71,7 @@ pub spaces_at_end : command_of (codes "index c on city,qty  ") [] ≡ Some (inde
 unfolding command_of index_command names_of behind_words values_on_literals
 spaces_at_end = refl
 
--- two fields behind the test, no space, and no field
+-- two fields after the test, no space, and no field
 pub two_fields : command_of (codes "index c on city where qty = 1,2") [] ≡ None
 unfolding command_of index_command names_of filter_of behind_words values_on_literals
 two_fields = refl
@@ -84,7 +84,7 @@ pub no_field : command_of (codes "index c on city where qty = ") [] ≡ None
 unfolding command_of index_command names_of filter_of behind_words values_on_literals
 no_field = refl
 
--- a filter without its column, and another test than the three
+-- a filter without its column, and a test other than the three
 pub no_column : command_of (codes "index c on city where >= 15") [] ≡ None
 unfolding command_of index_command names_of filter_of behind_words values_on_literals
 no_column = refl
@@ -102,7 +102,7 @@ pub empty_name : command_of (codes "index c on city include qty,") [] ≡ None
 unfolding command_of index_command names_of behind_words values_on_literals
 empty_name = refl
 
--- an index no more, and more names than one
+-- an index is dropped; more than one name is refused
 pub dropped : command_of (codes "drop c ") [] ≡ Some (Drop (codes "c"))
 unfolding command_of values_on_literals
 dropped = refl
@@ -111,7 +111,7 @@ pub two_names : command_of (codes "drop c d") [] ≡ None
 unfolding command_of values_on_literals
 two_names = refl
 
--- a step of building, and its words in places of their own
+-- a step of building, and its words with more spaces than it needs
 pub built : command_of (codes "build q 2") [] ≡ Some (Build (codes "q") 2)
 unfolding command_of build_command values_on_literals
 built = refl
@@ -124,7 +124,7 @@ pub no_rows : command_of (codes "build q 000") [] ≡ Some (Build (codes "q") 0)
 unfolding command_of build_command values_on_literals
 no_rows = refl
 
--- no number, ten digits, what is no number, what is no name, both in turned order, and a word more
+-- no number, ten digits, a word that is no number, a word that is no name, the two in the other order, and an extra word
 pub no_number : command_of (codes "build q") [] ≡ None
 unfolding command_of build_command values_on_literals
 no_number = refl
@@ -154,7 +154,7 @@ pub build_lines : commands (codes "build q 2\nbuild q\ngo\ndrop q\n") ≡ Ok (Bu
 unfolding commands_from line_step closing_of command_of build_command values_on_literals
 build_lines = refl
 
--- commands on one tree, and other words than one name behind them
+-- commands on one tree, and words other than one name after them
 pub drained : command_of (codes " drain  q ") [] ≡ Some (Drain (codes "q"))
 unfolding command_of values_on_literals
 drained = refl
@@ -175,7 +175,7 @@ pub no_name : command_of (codes "drain Q") [] ≡ None
 unfolding command_of values_on_literals
 no_name = refl
 
--- a load keeps its line breaks, blank lines and spaces; its closing line has a carriage return here, and a command behind it
+-- a load keeps its line breaks, blank lines and spaces; here its closing line has a carriage return, and a command follows it
 pub loaded : commands (codes "load \r\nid,name\r\n\r\n 1,a\n  \n.\r\ndrain q\n") ≡ Ok (Load (codes "id,name\r\n\r\n 1,a\n  \n")) ∷ Ok (Drain (codes "q")) ∷ []
 unfolding commands_from line_step closing_of command_of text_of_lines values_on_literals
 loaded = refl

@@ -325,7 +325,7 @@ Finds End script all = all ≡ []
 Finds (Bad refusal next) script all = all ≡ Err refusal ∷ commands (drop next script)
 Finds (Good command next) script all = all ≡ Ok command ∷ commands (drop next script)
 
--- the next place is past a place, and in the script or at its end
+-- the next place is after a place, and in the script or at its end
 abbrev pub NextPast : Parsed → ℕ → List ℕ → Type 0
 NextPast End at script = ⊤
 NextPast (Bad refusal next) at script = (at < next) × (next ≤ length script)

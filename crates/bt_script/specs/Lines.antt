@@ -1,14 +1,14 @@
--- The lines of a script, the words of a line, and what a word spells.
+-- The lines of a script, the words of a line, and the numbers and names that words write.
 use Rattle.std.specs.Prelude.{ℕ, ◌==◌, ◌&&◌, ◌||◌, ◌-◌, not, Bool, List, [], ◌∷◌, ◌++◌, length, take, drop, get_or, filter, Option, Some, None, if◌then◌else◌, nat_le, zero, suc}
 use Rattle.std.specs.List.{list_all, onto_first, slice_split, take_while}
 use Rattle.bt_value.specs.Ints.{is_digit, number_written}
 
--- the lines: a line feed ends each, and a last one without it counts where it has bytes
+-- the lines: a line feed ends each, and a last one without it counts if it has bytes
 abbrev pub lines : List ℕ → List (List ℕ)
 lines [] = []
 lines (b ∷ bs) = if b == 10 then [] ∷ lines bs else onto_first b (lines bs)
 
--- the bytes of some lines, with the line feed behind each of them
+-- the bytes of some lines, with a line feed after each of them
 unfoldable pub text_of_lines : List (List ℕ) → List ℕ
 text_of_lines [] = []
 text_of_lines (line ∷ more) = line ++ 10 ∷ text_of_lines more
@@ -17,11 +17,11 @@ text_of_lines (line ∷ more) = line ++ 10 ∷ text_of_lines more
 abbrev pub without_return : List ℕ → List ℕ
 without_return line = if get_or line (length line - 1) 0 == 13 then take (length line - 1) line else line
 
--- the words: what stands between spaces
+-- the words: the parts between spaces
 abbrev pub words : List ℕ → List (List ℕ)
 words line = filter (λ w. not (length w == 0)) (slice_split (λ b. b == 32) line)
 
--- nothing, or spaces only
+-- no bytes, or spaces only
 abbrev pub is_blank : List ℕ → Bool
 is_blank line = list_all (λ b. b == 32) line
 
@@ -49,11 +49,11 @@ is_name word = nat_le 1 (length word) && nat_le (length word) 32 && is_letter (g
 abbrev pub name_of_word : List ℕ → Option (List ℕ)
 name_of_word word = if is_name word then Some word else None
 
--- what stands in a line behind its first word
+-- what follows the first word of a line
 abbrev pub behind_word : List ℕ → List ℕ
 behind_word line = drop (length (take_while (λ b. not (b == 32)) (without_spaces line))) (without_spaces line)
 
--- what stands in a line behind so many of its words
+-- what follows the first n words of a line
 unfoldable pub behind_words : ℕ → List ℕ → List ℕ
 behind_words zero line = line
 behind_words (suc count) line = behind_words count (behind_word line)

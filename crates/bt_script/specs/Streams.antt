@@ -1,14 +1,15 @@
--- Streams that keep whether a call failed, how many bytes passed and whether all were flushed, by the bytes that a reader has left and a writer holds.
+-- Streams that record whether a call failed, how many bytes passed and whether all were flushed, in terms of the bytes that a reader has left and a writer
+-- holds.
 use Rattle.std.specs.Prelude.{◌≡◌, ◌==◌, ◌&&◌, ◌+◌, ◌<◌, ◌≤◌, ◌⊎◌, length, not, ℕ, Bool, false, true, List, take, Option, Result, Ok, Err, MatchResult}
 use Rattle.std.specs.Io.KnownBytes.{Appends, Consumes}
 use Rattle.std.specs.Io.Iter.{u64_saturate}
 use Rattle.bt_script.specs.declared.counted.Counted.{Counted}
 
--- how many bytes a script has at most, 64 MiB
+-- the largest number of bytes of a script, 64 MiB
 abbrev pub script_limit : ℕ
 script_limit = 67108864
 
--- the reader or writer within
+-- the inner reader or writer
 abbrev pub source_of : {T : Type 0} → Counted T → T
 source_of stream = stream.inner
 
@@ -20,7 +21,7 @@ has_failed stream = stream.failed
 abbrev pub has_unflushed : {T : Type 0} → Counted T → Bool
 has_unflushed stream = stream.unflushed
 
--- how many bytes it gave as a reader, or took as a writer; held at the largest u64
+-- how many bytes it gave as a reader, or took as a writer; the count stops at the largest u64
 abbrev pub count_of : {T : Type 0} → Counted T → ℕ
 count_of stream = u64_saturate stream.count
 

@@ -11,7 +11,7 @@ use bt_record::RecordLine;
 use bt_rowtype::Item;
 use std::alloc::{AllocError, Global};
 
-// The message of a line of a batch, which begins with its word.
+// The message of a line of a batch; the line begins with its first word.
 fn parse_item(text: &[u8]) -> Option<Item<'_>>
     ensures { result ≡ spec.item_from text.now }
 {
@@ -27,7 +27,7 @@ fn parse_item(text: &[u8]) -> Option<Item<'_>>
     None
 }
 
-// The messages of some lines, and that of one more, which has no carriage return at its end.
+// The messages of some lines, and the message of one more line, which has no carriage return at its end.
 fn and_item<'a>(items: Option<Items<'a>>, line: &'a [u8]) -> Result<Option<Items<'a>>, AllocError>
     ensures { IfOk result (λ all. all ≡ and_line items.entry line.now) }
 {
@@ -45,22 +45,22 @@ fn and_item<'a>(items: Option<Items<'a>>, line: &'a [u8]) -> Result<Option<Items
     Ok(Some(items))
 }
 
-/// How a block ends, and the place behind it.
+/// How a block ends, and the place after it.
 #[derive(Clone, Copy)]
 pub(crate) enum BlockEnd {
-    /// With its closing line.
+    /// A closing line.
     Closed(usize),
-    /// With the script, which has no closing line for it.
+    /// The end of the script; there is no closing line for the block.
     CutOff(usize),
 }
 
-/// What was made of the lines of a block, and how it ends.
+/// The result of reading the lines of a block, and how the block ends.
 pub(crate) struct Block<T> {
     pub(crate) content: T,
     pub(crate) end: BlockEnd,
 }
 
-/// The block of a batch: its messages, or `None` where a line is wrong.
+/// The block of a batch: its messages, or `None` if a line is wrong.
 pub(crate) fn read_items<'a>(
     alloc: Global,
     script: &'a [u8],
@@ -91,7 +91,7 @@ pub(crate) fn read_items<'a>(
     })
 }
 
-// Bounds and that of one line more, which begins with its word.
+// Bounds and the bound of one more line, which begins with its first word.
 fn with_bound<'a>(bounds: Bounds<'a>, text: &'a [u8]) -> Option<Bounds<'a>>
     ensures { result ≡ with_bound bounds.entry text.now }
 {
@@ -113,7 +113,7 @@ fn with_bound<'a>(bounds: Bounds<'a>, text: &'a [u8]) -> Option<Bounds<'a>>
     Some(Bounds { from, to: Some(to) })
 }
 
-// Bounds and that of one line more, which has no carriage return at its end.
+// Bounds and the bound of one more line, which has no carriage return at its end.
 fn and_bound<'a>(bounds: Option<Bounds<'a>>, line: &'a [u8]) -> Option<Bounds<'a>>
     ensures { result ≡ and_bound bounds.entry line.now }
 {
@@ -123,7 +123,7 @@ fn and_bound<'a>(bounds: Option<Bounds<'a>>, line: &'a [u8]) -> Option<Bounds<'a
     with_bound(bounds?, without_spaces(line))
 }
 
-/// The block of a scan or of sums: its bounds, or `None` where a line is wrong.
+/// The block of a scan or of sums: its bounds, or `None` if a line is wrong.
 pub(crate) fn read_bounds<'a>(script: &'a [u8], start: usize) -> Block<Option<Bounds<'a>>>
     requires { start ≤ length script.now }
     ensures block { (block : List (List ℕ)) × (result.content ≡ spec.bounds_of block)

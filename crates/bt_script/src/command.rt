@@ -1,4 +1,4 @@
-//! Commands, and what stands at a place of a script.
+//! Commands, and the result of parsing at a place of a script.
 use crate::load::BlockText;
 use bt_record::RecordLine;
 use bt_row::{Columns, Filter};
@@ -8,30 +8,30 @@ use bt_value::{Refusal, Sequence, Text, Texts};
 /// The messages of a batch, in order.
 pub type Items<'a> = Sequence<Item<'a>>;
 
-/// How much the buffer of an inner node holds at most.
+/// The limit of the buffer of an inner node.
 #[derive(Clone, Copy, Debug, Drop)]
 pub enum Capacity {
-    /// `C`: so many messages.
+    /// `C`: this many messages.
     Messages(u32),
-    /// `Cb`: messages that weigh so many bytes together.
+    /// `Cb`: messages that weigh this many bytes together.
     Bytes(u32),
 }
 
-/// What a table is made of.
+/// The parts of a `table` command.
 #[derive(Drop)]
 pub struct TableForm {
-    /// The most children of an inner node.
+    /// The largest number of children of an inner node.
     pub fanout: u32,
-    /// The most that the buffer of an inner node holds.
+    /// The limit of the buffer of an inner node.
     pub buffer: Capacity,
-    /// The most rows of a leaf.
+    /// The largest number of rows of a leaf.
     pub leaf: u32,
-    /// How many of the columns are the key.
+    /// The number of key columns; they come first.
     pub keys: u32,
     pub columns: Columns,
 }
 
-/// What an index is made of.
+/// The parts of an `index` command.
 #[derive(Drop)]
 pub struct IndexForm {
     pub name: Text,
@@ -39,11 +39,11 @@ pub struct IndexForm {
     pub on: Texts,
     /// The names of the columns that it includes.
     pub include: Texts,
-    /// Which rows it is asked to have: all, where there is no filter.
+    /// The filter on its rows; without a filter the index has all rows.
     pub filter: Option<Filter>,
 }
 
-/// The bounds of a range of rows, each a record of the first columns of a key, where it is there.
+/// The bounds of a range of rows. Each bound, if it is given, is a record of the first columns of a key.
 #[derive(Drop)]
 pub struct Bounds<'a> {
     /// The range begins at these values.
@@ -52,12 +52,12 @@ pub struct Bounds<'a> {
     pub to: Option<RecordLine<'a>>,
 }
 
-/// What is summed.
+/// The parts of a `sums` command.
 #[derive(Drop)]
 pub struct SumsForm<'a> {
     /// The name of the tree.
     pub tree: Text,
-    /// How many of its first columns make a group.
+    /// The number of its first columns that make a group.
     pub columns: u32,
     /// The name of the column that is summed.
     pub column: Text,
@@ -67,13 +67,13 @@ pub struct SumsForm<'a> {
 /// A command.
 #[derive(Drop)]
 pub enum Command<'a> {
-    /// `table F C L K name:kind ..`, with `b` behind C where it is in bytes
+    /// `table F C L K name:kind ..`, with a `b` after C if C is a number of bytes
     Table(TableForm),
     /// `load` and the text of its block: CSV with a header.
     Load(BlockText<'a>),
     /// `batch` and its messages.
     Batch(Items<'a>),
-    /// `get rec`: the row of the key that these fields spell.
+    /// `get rec`: the row whose key these fields encode.
     Get(RecordLine<'a>),
     /// `scan TREE` and its bounds: the rows of a range.
     Scan(Text, Bounds<'a>),
@@ -83,23 +83,23 @@ pub enum Command<'a> {
     Image(Text),
     /// `index NAME on LIST ..`: a new index.
     Index(IndexForm),
-    /// `build NAME N`: one step of building an index, which is to read so many rows.
+    /// `build NAME N`: one step of building an index, which is to read N rows.
     Build(Text, u32),
-    /// `drop NAME`: an index no more.
+    /// `drop NAME`: an index is dropped.
     Drop(Text),
-    /// `drain TREE`: the buffers of a tree emptied.
+    /// `drain TREE`: the buffers of a tree are flushed.
     Drain(Text),
-    /// `rebuild TREE`: a tree made anew.
+    /// `rebuild TREE`: a tree is rebuilt from its contents.
     Rebuild(Text),
 }
 
-/// What stands at a place of a script.
+/// The result of parsing at a place of a script.
 #[derive(Drop)]
 pub enum Parsed<'a> {
     /// No further command.
     End,
-    /// What is no command (`Syntax`), or one whose block is cut off (`Unfinished`), and the place behind it.
+    /// A refusal and the place after it: text that is not a command (`Syntax`), or a command whose block is cut off (`Unfinished`).
     Bad { refusal: Refusal, next: usize },
-    /// A command, and the place behind it.
+    /// A command, and the place after it.
     Good { command: Command<'a>, next: usize },
 }

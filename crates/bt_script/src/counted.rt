@@ -1,4 +1,4 @@
-//! A reader or writer that keeps whether a call on it failed, how many bytes passed, and whether all were flushed.
+//! A reader or writer that records whether a call on it failed, how many bytes passed, and whether all of them were flushed.
 ghost use Rattle.std.specs.Prelude.{◌≡◌, ◌&&◌, ◌||◌, length, false, is_err};
 ghost use Rattle.std.specs.Io.{ReadsAtMost, WritesAtMost};
 ghost use Rattle.std.specs.Io.KnownBytes.{Keeps, ReadConsumes, WriteAppends};
@@ -7,8 +7,8 @@ ghost use Rattle.bt_script.specs.Streams.{CountsPassed, count_of, has_failed, ha
 use std::io;
 use std::io::{Read, Write};
 
-/// A reader or writer that passes its calls on, keeps whether one of them has failed, counts its bytes, and keeps whether
-/// a writer took some that no flush followed.
+/// A reader or writer that passes its calls on. It records whether one of them has failed, counts its bytes, and records whether a
+/// writer took some bytes that no flush followed.
 #[derive(Drop)]
 pub struct Counted<T> {
     inner: T,
@@ -18,7 +18,7 @@ pub struct Counted<T> {
 }
 
 impl<T> Counted<T> {
-    /// The stream, of which no call has failed, no byte is counted, and none waits for a flush.
+    /// The stream before any call: no call has failed, no byte is counted, and none waits for a flush.
     pub fn new(inner: T) -> Self
         ensures inner { source_of result ≡ inner }
         ensures failed { has_failed result ≡ false }
@@ -33,7 +33,7 @@ impl<T> Counted<T> {
         }
     }
 
-    /// Whether a call has failed: an error, or a write of some bytes that took none.
+    /// Whether a call has failed: it returned an error, or it was to write some bytes and took none.
     pub fn has_failed(&self) -> bool
         ensures { result ≡ has_failed self.now }
     {
@@ -47,7 +47,7 @@ impl<T> Counted<T> {
         self.unflushed
     }
 
-    /// The reader or writer within.
+    /// The inner reader or writer.
     pub fn into_inner(self) -> T
         ensures { result ≡ source_of self }
     {
@@ -55,7 +55,7 @@ impl<T> Counted<T> {
         inner
     }
 
-    /// How many bytes were read from it or written to it. The count holds at the greatest `u64`.
+    /// The number of bytes that were read from it or written to it. The count stops at the largest `u64`.
     pub fn count(&self) -> u64
         ensures { result ≡ count_of self.now }
     {

@@ -1,4 +1,4 @@
-//! The forms of commands: what the words of a head line make.
+//! The forms of commands: which command the words of a head line make.
 ghost use Rattle.std.specs.Prelude.{◌≡◌, [], IfOk, None, map};
 ghost use Rattle.bt_script.specs.Commands as spec;
 ghost use Rattle.bt_script.specs.inside.Forms as forms;
@@ -44,7 +44,7 @@ fn parse_columns(alloc: Global, words: &[&[u8]]) -> Result<Option<Columns>, Allo
     Ok(Some(columns))
 }
 
-// The capacity of a buffer: a number of messages, or with `b` behind it of bytes.
+// The capacity of a buffer: a number of messages, or a number of bytes if a `b` follows.
 fn parse_capacity(word: &[u8]) -> Option<Capacity>
     ensures { result ≡ spec.capacity_of_word word.now }
 {
@@ -85,7 +85,7 @@ fn table_command<'a>(alloc: Global, words: &[&[u8]]) -> Result<Option<Command<'a
     })))
 }
 
-/// The command of a batch: its messages, and no word behind the first one.
+/// The command of a batch: its messages; no word follows the first one.
 pub(crate) fn batch_command<'a>(words: &[&[u8]], items: Option<Items<'a>>) -> Option<Command<'a>>
     ensures { result ≡ spec.batch_command (map (λ w. w.now) words.now) items.entry }
 {
@@ -96,7 +96,7 @@ pub(crate) fn batch_command<'a>(words: &[&[u8]], items: Option<Items<'a>>) -> Op
     }
 }
 
-/// The command of a load: the text of its block, and no word behind the first one.
+/// The command of a load: the text of its block; no word follows the first one.
 pub(crate) fn load_command<'a>(words: &[&[u8]], text: BlockText<'a>) -> Option<Command<'a>>
     ensures { result ≡ spec.load_command (map (λ w. w.now) words.now) text.entry }
 {
@@ -107,7 +107,7 @@ pub(crate) fn load_command<'a>(words: &[&[u8]], text: BlockText<'a>) -> Option<C
     }
 }
 
-// The name that stands behind the first word, with no other word behind it.
+// The name that follows the first word, if no other word follows.
 fn only_name(alloc: Global, words: &[&[u8]]) -> Result<Option<Text>, AllocError>
     ensures { IfOk result (λ name. name ≡ spec.only_name (map (λ w. w.now) words.now)) }
 {
@@ -306,7 +306,7 @@ fn after_included<'a>(text: &'a [u8], words: &[&[u8]]) -> &'a [u8]
     }
 }
 
-// The index of a name and of the columns that it is ordered by, with what the text after these says.
+// The index of a name and of the columns that it is ordered by, with the clauses in the text after these.
 fn index_with<'a>(
     alloc: Global,
     name: Text,

@@ -1,11 +1,11 @@
-//! Scripts as text: the lines, words and commands of a script, the words of a command line, and the streams that a script
-//! comes from and its replies go to.
+//! Scripts as text: the lines, words and commands of a script, the words of a command line, and the streams that a script is read from
+//! and its replies are written to.
 //!
-//! A script is any list of bytes. It is cut into lines and lines into commands, of which some have a block with a closing
-//! line. What stands at a place is a command, or what is refused as none, and the place behind it.
+//! A script is any list of bytes. It is cut into lines, and the lines into commands; some commands have a block with a closing line.
+//! Parsing at a place gives a command, or the refusal of text that is not one, and the place after it.
 //!
-//! A stream keeps whether a call on it failed, how many bytes it gave or took, and whether a flush followed the last of them;
-//! so a fault can be told from want of memory, and a whole run from one cut short, also where no contract knows the bytes.
+//! A stream records whether a call on it failed, how many bytes it gave or took, and whether a flush followed the last of them. So a
+//! caller can tell a fault from out of memory, and a complete run from one that was cut short, even if no contract knows the bytes.
 //!
 //! ```text
 //! let mut reader = Counted::new(b"table 4 3 2 1 id:int qty:int\nbatch\nput 1,10\nend\n".as_slice());

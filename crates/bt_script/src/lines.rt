@@ -11,7 +11,7 @@ use memchr::memchr;
 use std::alloc::{AllocError, Global};
 use std::str;
 
-// How many bytes stand before the first line feed, or in all.
+// The number of bytes before the first line feed, or of all bytes if there is none.
 fn line_len(text: &[u8]) -> usize
     ensures { result ≡ length (take_while (λ b. not (b == 10)) text.now) }
 {
@@ -21,11 +21,11 @@ fn line_len(text: &[u8]) -> usize
     }
 }
 
-/// The line that stands at a place, and the place after it.
+/// The line at a place, and the place after it.
 pub(crate) fn next_line(script: &[u8], at: usize) -> (&[u8], usize)
     requires { at < length script.now }
     ensures line { text.lines (drop at script.now) ≡ result.0.now ∷ text.lines (drop result.1 script.now) }
-    // Where the script goes on behind the line, a line feed stands there.
+    // If the script continues after the line, a line feed ends it.
     ensures feed { result.1 < length script.now → drop at script.now ≡ result.0.now ++ 10 ∷ drop result.1 script.now }
     ensures past { at < result.1 }
     ensures within { result.1 ≤ length script.now }
@@ -49,7 +49,7 @@ pub(crate) fn without_return(line: &[u8]) -> &[u8]
     }
 }
 
-// How many spaces stand at the prefix.
+// The number of spaces at the start.
 fn space_count(line: &[u8]) -> usize
     ensures { result ≡ length (take_while (λ b. b == 32) line.now) }
 {
@@ -62,7 +62,7 @@ pub(crate) fn without_spaces(line: &[u8]) -> &[u8]
     &line[space_count(line)..]
 }
 
-/// Whether a line has spaces only, or nothing.
+/// Whether a line is empty or has only spaces.
 pub(crate) fn is_blank(line: &[u8]) -> bool
     ensures { result ≡ text.is_blank line.now }
 {
@@ -100,7 +100,7 @@ pub(crate) fn begins(words: &[&[u8]], word: &[u8]) -> bool
     is_word(word_at(words, 0), word)
 }
 
-/// What stands behind a prefix, where the line begins with it.
+/// What follows a prefix, if the line begins with it.
 pub(crate) fn behind_prefix<'a>(prefix: &[u8], line: &'a [u8]) -> Option<&'a [u8]>
     ensures { option_map (λ s. s.now) result ≡ spec.behind_prefix prefix.now line.now }
 {
@@ -116,21 +116,21 @@ pub(crate) fn record_behind<'a>(prefix: &[u8], line: &'a [u8]) -> Option<RecordL
     }
 }
 
-/// What stands in a word between bytes that separate.
+/// The parts of a word between separator bytes.
 pub(crate) fn parts(alloc: Global, word: &[u8], separator: u8) -> Result<Vec<&[u8]>, AllocError>
     ensures { IfOk result (λ parts. map (λ p. p.now) parts.items ≡ slice_split (λ b. b == separator) word.now) }
 {
     word.split(|byte| *byte == separator).collect(alloc)
 }
 
-// How many bytes stand before the first space, or in all.
+// The number of bytes before the first space, or of all bytes if there is none.
 fn word_len(line: &[u8]) -> usize
     ensures { result ≡ length (take_while (λ b. not (b == 32)) line.now) }
 {
     line.iter().take_while(|byte| **byte != b' ').count()
 }
 
-// What stands behind the first word of a line.
+// What follows the first word of a line.
 fn behind_word(line: &[u8]) -> &[u8]
     ensures { result.now ≡ text.behind_word line.now }
 {
@@ -138,7 +138,7 @@ fn behind_word(line: &[u8]) -> &[u8]
     &from_word[word_len(from_word)..]
 }
 
-/// What stands behind so many words of a line.
+/// What follows the first `count` words of a line.
 #[tactic(auto, using(crate::proofs::Behind::behind_none, crate::proofs::Behind::behind_more))]
 pub(crate) fn behind_words(line: &[u8], count: usize) -> &[u8]
     ensures { result.now ≡ text.behind_words count line.now }

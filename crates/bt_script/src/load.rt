@@ -7,7 +7,7 @@ use crate::blocks::{Block, BlockEnd};
 use crate::lines::{is_word, next_line, without_return};
 use std::marker::Model;
 
-/// The text of a block as it stands in the script, with its line breaks. A contract sees its bytes.
+/// The text of a block as it is in the script, with its line breaks. A contract sees its bytes.
 #[derive(Drop)]
 pub struct BlockText<'a> {
     bytes: &'a [u8],
@@ -22,7 +22,7 @@ impl<'a> Model for BlockText<'a> {
 }
 
 impl<'a> BlockText<'a> {
-    /// The bytes, which the script lends.
+    /// The bytes, borrowed from the script.
     pub fn as_bytes(&self) -> &'a [u8]
         ensures { result.now ≡ self.now }
     {
@@ -30,7 +30,7 @@ impl<'a> BlockText<'a> {
     }
 }
 
-/// The block of a load: its text, or all that the script has left where no line closes it. No memory is taken.
+/// The block of a load: its text, or the rest of the script if no line closes it. Allocates nothing.
 pub(crate) fn read_block_text(script: &[u8], start: usize) -> Block<BlockText<'_>>
     requires { start ≤ length script.now }
     ensures block { (block : List (List ℕ)) × (is_closed result.end ≡ true → result.content ≡ text_of_lines block)

@@ -1,4 +1,4 @@
-//! The parser of commands: what stands at a place of a script.
+//! The parser of commands.
 ghost use Rattle.std.specs.Prelude.{◌≡◌, ◌∷◌, ◌<◌, ◌≤◌, IfOk, List, drop, length, true, ℕ};
 ghost use Rattle.bt_script.specs.inside.Blocks.{FindsHeaded, NextBehind, block_answer, place_after};
 ghost use Rattle.bt_script.specs.Commands as spec;
@@ -13,7 +13,7 @@ use crate::load::read_block_text;
 use bt_value::Refusal;
 use std::alloc::{AllocError, Global};
 
-// What stands at the place of a command, whose block, where it has one, ends so.
+// The result of parsing a command whose block, if it has one, ends like this.
 fn parsed_command(command: Option<Command<'_>>, end: BlockEnd) -> Parsed<'_>
     ensures found { (script : List ℕ) → spec.Finds result script (block_answer end command.entry ∷ spec.commands (drop (place_after end) script)) }
     ensures past { (at : ℕ) (script : List ℕ) → at < place_after end → place_after end ≤ length script → spec.NextPast result at script }
@@ -41,7 +41,7 @@ fn is_get(head: &[u8]) -> bool
     matches!(head, [b'g', b'e', b't', b' ', ..])
 }
 
-// The command of a head line, after which its block starts at a place. For a `get`, of which scripts have many, no list of words is made.
+// The command of a head line; its block starts at a place after it. For a `get`, which is frequent in scripts, no list of words is made.
 #[tactic(auto, unfolding(crate::specs::Commands::closing_of))]
 fn parse_headed<'a>(
     alloc: Global,
@@ -79,7 +79,7 @@ fn parse_headed<'a>(
     Ok(parsed_command(command, BlockEnd::Closed(at)))
 }
 
-/// The command that stands at a place of a script, or its refusal, `Syntax` or `Unfinished`, and the place behind it.
+/// The command at a place of a script, or its refusal, `Syntax` or `Unfinished`, and the place after it.
 pub fn parse_command(alloc: Global, script: &[u8], at: usize) -> Result<Parsed<'_>, AllocError>
     ensures found { IfOk result (λ parsed. spec.Finds parsed script.now (spec.commands (drop at script.now))) }
     ensures past { IfOk result (λ parsed. spec.NextPast parsed at script.now) }

@@ -1,4 +1,4 @@
-//! The reading of a whole script and the writing of text.
+//! Reading a whole script, and writing text.
 ghost use Rattle.std.specs.Prelude.{◌≡◌, ◌≤◌, ◌+◌, true, length, IfOk, OnOk, OnErr, IfSome, IsErrOf};
 ghost use Rattle.bt_script.specs.Streams.{FailsToGive, Gave, GaveAtMost, Took, TookPrefix, has_failed, script_limit, source_of};
 
@@ -7,14 +7,15 @@ use std::alloc::{AllocError, Global};
 use std::io::{Read, Write};
 use thiserror::Error;
 
-/// The most bytes that a script may have, 64 MiB.
+/// The largest number of bytes of a script, 64 MiB.
 pub const SCRIPT_LIMIT: usize = 67_108_864;
 
-// How many bytes one read asks for.
+// The number of bytes that one read asks for.
 const PIECE_SIZE: usize = 8_192;
 
-// How many bytes the room for a piece has, of which only a piece is used. The C library gives the end of its heap back to the system if more is free than
-// twice the largest block that it mapped by itself and gave back, 32 MiB at most. Without such a block it does so after each batch, and the next batch has to
+// The number of bytes that are allocated for a piece, although only a piece of them is used. The C library gives the end of its heap back to the system if
+// more is free than twice the largest block that it mapped on its own and gave back, 32 MiB at most. Without such a block it does so after each batch, and the
+// next batch has to get the pages again.
 // get the pages again.
 const ROOM_SIZE: usize = 33_488_896;
 
@@ -43,14 +44,13 @@ impl From<AllocError> for RunFault {
     }
 }
 
-/// All bytes that the reader has left, at most [`SCRIPT_LIMIT`] of them. An error of the reader is not tried again,
-/// also not an interrupted read.
+/// All bytes that the reader has left, at most [`SCRIPT_LIMIT`] of them. After an error the reader is not tried again, not even after an interrupted read.
 pub fn read_script<R: Read>(alloc: Global, reader: &mut Counted<R>) -> Result<Vec<u8>, RunFault>
     ensures ok { IfOk result (λ script. Gave R.remaining reader.old reader.new script.items) }
     ensures whole { IfOk result (λ script. IfSome (R.remaining (source_of reader.old)) (λ bytes. bytes ≡ script.items)) }
     ensures short { IfOk result (λ script. length script.items ≤ script_limit) }
     ensures healthy { OnOk result (has_failed reader.new ≡ has_failed reader.old) }
-    // No more than one byte past the limit is read, also before an error.
+    // At most one byte past the limit is read, also before an error.
     ensures at_most { GaveAtMost R.remaining reader.old reader.new (script_limit + 1) }
     ensures read { IsErrOf result RunFault.Read → FailsToGive R.remaining reader.old reader.new script_limit }
     ensures memory { IsErrOf result RunFault.OutOfMemory → (has_failed reader.new ≡ has_failed reader.old) × GaveAtMost R.remaining reader.old reader.new script_limit }
@@ -72,7 +72,7 @@ pub fn read_script<R: Read>(alloc: Global, reader: &mut Counted<R>) -> Result<Ve
     }
 }
 
-/// Writes all of the text. After an error a prefix of it is written. A write that fails is not tried again.
+/// Writes all of the text. If it fails, a prefix of the text is written. A write that fails is not tried again.
 pub fn write_text<W: Write>(writer: &mut Counted<W>, text: &[u8]) -> Result<(), RunFault>
     ensures ok { OnOk result (Took W.contents writer.old writer.new text.now) }
     ensures healthy { OnOk result (has_failed writer.new ≡ has_failed writer.old) }

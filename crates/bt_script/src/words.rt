@@ -19,25 +19,25 @@ pub(crate) const DEFAULT_CUT: usize = 2;
 /// The grain if the words name none.
 pub(crate) const DEFAULT_GRAIN: usize = 64;
 
-/// What the words say.
+/// The settings that the words of the command line give.
 #[derive(Drop)]
 pub struct Words {
     /// The file of the script, if one is named. Otherwise the script is the standard input.
     pub script: Option<String>,
-    /// How many threads work, including the caller.
+    /// The number of threads that work, including the caller.
     pub workers: usize,
-    /// At which depth trees are cut into jobs.
+    /// The depth at which trees are cut into jobs.
     pub cut: usize,
-    /// From how many messages on a packet is divided into jobs.
+    /// The number of messages from which on a packet is divided into jobs.
     pub grain: usize,
 }
 
 /// Why there is nothing to run.
 #[derive(Drop)]
 pub enum WordsError {
-    /// An unknown option, an option twice or without its value, a number that is none or outside its limits, or a word too many.
+    /// An unknown option, an option given twice or without its value, a value that is not a number or is outside its limits, or an extra word.
     Faulty,
-    /// The words ask for help, with the text to print.
+    /// The words ask for help; this is the text to print.
     Help(String),
     /// An allocation failed.
     OutOfMemory,
@@ -54,7 +54,7 @@ impl From<AllocError> for WordsError {
     }
 }
 
-// What the help text says of each option: what it does, and when to change it.
+// The help text of each option: what it does, and when to change it.
 const SCRIPT_HELP: &str = "Reads the script from FILE and not from standard input";
 
 const WORKERS_HELP: &str =
@@ -66,7 +66,7 @@ const CUT_HELP: &str =
 const GRAIN_HELP: &str =
     "Divides packets of G messages or more into jobs, 1 to 65536 (default 64); changes no reply";
 
-// What the help text says after the options: the commands of a script.
+// The help text after the options: the commands of a script.
 const COMMANDS: &str = "\
 A script is a list of commands:
   table F C L K name:kind ..  makes the table: fanout, buffer and leaf of its tree, number of key columns, columns
@@ -125,7 +125,7 @@ fn command<'a>(alloc: Global) -> Result<Command<'a>, AllocError>
         .arg(number_option(alloc, "grain", "G", LARGEST_GRAIN, GRAIN_HELP))
 }
 
-// What clap finds in the words.
+// The result of clap for the words.
 #[tactic(auto, unfolding(crate::specs::Options::kinds_of_words))]
 fn parse<'a>(alloc: Global, words: &'a [String]) -> Result<ArgMatches<'a>, Error>
     ensures rows { IfOk result (λ matches. rows_of (found_of matches) ≡ rows_of_words (map string_bytes words.entry.now)) }
@@ -149,7 +149,7 @@ fn text_of(
     }
 }
 
-// What an error of clap says.
+// The error for an error of clap.
 fn words_error(alloc: Global, error: &Error) -> WordsError
     ensures { ComesOf (kind_of error.now) result }
 {
@@ -163,7 +163,7 @@ fn words_error(alloc: Global, error: &Error) -> WordsError
     }
 }
 
-/// What the words of the command line say, the program's name first.
+/// The settings that the words of the command line give; the first word is the program's name.
 pub fn read_words(alloc: Global, words: &Texts) -> Result<Words, WordsError>
     ensures script { IfOk result (λ said. option_map string_bytes said.script ≡ first_of (codes "script") (rows_of_words words.now)) }
     ensures workers { IfOk result (λ said. said.workers ≡ number_given (codes "workers") default_workers words.now) }

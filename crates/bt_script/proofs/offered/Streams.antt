@@ -1,4 +1,4 @@
--- What a stream gave or took in turn, for the loops over reads and writes of this crate and of those above.
+-- What a stream gave or took in several calls, for the loops over reads and writes of this crate and of those above.
 use Rattle.std.proofs.Common.{ℕ, List, [], ◌++◌, ◌≡◌, ◌≤◌, ◌-◌, ◌^◌, ◌∙◌, Option, length, take, drop, ap, sym, subst, arith, refl, length-append, append_assoc, take-append-drop}
 use Rattle.std.proofs.Math.Seq.{take-length}
 use Rattle.std.proofs.lemmas.List.{take_at}
@@ -36,7 +36,7 @@ pub prefix-done : {W : Type 0} (contents : W → Option (List ℕ)) (a b : Count
 prefix-done contents a b all done rest took whole =
     (length done, subst (λ (text : List ℕ). Took contents a b text) (sym (ap (take (length done)) whole ∙ take_at done rest (length done) refl)) took)
 
--- and so is that part and a prefix of what comes next
+-- and so is that part followed by a prefix of what comes next
 pub prefix-more : {W : Type 0} (contents : W → Option (List ℕ)) (a b c : Counted W) (all done text rest : List ℕ) → Took contents a b done → all ≡ done ++ (text ++ rest)
     → TookPrefix contents b c text → TookPrefix contents a c all
 prefix-more contents a b c all done text rest took whole prefix =

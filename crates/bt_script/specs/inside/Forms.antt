@@ -1,4 +1,4 @@
--- What single forms of commands read at once.
+-- Parts of commands that are read together.
 use Rattle.std.specs.Prelude.{ℕ, ◌==◌, List, length, Option, None, if◌then◌else◌, option_map}
 use Rattle.bt_script.specs.Commands.{if_some, word_at}
 use Rattle.bt_script.specs.Lines.{name_of_word, number_of_word}

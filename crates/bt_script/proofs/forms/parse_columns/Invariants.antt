@@ -3,6 +3,6 @@ use Rattle.bt_script.specs.Commands.{all_some, column_of}
 use Rattle.bt_script.proofs.Joined.{behind}
 use Rattle.bt_script.proofs.forms.parse_columns.Given as goal
 
--- the columns so far stand before those of the words from here on
+-- the columns so far come before those of the words from here on
 abbrev pub invariant-loop-word : goal.invariant-loop-word
 invariant-loop-word l = all_some (map column_of (map (λ w. w.now) l.words)) ≡ behind l.columns (all_some (map column_of (map (λ w. w.now) (drop l.word-index l.words))))

@@ -2,7 +2,7 @@ use Rattle.std.proofs.Common.{arith, ℕ, ◌<◌, ◌≤◌, ◌^◌}
 use Rattle.std.proofs.Math.Nat.{pow-le-pow_right}
 use Rattle.bt_script.proofs.lines.digits_value.Goals as goal
 
--- eight digits at most: below 10 ^ 8
+-- at most eight digits: below 10 ^ 8
 below : (value i : ℕ) → value < 10 ^ i → i ≤ 8 → value < 10 ^ 8
 below value i small few =
     let more : 10 ^ i ≤ 10 ^ 8 = pow-le-pow_right (omega arith) few in

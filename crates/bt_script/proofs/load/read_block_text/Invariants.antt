@@ -3,7 +3,7 @@ use Rattle.bt_script.proofs.Machine.{HasRead}
 use Rattle.bt_script.specs.Lines.{text_of_lines}
 use Rattle.bt_script.proofs.load.read_block_text.Given as goal
 
--- the bytes of the lines so far stand before this place, unless the script ends here
+-- the bytes of the lines so far precede this place, unless the script ends here
 abbrev pub invariant-loop-at : goal.invariant-loop-at
 invariant-loop-at l = HasRead l.script l.start l.at (codes ".") (λ block. l.at < length l.script → drop l.start l.script ≡ text_of_lines block ++ drop l.at l.script)
 

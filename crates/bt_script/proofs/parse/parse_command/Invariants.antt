@@ -2,7 +2,7 @@ use Rattle.std.proofs.Common.{length, ◌-◌, ◌≡◌, ◌≤◌, drop}
 use Rattle.bt_script.specs.Commands.{commands}
 use Rattle.bt_script.proofs.parse.parse_command.Given as goal
 
--- only blank lines were passed
+-- only blank lines were skipped
 abbrev pub invariant-loop-place : goal.invariant-loop-place
 invariant-loop-place l = record {
   past : l.at ≤ l.place;

@@ -11,7 +11,7 @@ prefix_more at taken text =
     let whole : take (length text - at) (drop at text) ≡ drop at text = take_all (length text - at) (drop at text) (omega (arith, length-drop at text)) in
     take-add at taken text ∙ ap (λ (l : List ℕ). take at text ++ take taken l) (sym whole)
 
--- so many bytes of what is left
+-- this many bytes of what is left
 taken_of : (at taken : ℕ) (text : List ℕ) → taken ≤ length (take (length text - at) (drop at text)) → length (take taken (take (length text - at) (drop at text))) ≡ taken
 taken_of at taken text within = omega (arith, length-take taken (take (length text - at) (drop at text)))
 

@@ -12,7 +12,7 @@ use Rattle.bt_script.specs.declared.words.TheConstants.{DEFAULT_CUT, DEFAULT_GRA
 use Rattle.bt_script.proofs.Numbers.{cut_option, grain_option, number_read, workers_option}
 use Rattle.bt_script.proofs.words.read_words.Goals as goal
 
--- what comes of a kind that clap gives at the words is a fault that they have
+-- the error for a kind that clap gives at the words is a fault that they have
 has_fault : (words : List Text) (kind : ErrorKind) (fault : WordsError) → (kind ≡ kinds.OutOfMemory) ⊎ IsAmong kind (kinds_of_words words) → ComesOf kind fault → HasFault words fault
 has_fault words kind Faulty (inl memory) comes = absurd (comes.0 memory)
 has_fault words kind Faulty (inr among) comes = (kind, among, comes.1)
