@@ -1,4 +1,5 @@
--- Commands other than images and loads see no tree, upkeep and shapes change no contents, and no cut of batches shows. Serves the laws of `run_commands`.
+-- Commands other than images and loads read no tree, upkeep and shapes change no contents, and the cutting of batches does not show. Serves the laws of
+-- `run_commands`.
 use Rattle.std.proofs.Common.{ℕ, suc, zero, ◌≡◌, ◌∙◌, ◌+◌, ◌||◌, arith, Bool, true, false, not, List, [], ◌∷◌, ◌++◌, append_assoc, map, flat_map, refl, sym, ap, subst, length, get_or, set, take, drop, Option, Some, None, option_map, is_some, Result, Ok, Err, if◌then◌else◌, nat_le, codes}
 use Rattle.std.proofs.lemmas.List.{drop-map, length-map, map-append, take-map}
 use Rattle.std.proofs.Math.Seq.{map-set_same}
@@ -42,7 +43,7 @@ use Rattle.bt_shell.specs.Replies.{count_line, refused_text, reply_text, scan_re
 use Rattle.bt_shell.specs.Runs.{after_commands, replies}
 use Rattle.bt_shell.specs.Steps.{Done, State, call_outcome, creation_outcome, definition_of, definition_or_least, done_or_refused, form_refusals, is_allowed, outcome, read_outcome, shape_of, table_of, turn}
 
--- ---- a state of given contents whose trees are empty leaves, all of one shape
+-- ---- a state of given contents in which all trees are empty leaves of the same shape
 
 no_shape : Shape
 no_shape = record { fanout = 0; buffer = 0; leaf = 0; measure = measure.Messages }
@@ -107,7 +108,7 @@ unless_alike None (Some s) a b same said left = absurd cc
 unless_alike (Some r) None a b same said left = absurd cc
 unless_alike (Some r) (Some s) a b same said left = cc
 
--- what is done, or the refusal, of two states that agree
+-- the result, or the refusal, of two states that agree
 told : (a b : State) (x y : Result Done Refusal) → HaveSameContents a b → AreAlike x y
     → ((done_or_refused a x).1 ≡ (done_or_refused b y).1) × HaveSameContents (done_or_refused a x).0 (done_or_refused b y).0
 told a b (Ok x) (Ok y) same alike = alike
@@ -115,7 +116,7 @@ told a b (Ok x) (Err r) same alike = absurd alike
 told a b (Err r) (Ok y) same alike = absurd alike
 told a b (Err r) (Err s) same alike = (ap refused_text alike, same)
 
--- ---- a table with bare indexes beside the same with its own
+-- ---- a table with bare indexes beside the same table with its own
 
 module _ (table : PlainTable) where
   -- a table with other indexes of the same heads
@@ -231,7 +232,7 @@ read_itself table (Err r) = refl
 read_alike : (table : PlainTable) (a b : Result (List ℕ) Refusal) → a ≡ b → AreAlike (read_outcome (Intact (bared table)) a) (read_outcome (Intact table) b)
 read_alike table a b same = subst (λ (x : Result (List ℕ) Refusal). AreAlike (read_outcome (Intact (bared table)) x) (read_outcome (Intact table) b)) (sym same) (read_itself table b)
 
--- what is said of a tree by its table and the head of its index
+-- what is reported of a tree by its table and the head of its index
 named_alike : {R : Type 0} (said : NamedTree → Result R Refusal) (table : PlainTable) → said (Primary (bared table)) ≡ said (Primary table)
     → ((i : Index) → said (Secondary (bared table) (bare i)) ≡ said (Secondary table i)) → (name : List ℕ) → and_then said (tree_named (Intact (bared table)) name) ≡ and_then said (tree_named (Intact table) name)
 named_alike {R} said table rows index name =
@@ -311,7 +312,7 @@ turns_alike a b answer same shows =
       sym first.1 ∙ ap (λ (s : State). contents (turn s answer).0) between ∙ second.1,
     )
 
--- ---- commands in turn
+-- ---- commands one after the other
 
 pub no_tree_shows : NoTreeShows
 unfolding replies after_commands
@@ -323,7 +324,7 @@ no_tree_shows a b (answer ∷ more) same shows =
 
 -- ---- upkeep
 
--- an index that was found stands at its place
+-- an index that was found is at its place
 abbrev StandsAt : ℕ → List Index → Option (ℕ × Index) → Type 0
 StandsAt place is None = Unit {0}
 StandsAt place is (Some found) = (k : ℕ) × (found.0 ≡ k + place) × (get_or is k found.1 ≡ found.1)
@@ -375,7 +376,7 @@ upkeep_keeps_contents (Some (Intact table)) name = (
 
 -- ---- shapes
 
--- made in either shape, or refused alike
+-- created in either shape, or refused alike
 made_alike : (refusal : Option Refusal) (columns : List Column) (keys : ℕ) (text : List ℕ) (shape other : Shape) →
     AreAlike (unless refusal (Some (Intact (record { schema = record { columns = columns; keys = keys }; shape = shape; rows = []; tree = leaf []; indexes = [] })), text))
     (unless refusal (Some (Intact (record { schema = record { columns = columns; keys = keys }; shape = other; rows = []; tree = leaf []; indexes = [] })), text))
@@ -404,7 +405,7 @@ pub batches_are_folded : BatchesAreFolded
 batches_are_folded [] second rows = refl
 batches_are_folded (m ∷ first) second rows = batches_are_folded first second (with_value m.0 (row_effect (find key_cmp m.0 rows) m.1) rows)
 
--- a batch that is taken leaves the table after it
+-- a batch that is accepted leaves the table after it
 taken_leaves : (table : PlainTable) (items : List Item) (refusal : Option Refusal) (r : Reply) → refusal ≡ None
     → (done_or_refused (Some (Intact table)) (call_outcome (unless refusal (Intact (after_batch table (messages_of table.schema items)), r)))).0 ≡ Some (Intact (after_batch table (messages_of table.schema items)))
 taken_leaves table items None r none = refl

@@ -1,4 +1,4 @@
--- The definition of a new index, or its least refusal. Serves the command that makes one.
+-- The definition of a new index, or its smallest refusal. Serves the command that creates one.
 use Rattle.std.proofs.Common.{◌≡◌, None, Some, OnOk, IfErr, Option, Result, Ok, Err, ap, refl, subst}
 use Rattle.bt_value.specs.Answers.{Answers}
 use Rattle.bt_value.specs.Refusals.{least}
@@ -33,7 +33,7 @@ mapped : {S T : Type 0} (f : S → T) (answer result : Result S Refusal) → Ans
 mapped f answer (Ok value) is = ap (map_ok f) is
 mapped f answer (Err refusal) is = λ some. ap (map_ok f) (is some)
 
--- the definition of a new index is that of both its name and what it is made of
+-- the definition of a new index by both its name and its parts
 pub defined : (state : TableState) (schema : Schema) (form : IndexForm) (free : Result (Unit {0}) Refusal) (made : Result Definition Refusal) (result : Result (Unit {0} × Definition) Refusal)
     → HasSchema state schema → OnOk free (least (index_refusals state form.name) ≡ None) → IfErr free (λ refusal. least (index_refusals state form.name) ≡ Some refusal)
     → Answers (definition_as schema form.on form.include form.filter) made
@@ -46,7 +46,7 @@ defined (Intact table) schema form free made result has none some as_made both =
     subst (λ s. Answers (definition_or_least (definition_as s form.on form.include form.filter) (least (name_refusals table form.name))) (map_ok (λ both. both.1) result)) has
     (mapped (λ (both : Unit {0} × Definition). both.1) (both_read name (definition_as schema form.on form.include form.filter)) result whole)
 
--- a definition of the schema of a table is one of the table
+-- a definition of the schema of a table is a definition of the table
 pub suits_table : (state : TableState) (schema : Schema) (def : Definition) → HasSchema state schema → SuitsKinds def (kinds_of schema.columns) → def.keys ≡ schema.keys → Suits state def
 suits_table Lost schema def has kinds keys = absurd has
 suits_table (Intact table) schema def has kinds keys = subst (λ s. SuitsKinds def (kinds_of s.columns) × (def.keys ≡ s.keys)) has (kinds, keys)

@@ -30,7 +30,7 @@ module _ {W : Type 0} {contents : W → Option (List ℕ)} {old new : Counted W}
   first_and_next : take (length so_far.done + 1) all ≡ so_far.done ++ take 1 others
   first_and_next = ap (take (length so_far.done + 1)) so_far.split ∙ take-append-add so_far.done others 1
 
-  -- what is left by the next command is left by all
+  -- what is left by the next command is left by all commands
   pub left_later : (left : State) → IsLeftAfter table left others 0 → IsLeftAfter begin left all (length so_far.done)
   unfolding after_commands
   left_later left (inl kept) = inl (kept ∙ so_far.left ∙ ap (after_commands begin) (sym first_done))
@@ -59,7 +59,7 @@ module _ {W : Type 0} {contents : W → Option (List ℕ)} {old new : Counted W}
 -- ---- where a run stops
 
 module _ {W : Type 0} {contents : W → Option (List ℕ)} {old new : Counted W} {begin table : State} (script : List ℕ) {others : List Answer} (so_far : HasRun contents old new begin table (commands script) others) where
-  -- memory is refused at the next command
+  -- out of memory at the next command
   pub stops_between : (left : State) → IsLeftAfter table left others 0 → StopsBetweenReplies (Took contents old new) begin left script
   stops_between left next = (
     length so_far.done,
@@ -67,7 +67,7 @@ module _ {W : Type 0} {contents : W → Option (List ℕ)} {old new : Counted W}
     left_later so_far left next,
   )
 
-  -- the reply to the next command is not taken whole
+  -- the reply to the next command is not written whole
   pub stops_within : {after : State} {more : List Answer} {text : List ℕ} {refused : Bool} (last : Counted W) → IsTurn table after others more text refused → TookPrefix contents new last text
       → StopsWithinReply (Took contents old last) begin after script
   stops_within {text = text} last next prefix =
@@ -85,7 +85,7 @@ module _ {W : Type 0} {contents : W → Option (List ℕ)} {old new : Counted W}
         ),
       )
 
-  -- all replies are taken, and the flush after them fails
+  -- all replies are written, and the flush after them fails
   pub stops_at_end : (last : Counted W) → others ≡ [] → Keeps (contents (source_of new)) (contents (source_of last)) → count_of last ≡ count_of new → StopsWithinReply (Took contents old last) begin table script
   stops_at_end last none kept count =
       let all = commands script in
@@ -148,6 +148,6 @@ left_lost begin left answers n lost (inl first) = first ∙ ap (λ (state : Stat
 left_lost begin left answers n lost (inr (inl more)) = more ∙ ap (λ (state : State). after_commands state (take (n + 1) answers)) lost ∙ (stays_lost (take (n + 1) answers)).0
 left_lost begin left answers n lost (inr (inr gone)) = gone
 
--- whatever is left of a lost table is lost, and its replies are refusals
+-- a table that is left after a lost one is lost, and all its replies are refusals
 pub lost_is_left : (begin left : State) (answers : List Answer) (n : ℕ) → IsLeftAfter begin left answers n → begin ≡ Some Lost → (left ≡ Some Lost) × (replies begin answers ≡ flat_map lost_reply answers)
 lost_is_left begin left answers n is_left lost = (left_lost begin left answers n lost is_left, ap (λ (state : State). replies state answers) lost ∙ (stays_lost answers).1)

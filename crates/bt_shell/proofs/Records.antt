@@ -1,4 +1,4 @@
--- What the records of a batch are read as, whatever their numbers. Serves the law of how batches are cut.
+-- The records of a batch are read the same at any place in a batch. Serves the law of how batches are cut.
 use Rattle.std.proofs.Common.{ℕ, ◌≡◌, ◌∙◌, ◌+◌, ◌==◌, Bool, true, false, List, [], ◌∷◌, ◌++◌, drop, length, map, take, refl, sym, ap, Option, Some, None, option_map, Result, Ok, Err, if◌then◌else◌}
 use Rattle.std.specs.Cmp.Lexicographic.{pointwise}
 use Rattle.std.specs.List.{cons_option, filter_map}

@@ -1,4 +1,4 @@
--- That there is a table comes before all that the form of another one would say.
+-- `TableExists` comes before all refusals of the form of another table.
 use Rattle.std.proofs.Common.{◌≡◌, ◌++◌, Bool, true, false, not, Err, refl}
 use Rattle.bt_value.specs.declared.refusal.Refusal.TheVariants.{BadSchema, BadShape, TableExists}
 use Rattle.bt_value.specs.Results.{one_if}

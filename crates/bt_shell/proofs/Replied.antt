@@ -7,7 +7,7 @@ use Rattle.bt_shell.specs.inside.Lines.{with_line}
 use Rattle.bt_shell.specs.Replies.{count_line}
 
 module _ {T : Type 0} (line : T → List ℕ) where
-  -- the lines of things after others, and the number of all
+  -- the lines of items after others, and the number of all lines
   lines_of : (text : List ℕ) (count : ℕ) (items : List T) → fold (with_line line) (text, count) items ≡ (text ++ flat_map line items, count + length items)
   lines_of text count [] = ap (λ xs. (xs, count)) (sym (append-nil text)) ∙ ap (λ n. (text ++ [], n)) (omega arith)
   lines_of text count (item ∷ items) =

@@ -1,4 +1,4 @@
--- A table stays sound along the commands of a script. Serves the run.
+-- A table stays sound through the commands of a script. Serves the run.
 use Rattle.std.proofs.Common.{ℕ, ◌≡◌, ◌≤◌, ◌+◌, arith, not, Bool, true, false, List, [], ◌∷◌, ◌++◌, refl, sym, subst, inl, inr, length, take, Option, Some, None, IfSome, IfOk, Result, Ok, Err, codes}
 use Rattle.std.proofs.lemmas.Bool.Decides.{nat_tests}
 use Rattle.bt_value.specs.Refusals.{least}
@@ -40,7 +40,7 @@ both_allowed false false false none = absurd cc
 few_keys : (columns : List Column) (keys : ℕ) → is_schema columns keys ≡ true → keys ≤ length columns
 few_keys columns keys test = grind (arith, nat_tests)
 
--- what a command leaves, where it leaves a table, is sound
+-- if a command leaves a table, it is sound
 abbrev IsSoundAfter : Result Done Refusal → Type 0
 IsSoundAfter after = IfOk after (λ (done : Done). IfSome done.0 IsSound)
 
@@ -114,13 +114,13 @@ turn_keeps_sound : (state : State) (answer : Answer) → IfSome state IsSound �
 turn_keeps_sound state (Err refusal) sound = sound
 turn_keeps_sound state (Ok command) sound = refused_keeps_sound state (outcome state command) sound (command_keeps_sound state command sound)
 
--- what commands in turn leave of a sound table is sound
+-- commands one after the other leave a sound table sound
 pub commands_keep_sound : (state : State) (answers : List Answer) → IfSome state IsSound → IfSome (after_commands state answers) IsSound
 unfolding after_commands
 commands_keep_sound state [] sound = sound
 commands_keep_sound state (answer ∷ more) sound = commands_keep_sound (turn state answer).0 more (turn_keeps_sound state answer sound)
 
--- complete indexes hold what they select, where there is a table and it is sound
+-- complete indexes hold what they select, if there is a table and it is sound
 pub hold_where_sound : (state : State) → IfSome state IsSound → IfSome state CompleteIndexesHold
 hold_where_sound None sound = tt
 hold_where_sound (Some table) sound = sound_hold table sound
@@ -137,7 +137,7 @@ commands_keep_sound_unless_lost None answers sound = unless_lost _ (commands_kee
 commands_keep_sound_unless_lost (Some (Intact table)) answers sound = unless_lost _ (commands_keep_sound (Some (Intact table)) answers sound)
 commands_keep_sound_unless_lost (Some Lost) answers sound = subst (λ (state : State). IfSome state IsSoundUnlessLost) (sym (stays_lost answers).0) tt
 
--- whichever table is left, it is sound unless it is lost
+-- any table that is left is sound unless it is lost
 pub left_keeps_sound : (begin left : State) (answers : List Answer) (n : ℕ) → IfSome begin IsSoundUnlessLost → IsLeftAfter begin left answers n → IfSome left IsSoundUnlessLost
 left_keeps_sound begin left answers n sound (inl first) =
     subst (λ (state : State). IfSome state IsSoundUnlessLost) (sym first) (commands_keep_sound_unless_lost begin (take n answers) sound)

@@ -1,4 +1,4 @@
--- What commands in turn are answered and leave: for the loop of a run.
+-- The replies to commands one after the other, and the table that they leave. Serves the loop of a run.
 use Rattle.std.proofs.Common.{ℕ, Bool, ◌+◌, List, [], ◌∷◌, ◌++◌, ◌≡◌, ◌∙◌, refl, sym, ap, subst, append_assoc, append-nil, length, take, arith, Option, None, Some, Result, Ok, Err, OnErr}
 use Rattle.std.proofs.lemmas.List.{take_at}
 use Rattle.bt_script.specs.Commands.{Answer, commands}
@@ -34,7 +34,7 @@ after-one : (state : State) (answer : Answer) → after_commands state (answer �
 unfolding after_commands
 after-one state answer = refl
 
--- What a run has done from a table on: some commands are answered, and the others stand from a place of the script on.
+-- What a run has done from a table on: some commands have their replies, and the others follow from a place of the script on.
 pub record HasRun {W : Type 0} (contents : W → Option (List ℕ)) (old new : Counted W) (begin table : State) (all others : List Answer) : Type 0 where
   pub done : List Answer
   pub split : all ≡ done ++ others
@@ -47,7 +47,7 @@ module _ {W : Type 0} (contents : W → Option (List ℕ)) (old : Counted W) (be
   unfolding replies after_commands
   run_begins all nothing = record { done = []; split = refl; left = refl; took = nothing }
 
-  -- all that is answered, by what was done
+  -- all replies, in terms of what was done
   whole : (new : Counted W) (table : State) (all others : List Answer) (so_far : HasRun contents old new begin table all others) → replies begin all ≡ replies begin so_far.done ++ replies table others
   whole new table all others so_far =
       ap (replies begin) so_far.split ∙ replies-append begin so_far.done others ∙ ap (λ (state : State). replies begin so_far.done ++ replies state others) (sym so_far.left)
@@ -100,7 +100,7 @@ module _ {W : Type 0} (contents : W → Option (List ℕ)) (old : Counted W) (be
       let all_done : all ≡ so_far.done = so_far.split ∙ ap (λ (l : List Answer). so_far.done ++ l) none ∙ append-nil so_far.done in
       subst (λ (answers : List Answer). Took contents old new (replies begin answers)) (sym all_done) so_far.took
 
-  -- and what it leaves
+  -- and the table that it leaves
   pub run_leaves : (new : Counted W) (table : State) (all others : List Answer) → HasRun contents old new begin table all others → others ≡ [] → table ≡ after_commands begin all
   run_leaves new table all others so_far none =
       let all_done : all ≡ so_far.done = so_far.split ∙ ap (λ (l : List Answer). so_far.done ++ l) none ∙ append-nil so_far.done in
@@ -114,7 +114,7 @@ count-none : (state : State) → refused_count state [] ≡ 0
 unfolding refused_count
 count-none state = refl
 
--- of all commands so many are refused as of those so far and of the others
+-- the number of refused commands is that of the commands so far and that of the others
 pub count_goes_on : (begin table after : State) (all others more : List Answer) (text : List ℕ) (refused : Bool) (count : ℕ) → IsTurn table after others more text refused
     → refused_count begin all ≡ count + refused_count table others → refused_count begin all ≡ count + one_where refused + refused_count after more
 count_goes_on begin table after all others more text refused count next so_far =
@@ -129,7 +129,7 @@ count_ends begin table all others count so_far none =
     let rest : refused_count table others ≡ 0 = ap (refused_count table) none ∙ count-none table in
     omega (arith, so_far, rest)
 
--- some script that the reader may have had
+-- a script that the reader may have had
 pub some_script : (known : Option (List ℕ)) → (script : List ℕ) × IsScriptOf known script
 some_script None = ([], tt)
 some_script (Some bytes) = (bytes, refl)
@@ -138,7 +138,7 @@ module _ {W : Type 0} (contents : W → Option (List ℕ)) where
   took_nothing : (old : Counted W) → Took contents old old []
   took_nothing old = Took-nil contents old (omega arith)
 
-  -- what is written is nothing
+  -- nothing is written
   pub nothing_replied : (old : Counted W) (known : Option (List ℕ)) → WritesReplies contents known old old
   nothing_replied old known =
       let script = some_script known in

@@ -24,7 +24,7 @@ pub ups_line : item_of_line (codes "ups 1,add,qty,5") ≡ Some (line.Ups (codes 
 unfolding item_of_line values_on_literals
 ups_line = refl
 
--- columns of the other kinds, and a kind that there is not
+-- columns of the other kinds, and a kind that does not exist
 pub text_column : column_of (codes "name:text") ≡ Some (record { name = codes "name"; kind = kind.Text })
 unfolding column_of
 text_column = refl
@@ -43,13 +43,13 @@ pub two_key_columns : command_of (codes "table 4 3 2 2 id:int ok:flag") []
 unfolding command_of table_command column_of values_on_literals
 two_key_columns = refl
 
--- no key column, more than there are columns, more than 4, and what is no number
+-- no key column, more than there are columns, more than 4, and a word that is no number
 pub key_counts : run (codes "table 4 3 2 0 id:int ok:flag\ntable 4 3 2 3 id:int ok:flag\ntable 4 3 2 5 a:int b:int c:int d:int e:int\ntable 4 3 2 x id:int\ntable 4 3 2 2 id:int ok:flag\n")
     ≡ codes "refused 5 BadSchema\nrefused 5 BadSchema\nrefused 5 BadSchema\nrefused 1 Syntax\ntable 2\n"
 unfolding replies commands_from line_step closing_of command_of bounds_of items_of item_of_line column_of table_command eight_bytes values_on_literals
 key_counts = refl
 
--- a script of no bytes writes nothing
+-- an empty script writes nothing
 pub empty_script : run [] ≡ []
 unfolding replies commands_from
 empty_script = refl
@@ -59,13 +59,13 @@ pub sorted_list : run (codes "table 4 3 2 1 id:int qty:int\nbatch\nput 3,30\nput
 unfolding replies commands_from line_step closing_of command_of bounds_of items_of item_of_line column_of table_command eight_bytes values_on_literals
 sorted_list = refl
 
--- a bad field in the third message, and a block without its end: the table stays
+-- a bad field in the third message, and a block without its end: the table does not change
 pub faulty_batches : run (codes "table 4 3 2 1 id:int qty:int\nbatch\nput 1,10\nend\nbatch\nput 5,50\nput 6,60\nput 7,x\nend\nscan primary\ngo\nbatch\nput 5,50\n")
     ≡ codes "table 2\nbatch 1\nrefused 6 BadField 3\nrow 1,10\nrows 1\nrefused 2 Unfinished\n"
 unfolding replies commands_from line_step closing_of command_of bounds_of items_of item_of_line column_of table_command eight_bytes values_on_literals
 faulty_batches = refl
 
--- no command, a name twice, a fanout of 3, and a scan before the table
+-- an unknown command, a repeated name, a fanout of 3, and a scan before the table
 pub refusals_without_table : run (codes "tabel\ntable 4 3 2 1 id:int id:int\ntable 3 3 2 1 id:int\nscan primary\ngo\n")
     ≡ codes "refused 1 Syntax\nrefused 5 BadSchema\nrefused 20 BadShape\nrefused 3 NoTable\n"
 unfolding replies commands_from line_step closing_of command_of bounds_of items_of item_of_line column_of table_command eight_bytes values_on_literals
@@ -83,7 +83,7 @@ pub before_the_table : run (codes "get 1\ntable 4 3 2 1 id:int qty:int\nimage pr
 unfolding replies commands_from line_step closing_of command_of bounds_of items_of item_of_line column_of table_command eight_bytes values_on_literals
 before_the_table = refl
 
--- of two counts of 2 the left child is flushed, and the right one's messages are pending
+-- of two counts of 2 the left child is flushed, and the messages for the right one stay pending
 pub tie_flushes_left : run (codes "table 4 3 2 1 id:int qty:int\nbatch\nput 1,10\nput 2,20\nput 3,30\nput 4,40\nend\nbatch\nput 1,11\nput 2,21\nput 3,31\nput 4,41\nend\nimage primary\nget 4\n")
     ≡ codes "table 2\nbatch 4\nbatch 4\nimage primary height 2\ninner 2 2\n  + 8000000000000003 3,31\n  + 8000000000000004 4,41\n  leaf 2\n    = 8000000000000001 1,11\n    = 8000000000000002 2,21\n  | 8000000000000003\n  leaf 2\n    = 8000000000000003 3,30\n    = 8000000000000004 4,40\nend\nrow 4,41\n"
 unfolding replies commands_from line_step closing_of command_of bounds_of items_of item_of_line column_of table_command eight_bytes values_on_literals
@@ -95,7 +95,7 @@ pub first_child_splits : run (codes "table 4 3 2 1 id:int qty:int\nbatch\nput 1,
 unfolding replies commands_from line_step closing_of command_of bounds_of items_of item_of_line column_of table_command eight_bytes values_on_literals
 first_child_splits = refl
 
--- what is no get and no image, a key that no row has, and rows in one leaf
+-- lines that are not a get or an image, a key that no row has, and rows in one leaf
 pub gets_and_images : run (codes "table 4 3 2 1 id:int qty:int\nget\nget \nget  1\nget 1,2\n get 1\nimage  primary \nimage second\nimage\nbatch\nput 1,10\nput 2,20\nput 3,30\ndel 1\nend\nget 1\nget 2\nimage primary\n")
     ≡ codes "table 2\nrefused 1 Syntax\nrefused 1 Syntax\nrefused 6 BadField 1\nrefused 7 BadLength 1\nnone\nimage primary height 1\nleaf 0\nend\nrefused 8 NoSuchTree\nrefused 1 Syntax\nbatch 4\nnone\nrow 2,20\nimage primary height 1\nleaf 2\n  = 8000000000000002 2,20\n  = 8000000000000003 3,30\nend\n"
 unfolding replies commands_from line_step closing_of command_of bounds_of items_of item_of_line column_of table_command eight_bytes values_on_literals
@@ -135,37 +135,37 @@ pub no_column : message_line row_text (change_text stock.columns) [] (key_of_one
 unfolding values_on_literals
 no_column = refl
 
--- a buffer that is full to its capacity stays: two upserts of one key are two messages
+-- a buffer that is exactly full stays: two upserts of one key are two messages
 pub capacity_is_not_over : run (codes "table 4 3 2 1 id:int qty:int\nbatch\nput 1,10\nput 2,20\nput 3,30\nput 4,40\nend\nbatch\nups 1,add,qty,5\nups 1,add,qty,5\nput 4,0\nend\nimage primary\nget 1\n")
     ≡ codes "table 2\nbatch 4\nbatch 3\nimage primary height 2\ninner 2 3\n  ~ 8000000000000001 add,qty,5\n  ~ 8000000000000001 add,qty,5\n  + 8000000000000004 4,0\n  leaf 2\n    = 8000000000000001 1,10\n    = 8000000000000002 2,20\n  | 8000000000000003\n  leaf 2\n    = 8000000000000003 3,30\n    = 8000000000000004 4,40\nend\nrow 1,20\n"
 unfolding replies commands_from line_step closing_of command_of bounds_of items_of item_of_line column_of table_command eight_bytes values_on_literals
 capacity_is_not_over = refl
 
--- buffers in bytes: 25 and 25 stay, of 25 and 44 the right child is flushed, and of 50 and 27 the left one, though three messages are pending for the right one
+-- buffers in bytes: 25 and 25 stay; for 25 and 44 the right child is flushed; for 50 and 27 the left one, though three messages are pending for the right one
 pub buffer_in_bytes : run (codes "table 4 60b 2 1 id:int qty:int\nbatch\nput 1,10\nput 2,20\nput 3,30\nput 4,40\nend\nbatch\nput 1,11\nput 4,41\nend\nimage primary\nbatch\nups 3,add,qty,1\nend\nimage primary\nbatch\nput 2,21\ndel 3\ndel 4\ndel 3\nend\nimage primary\n")
     ≡ codes "table 2\nbatch 4\nbatch 2\nimage primary height 2\ninner 2 2\n  + 8000000000000001 1,11\n  + 8000000000000004 4,41\n  leaf 2\n    = 8000000000000001 1,10\n    = 8000000000000002 2,20\n  | 8000000000000003\n  leaf 2\n    = 8000000000000003 3,30\n    = 8000000000000004 4,40\nend\nbatch 1\nimage primary height 2\ninner 2 1\n  + 8000000000000001 1,11\n  leaf 2\n    = 8000000000000001 1,10\n    = 8000000000000002 2,20\n  | 8000000000000003\n  leaf 2\n    = 8000000000000003 3,31\n    = 8000000000000004 4,41\nend\nbatch 4\nimage primary height 2\ninner 2 3\n  - 8000000000000003\n  - 8000000000000003\n  - 8000000000000004\n  leaf 2\n    = 8000000000000001 1,11\n    = 8000000000000002 2,21\n  | 8000000000000003\n  leaf 2\n    = 8000000000000003 3,31\n    = 8000000000000004 4,41\nend\n"
 unfolding replies commands_from line_step closing_of command_of bounds_of items_of item_of_line column_of table_command eight_bytes values_on_literals
 buffer_in_bytes = refl
 
--- of equal weights the left child is flushed
+-- for equal weights the left child is flushed
 pub bytes_over_capacity : run (codes "table 4 49b 2 1 id:int qty:int\nbatch\nput 1,10\nput 2,20\nput 3,30\nput 4,40\nend\nbatch\nput 1,12\nput 4,42\nend\nimage primary\n")
     ≡ codes "table 2\nbatch 4\nbatch 2\nimage primary height 2\ninner 2 1\n  + 8000000000000004 4,42\n  leaf 2\n    = 8000000000000001 1,12\n    = 8000000000000002 2,20\n  | 8000000000000003\n  leaf 2\n    = 8000000000000003 3,30\n    = 8000000000000004 4,40\nend\n"
 unfolding replies commands_from line_step closing_of command_of bounds_of items_of item_of_line column_of table_command eight_bytes values_on_literals
 bytes_over_capacity = refl
 
--- what is no capacity of a buffer, and what is none within the limits
+-- words that are no capacity of a buffer, and capacities outside the limits
 pub refusals_of_buffers : run (codes "table 4 b 2 1 id:int\ntable 4 60B 2 1 id:int\ntable 4 60bb 2 1 id:int\ntable 4 b60 2 1 id:int\ntable 4 -60b 2 1 id:int\ntable 4 1234567890b 2 1 id:int\ntable 4 60 b 2 1 id:int\ntable 4b 3 2 1 id:int\ntable 4 3 2b 1 id:int\ntable 4 3 2 1b id:int\ntable 4 0b 2 1 id:int\ntable 4 000000000b 2 1 id:int\ntable 4 1048577b 2 1 id:int\ntable 4 999999999b 2 1 id:int\ntable 4 4097 2 1 id:int\ntable 3 60b 2 1 id:int\ntable 4 60b 1 1 id:int\ntable 4 0b 2 1 id:int id:int\ntable 4 001048576b 2 1 id:int\ntable 4 60b 2 1 id:int\ntable 4 60bb 2 1 id:int\n")
     ≡ codes "refused 1 Syntax\nrefused 1 Syntax\nrefused 1 Syntax\nrefused 1 Syntax\nrefused 1 Syntax\nrefused 1 Syntax\nrefused 1 Syntax\nrefused 1 Syntax\nrefused 1 Syntax\nrefused 1 Syntax\nrefused 20 BadShape\nrefused 20 BadShape\nrefused 20 BadShape\nrefused 20 BadShape\nrefused 20 BadShape\nrefused 20 BadShape\nrefused 20 BadShape\nrefused 5 BadSchema\ntable 1\nrefused 4 TableExists\nrefused 1 Syntax\n"
 unfolding replies commands_from line_step closing_of command_of bounds_of items_of item_of_line column_of table_command eight_bytes values_on_literals
 refusals_of_buffers = refl
 
--- an addition holds at both ends of 64 bits, and a new key begins with its default row
+-- an addition stops at both ends of 64 bits, and a new key begins with its default row
 pub adds_saturate : run (codes "table 4 3 2 1 id:int qty:int\nbatch\nput 1,9223372036854775807\nput 2,-9223372036854775808\nend\nbatch\nups 1,add,qty,1\nups 2,add,qty,-1\nups 9,add,qty,1\nend\nscan primary\ngo\n")
     ≡ codes "table 2\nbatch 2\nbatch 3\nrow 1,9223372036854775807\nrow 2,-9223372036854775808\nrow 9,1\nrows 3\n"
 unfolding replies commands_from line_step closing_of command_of bounds_of items_of item_of_line column_of table_command eight_bytes values_on_literals
 adds_saturate = refl
 
--- the operations of one upsert, in turn
+-- the operations of one upsert, one after the other
 pub operations_in_turn : run (codes "table 4 3 2 1 id:int qty:int\nbatch\nups 9,set,qty,5,add,qty,-2\nend\nget 9\n")
     ≡ codes "table 2\nbatch 1\nrow 9,3\n"
 unfolding replies commands_from line_step closing_of command_of bounds_of items_of item_of_line column_of table_command eight_bytes values_on_literals
@@ -183,7 +183,7 @@ pub compound_key : run (codes "table 4 3 2 2 f:flag t:text n:int\nbatch\nput TRU
 unfolding replies commands_from line_step closing_of command_of bounds_of items_of item_of_line column_of table_command eight_bytes values_on_literals chars encode_utf8 is_utf8
 compound_key = refl
 
--- a text with a zero byte and texts without bytes as keys, and the codes of the keys
+-- a text with a zero byte and empty texts as keys, and the codes of the keys
 pub text_key_order : run (codes "table 4 3 8 2 name:text n:int\nbatch\nput a,1\nput a" ++ (0 ∷ codes ",0\nput ,-1\nput ,-9223372036854775808\nend\nscan primary\ngo\nimage primary\n"))
     ≡ codes "table 2\nbatch 4\nrow ,-9223372036854775808\nrow ,-1\nrow a,1\nrow a" ++ (0 ∷ codes ",0\nrows 4\nimage primary height 1\nleaf 4\n  = 00010000000000000000 ,-9223372036854775808\n  = 00017fffffffffffffff ,-1\n  = 6100018000000000000001 a,1\n  = 6100ff00018000000000000000 a" ++ (0 ∷ codes ",0\nend\n"))
 unfolding replies commands_from line_step closing_of command_of bounds_of items_of item_of_line column_of table_command eight_bytes values_on_literals chars encode_utf8 is_utf8
@@ -191,19 +191,20 @@ text_key_order = refl
 
 -- ---- ranges and sums
 
--- rows of a range whose first columns are equal to its lower bound are in it, and those equal to its upper bound are not; groups by one column, of all rows and of a range, and a sum beyond 64 bits
+-- rows of a range whose first columns are equal to its lower bound are in it, and those equal to its upper bound are not; groups by one column, of all rows and
+-- of a range, and a sum beyond 64 bits
 pub grouped_sums : run (codes "table 4 3 2 2 g:int id:int qty:int\nbatch\nput 1,1,5\nput 1,2,6\nput 1,3,7\nput 1,4,8\nput 2,1,1\nput 3,1,9223372036854775807\nput 3,2,9223372036854775807\nend\nsums primary 1 qty\ngo\nsums primary 1 qty\nfrom 1,2\nto 1,4\ngo\nscan primary\nfrom 1\nto 2\ngo\n")
     ≡ codes "table 3\nbatch 7\nsum 4 26 1\nsum 1 1 2\nsum 2 18446744073709551614 3\nsums 3\nsum 2 13 1\nsums 1\nrow 1,1,5\nrow 1,2,6\nrow 1,3,7\nrow 1,4,8\nrows 4\n"
 unfolding replies commands_from line_step closing_of command_of bounds_of sums_command items_of item_of_line column_of table_command eight_bytes values_on_literals
 grouped_sums = refl
 
--- what is refused of ranges and sums: the least refusal of the bounds first, and of the columns that of the number of columns and of a name before that of a kind
+-- refusals of ranges and sums: the smallest refusal of the bounds comes first; for the columns, `NoSuchColumn` comes before `NotInt`
 pub refusals_of_ranges : run (codes "table 4 3 2 1 id:int city:text qty:int\nsums primary 1 city\ngo\nsums primary 2 qty\ngo\nsums primary 0 city\ngo\nsums primary 1 nope\ngo\nsums primary 9 nope\nto x\ngo\nscan primary\nfrom 1,2\ngo\nscan primary\nto x\ngo\nscan primary\nfrom 1,2\nto x\ngo\nscan nope\nto x\ngo\nscan primary\nto 1\nfrom 1\ngo\n")
     ≡ codes "table 3\nrefused 16 NotInt\nrefused 15 NoSuchColumn\nrefused 15 NoSuchColumn\nrefused 15 NoSuchColumn\nrefused 6 BadField 2\nrefused 7 BadLength 1\nrefused 6 BadField 2\nrefused 6 BadField 2\nrefused 8 NoSuchTree\nrefused 1 Syntax\n"
 unfolding replies commands_from line_step closing_of command_of bounds_of sums_command items_of item_of_line column_of table_command eight_bytes values_on_literals
 refusals_of_ranges = refl
 
--- a range whose bounds are turned is empty, and an index has neither rows nor sums to show
+-- a range whose bounds are in the wrong order is empty, and an index has neither rows nor sums to show
 pub empty_ranges : run (codes "table 4 3 2 1 id:int qty:int\nbatch\nput 1,10\nput 2,20\nput 3,30\nput 4,40\nend\nscan primary\nfrom 4\nto 2\ngo\nindex q on qty\nscan q\nfrom 1,2,3\ngo\nscan q\nfrom 1,2\ngo\nsums q 9 nope\ngo\n")
     ≡ codes "table 2\nbatch 4\nrows 0\nindex q\nrefused 7 BadLength 1\nrefused 11 Building\nrefused 11 Building\n"
 unfolding replies commands_from line_step closing_of command_of bounds_of sums_command index_command names_of behind_words items_of item_of_line column_of table_command eight_bytes values_on_literals
@@ -220,7 +221,7 @@ pub key_alone : leaf_row_line entry_text (codes "  ") (key_of_one, []) ≡ codes
 unfolding values_on_literals
 key_alone = refl
 
--- an upsert of an index value, which is printed as a put is
+-- an upsert of an index value, which is printed like a put
 pub entry_upsert : message_line entry_text entry_text [] (key_of_one, message.Ups (value.Int (pos 7) ∷ [])) ≡ codes "~ 8000000000000001 7\n"
 unfolding values_on_literals
 entry_upsert = refl

@@ -1,4 +1,4 @@
--- Pieces of a text that are written one after the other: for the loop over them.
+-- Pieces of a text that are written one after the other. Serves the loop over them.
 use Rattle.std.proofs.Common.{ℕ, ◌+◌, ◌<◌, List, [], ◌∷◌, ◌++◌, ◌≡◌, ◌∙◌, refl, sym, ap, subst, append_assoc, append-nil, drop, get_or, length, Global, Option, Vec}
 use Rattle.std.proofs.lemmas.List.{at_drop_more}
 use Rattle.std.proofs.lemmas.List.Concat.{flat_map-cons}

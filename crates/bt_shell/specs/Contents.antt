@@ -1,4 +1,4 @@
--- What of a table is no tree: it alone decides every reply but that of an image, and whether a load is taken.
+-- The contents of a table without its trees: they alone decide every reply except that to an image, and except whether a load is accepted.
 use Rattle.std.specs.Prelude.{ℕ, ◌≡◌, true, List, [], ◌∷◌, ◌++◌, map, Option, Some, None, Ok, Err}
 use Rattle.bt_value.specs.Lists.{concatenation}
 use Rattle.bt_value.specs.Refusals.{least}
@@ -36,7 +36,7 @@ contents None = None
 contents (Some Lost) = Some None
 contents (Some (Intact table)) = Some (Some (contents_of table))
 
--- two states agree but for trees and shapes
+-- two states agree except for trees and shapes
 abbrev pub HaveSameContents : State → State → Type 0
 HaveSameContents a b = contents a ≡ contents b
 
@@ -47,7 +47,7 @@ ShowsNoTree (Ok (Image tree)) = ⊥
 ShowsNoTree (Ok (Load text)) = ⊥
 ShowsNoTree (Ok other) = Unit {0}
 
--- all of some commands are such
+-- all of some commands are such commands
 abbrev pub ShowNoTree : List Answer → Type 0
 ShowNoTree [] = Unit {0}
 ShowNoTree (answer ∷ more) = ShowsNoTree answer × ShowNoTree more
@@ -56,22 +56,22 @@ ShowNoTree (answer ∷ more) = ShowsNoTree answer × ShowNoTree more
 abbrev pub AreAnsweredAlike : State → State → List Answer → Type 0
 AreAnsweredAlike a b answers = (replies a answers ≡ replies b answers) × HaveSameContents (after_commands a answers) (after_commands b answers)
 
--- No tree shows: states that agree but for trees and shapes have the same replies to commands other than images and loads, and go on agreeing.
+-- No tree shows: states that agree except for trees and shapes give the same replies to commands other than images and loads, and still agree after them.
 abbrev pub NoTreeShows : Type 0
 NoTreeShows = (a b : State) (answers : List Answer) → HaveSameContents a b → ShowNoTree answers → AreAnsweredAlike a b answers
 
--- Upkeep changes trees alone: to drain or to rebuild a tree leaves a state that agrees with the one before.
+-- Upkeep changes only trees: draining or rebuilding a tree leaves a state that agrees with the one before.
 abbrev pub UpkeepKeepsContents : Type 0
 UpkeepKeepsContents =
     (state : State) (name : List ℕ) → HaveSameContents (turn state (Ok (Drain name))).0 state × HaveSameContents (turn state (Ok (Rebuild name))).0 state
 
--- two forms of a table differ in its shape alone, and both shapes are within the limits
+-- two forms of a table differ only in its shape, and both shapes are within the limits
 abbrev pub DifferInShape : TableForm → TableForm → Type 0
 DifferInShape form other =
     (form.columns ≡ other.columns) × (form.keys ≡ other.keys)
     × (is_allowed (shape_of form.fanout form.buffer form.leaf) ≡ true) × (is_allowed (shape_of other.fanout other.buffer other.leaf) ≡ true)
 
--- The shape is no content: a table is made with the same reply in any shape, and the states agree.
+-- The shape is not part of the contents: a table is created with the same reply in any shape, and the states agree.
 abbrev pub ShapeIsNoContent : Type 0
 ShapeIsNoContent = (state : State) (form other : TableForm) → DifferInShape form other
     → ((turn state (Ok (Table form))).1 ≡ (turn state (Ok (Table other))).1) × HaveSameContents (turn state (Ok (Table form))).0 (turn state (Ok (Table other))).0
@@ -83,7 +83,7 @@ abbrev pub BatchesAreFolded : Type 0
 BatchesAreFolded =
     (first second : RowMessages) (rows : Rows (List Value)) → rows_after row_effect (first ++ second) rows ≡ rows_after row_effect second (rows_after row_effect first rows)
 
--- batches that a table of these columns takes: no refusal applies to any
+-- batches that a table of these columns accepts: no refusal applies to any of them
 abbrev pub AreAllTaken : Schema → List (List Item) → Type 0
 AreAllTaken schema [] = Unit {0}
 AreAllTaken schema (items ∷ more) = (least (batch_refusals schema items) ≡ None) × AreAllTaken schema more
@@ -92,7 +92,7 @@ AreAllTaken schema (items ∷ more) = (least (batch_refusals schema items) ≡ N
 abbrev pub batch_commands : List (List Item) → List Answer
 batch_commands batches = map (λ items. Ok (Batch items)) batches
 
--- How messages are cut into batches does not show: the same records in other batches leave states that agree.
+-- The cutting of messages into batches does not show: the same records in other batches leave states that agree.
 abbrev pub CutsDoNotShow : Type 0
 CutsDoNotShow = (table : PlainTable) (cut other : List (List Item)) → AreAllTaken table.schema cut → AreAllTaken table.schema other → concatenation cut ≡ concatenation other
     → HaveSameContents (after_commands (Some (Intact table)) (batch_commands cut)) (after_commands (Some (Intact table)) (batch_commands other))

@@ -12,20 +12,20 @@ use Rattle.bt_shell.specs.Steps.{State}
 abbrev pub IsLeftAfter : State → State → List Answer → ℕ → Type 0
 IsLeftAfter begin left answers n = (left ≡ after_commands begin (take n answers)) ⊎ (left ≡ after_commands begin (take (n + 1) answers)) ⊎ (left ≡ Some Lost)
 
--- by what it is for some bytes that they were written
+-- `AreWritten` says what it means that some bytes were written
 module _ (AreWritten : List ℕ → Type 0) where
-  -- Between two replies: the whole replies to the first n commands of a script are written, and the table is the one after these n, the one after n + 1, or lost.
+  -- Between two replies: the whole replies to the first n commands of a script are written, and the table is the one after n or n + 1 commands, or lost.
   abbrev pub StopsBetweenReplies : State → State → List ℕ → Type 0
   StopsBetweenReplies begin left script = (n : ℕ) × AreWritten (replies begin (take n (commands script))) × IsLeftAfter begin left (commands script) n
 
-  -- Within a reply: the table is the one after n + 1 commands of a script, and the first k bytes of their replies are written, which have the whole replies to the
-  -- first n.
+  -- Within a reply: the table is the one after n + 1 commands of a script, and the first k bytes of their replies are written. These include the whole replies
+  -- to the first n commands.
   abbrev pub StopsWithinReply : State → State → List ℕ → Type 0
   StopsWithinReply begin left script =
       (n : ℕ) × (left ≡ after_commands begin (take (n + 1) (commands script)))
       × ((k : ℕ) × (length (replies begin (take n (commands script))) ≤ k) × AreWritten (take k (replies begin (take (n + 1) (commands script)))))
 
--- the reply of a lost table: each command but `table` is refused as Failed, and a wrong line as ever
+-- the reply of a lost table: each command except `table` is refused as Failed, and a wrong line is refused as always
 abbrev pub lost_reply : Answer → List ℕ
 lost_reply (Err refusal) = refused_text refusal
 lost_reply (Ok (Table form)) = refused_text TableExists

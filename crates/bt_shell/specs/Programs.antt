@@ -1,4 +1,4 @@
--- What the program does by its words, for streams of which calls may fail.
+-- What the program does for its words, with streams whose calls may fail.
 use Rattle.std.specs.Prelude.{◌≡◌, [], false, true, List, Option, None, ℕ}
 use Rattle.bt_script.specs.Options.{IsFaulty, IsToReadInput, kinds_of_words}
 use Rattle.bt_script.specs.Streams.{FailsToGive, GivesWithin, Took, has_failed, script_limit, source_of}
@@ -16,17 +16,17 @@ IsToRun words = kinds_of_words words ≡ []
 abbrev pub AreHealthy : {I W : Type 0} → Counted I → Counted W → Type 0
 AreHealthy input output = (has_failed input ≡ false) × (has_failed output ≡ false)
 
--- a stream that is not the script's is as it was
+-- a stream that is not the script's is unchanged
 abbrev pub LeavesInput : {I : Type 0} → List (List ℕ) → Counted I → Counted I → Type 0
 LeavesInput words old new = (IsToReadInput words → ⊥) → new ≡ old
 
--- Where the words are read, the fact of what was written holds for some script: for the input's where it is the script, and for any where a file is, whose
--- bytes no contract knows.
+-- If the words are read, a fact about what was written is true for some script: for the bytes of the input if that is the script, and for any script if it is a
+-- file, whose bytes no contract knows.
 abbrev pub ForScript : {I : Type 0} → (I → Option (List ℕ)) → List (List ℕ) → Counted I → (Option (List ℕ) → Type 0) → Type 0
 ForScript remaining words input Fact = (IsToReadInput words → Fact (remaining (source_of input))) × (IsToRun words → Fact None)
 
 module _ {I W : Type 0} (remaining : I → Option (List ℕ)) (contents : W → Option (List ℕ)) (words : List (List ℕ)) (input : Counted I) (old new : Counted W) where
-  -- the output took all that the script is answered, a prefix of it, or the whole replies to its first commands
+  -- the output took all replies to the script, a prefix of them, or the whole replies to its first commands
   abbrev pub AnswersScript : Type 0
   AnswersScript = ForScript remaining words input (λ known. WritesRun contents known old new)
 
@@ -37,7 +37,7 @@ module _ {I W : Type 0} (remaining : I → Option (List ℕ)) (contents : W → 
   AnswersReplies = ForScript remaining words input (λ known. WritesReplies contents known old new)
 
 module _ {I W : Type 0} (remaining : I → Option (List ℕ)) (contents : W → Option (List ℕ)) (words : List (List ℕ)) (input read : Counted I) (output written : Counted W) where
-  -- what each fault comes of and leaves; a failed read may also be one of a file, whose reader no contract knows
+  -- the cause of each fault and what it leaves; a failed read may also be one of a file, whose reader no contract knows
   abbrev pub HasCause : ProgramFault → Type 0
   HasCause Words = IsFaulty words
   HasCause (Run Read) = IsToRun words × (IsToReadInput words → FailsToGive remaining input read script_limit) × Took contents output written []

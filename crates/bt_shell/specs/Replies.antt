@@ -19,28 +19,28 @@ count_line word count = word ++ (decimal count ++ codes "\n")
 abbrev pub row_line : List Value → List ℕ
 row_line row = codes "row " ++ (record_text (map text_of row) ++ codes "\n")
 
--- the line of a group: how many rows it has, the sum, and the columns by which rows are grouped
+-- the line of a group: the number of its rows, the sum, and the columns that rows are grouped by
 abbrev pub sum_line : Sum → List ℕ
 sum_line sum = codes "sum " ++ (decimal sum.count ++ (codes " " ++ (signed_decimal sum.total ++ (codes " " ++ (record_text (map text_of sum.group) ++ codes "\n")))))
 
--- the lines of all rows, and their number
+-- the lines of all rows, followed by their number
 abbrev pub scan_reply : List (List Value) → List ℕ
 scan_reply rows = flat_map row_line rows ++ count_line (codes "rows ") (length rows)
 
--- the lines of all groups, and their number
+-- the lines of all groups, followed by their number
 abbrev pub sums_reply : List Sum → List ℕ
 sums_reply sums = flat_map sum_line sums ++ count_line (codes "sums ") (length sums)
 
--- the row of a key, where it has one
+-- the row of a key, if there is one
 abbrev pub row_reply : Option (List Value) → List ℕ
 row_reply None = codes "none\n"
 row_reply (Some row) = row_line row
 
--- the name of an index and how many messages it was sent, behind a space
+-- a space, the name of an index and the number of messages that it was sent
 abbrev pub sent_text : SentCount → List ℕ
 sent_text sent = codes " " ++ (sent.name ++ (codes ":" ++ decimal sent.count))
 
--- the number of messages of a batch, and that of each index
+-- the number of messages of a batch, and the number that each index was sent
 abbrev pub batch_reply : ℕ → List SentCount → List ℕ
 batch_reply count sent = codes "batch " ++ (decimal count ++ (flat_map sent_text sent ++ codes "\n"))
 
@@ -48,16 +48,16 @@ batch_reply count sent = codes "batch " ++ (decimal count ++ (flat_map sent_text
 abbrev pub name_line : List ℕ → List ℕ → List ℕ
 name_line word name = word ++ (name ++ codes "\n")
 
--- whether an index is complete, behind a space
+-- a space and whether an index is complete
 abbrev pub progress_text : Bool → List ℕ
 progress_text true = codes " complete\n"
 progress_text false = codes " building\n"
 
--- the name of an index, how many rows a step of its building read, and whether it is complete
+-- the name of an index, the number of rows that a step of its building read, and whether it is complete
 abbrev pub build_line : List ℕ → ℕ → Bool → List ℕ
 build_line name read complete = codes "build " ++ (name ++ (codes " " ++ (decimal read ++ progress_text complete)))
 
--- what a call on a table answers
+-- the text of the reply to a call on a table
 abbrev pub reply_text : Reply → List ℕ
 reply_text (Batch count sent) = batch_reply count sent
 reply_text (Row row) = row_reply row
@@ -68,11 +68,11 @@ reply_text (Loaded count) = count_line (codes "loaded ") count
 reply_text (Drained name) = name_line (codes "drained ") name
 reply_text (Rebuilt name) = name_line (codes "rebuilt ") name
 
--- the item of a refusal behind a space, where it has one
+-- a space and the item of a refusal, if it has one
 abbrev pub item_text : Option ℕ → List ℕ
 item_text None = []
 item_text (Some item) = codes " " ++ decimal item
 
--- what a refused command is answered
+-- the reply to a refused command
 abbrev pub refused_text : Refusal → List ℕ
 refused_text refusal = codes "refused " ++ (decimal (number_of refusal) ++ (codes " " ++ (name_of refusal ++ (item_text (item_of refusal) ++ codes "\n"))))

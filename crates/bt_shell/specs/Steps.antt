@@ -1,4 +1,4 @@
--- What a command does to the table, what it is answered, and why it is refused.
+-- How a command changes the table, its reply, and why it is refused.
 use Rattle.std.specs.Prelude.{ℕ, not, Bool, true, List, ◌++◌, length, Option, Some, None, is_err, is_some, Result, Ok, Err, codes}
 use Rattle.bt_value.specs.Refusals.{least}
 use Rattle.bt_row.specs.Schemas.{is_schema}
@@ -26,15 +26,15 @@ use Rattle.bt_table.specs.Calls.{name_refusals, step, unless_any}
 use Rattle.bt_table.specs.Tables.{TableState, Intact, Lost, empty_table}
 use Rattle.bt_table.specs.declared.reply.Reply.{Reply}
 
--- what the commands before one have left: no table so far, or the table
+-- the state after the commands before one: no table so far, or the table
 abbrev pub State : Type 0
 State = Option TableState
 
--- the table after a command, and what the command is answered
+-- the table after a command, and the reply
 abbrev pub Done : Type 0
 Done = State × List ℕ
 
--- how large nodes may be whose buffers have this capacity
+-- the shape of nodes whose buffers have this capacity
 abbrev pub shape_of : ℕ → Capacity → ℕ → Shape
 shape_of fanout (Messages most) leaf = record { fanout = fanout; buffer = most; leaf = leaf; measure = measure.Messages }
 shape_of fanout (Bytes most) leaf = record { fanout = fanout; buffer = most; leaf = leaf; measure = measure.Bytes }
@@ -49,23 +49,23 @@ form_refusals state form =
     one_if (is_some state) TableExists
     ++ (one_if (not (is_schema form.columns form.keys)) BadSchema ++ one_if (not (is_allowed (shape_of form.fanout form.buffer form.leaf))) BadShape)
 
--- what a table is made of
+-- the table that a form makes
 abbrev pub table_of : TableForm → TableState
 table_of form = Intact (empty_table (record { columns = form.columns; keys = form.keys }) (shape_of form.fanout form.buffer form.leaf))
 
--- a call on the table, in text
+-- the outcome of a call on the table, with its reply as text
 abbrev pub call_outcome : Result (TableState × Reply) Refusal → Result Done Refusal
 call_outcome after = map_ok (λ step. (Some step.0, reply_text step.1)) after
 
--- what is seen of a table, which stays
+-- the outcome of reading a table, which does not change
 abbrev pub read_outcome : TableState → Result (List ℕ) Refusal → Result Done Refusal
 read_outcome state text = map_ok (λ text. (Some state, text)) text
 
--- a definition, or the least refusal of it and of its name
+-- a definition, or the smallest refusal of it and of its name
 abbrev pub definition_or_least : Result Definition Refusal → Option Refusal → Result Definition Refusal
 definition_or_least def refusal = map_ok (λ both. both.1) (both_read {S = Unit {0}} (unless refusal tt) def)
 
--- the definition of a new index of a table, or the least refusal of its name and of what it is made of
+-- the definition of a new index of a table, or the smallest refusal of its name and of its parts
 abbrev pub definition_of : TableState → IndexForm → Result Definition Refusal
 definition_of Lost form = Err Failed
 definition_of (Intact table) form = definition_or_least (definition_as table.schema form.on form.include form.filter) (least (name_refusals table form.name))
@@ -75,8 +75,7 @@ abbrev pub creation_outcome : TableState → List ℕ → Result Definition Refu
 creation_outcome state name (Ok def) = call_outcome (step state (call.CreateIndex name def))
 creation_outcome state name (Err refusal) = Err refusal
 
--- A command: the table after it and what it is answered, or its refusal, the least that applies; that there is no table comes before
--- all that a table would say.
+-- A command: the table after it and its reply, or the smallest refusal that applies. `NoTable` comes before any refusal of a table.
 abbrev pub outcome : State → Command → Result Done Refusal
 outcome state (Table form) = unless_any (form_refusals state form) (Some (table_of form), count_line (codes "table ") (length form.columns))
 outcome None command = Err NoTable
@@ -97,7 +96,7 @@ abbrev pub done_or_refused : State → Result Done Refusal → Done
 done_or_refused state (Ok done) = done
 done_or_refused state (Err refusal) = (state, refused_text refusal)
 
--- what stands at a place of a script: the table after it, and what it is answered
+-- a command, or the refusal of text that is none: the table after it, and the reply
 abbrev pub turn : State → Answer → Done
 turn state (Err refusal) = (state, refused_text refusal)
 turn state (Ok command) = done_or_refused state (outcome state command)

@@ -1,4 +1,4 @@
-//! With what commands are answered.
+//! What the carrying out of commands needs.
 use std::alloc::Global;
 
 /// The runtime, the allocator, and who works for the table.

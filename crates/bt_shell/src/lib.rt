@@ -1,9 +1,8 @@
-//! Scripts of table commands: words and lines to commands, commands to replies, and the run from the bytes of a reader to
-//! the bytes of a writer.
+//! Scripts of table commands: the reply to each command, and the run of a script from the bytes of a reader to the bytes of a writer.
 //!
-//! A script is any list of bytes. It is cut into lines, lines into commands, and each command is answered once: by its
-//! reply, or by the least refusal that applies, which changes nothing. What a run writes is proved to be `run` of the
-//! script, a definition over lines, commands and a map of rows.
+//! A script is any list of bytes. It is cut into lines, and the lines into commands. Each command gets one reply: its result, or the
+//! smallest refusal that applies; a refused command changes nothing. It is proved that a run writes `run` of the script, a definition over
+//! lines, commands and a map of rows.
 //!
 //! ```text
 //! let mut reader = Counted::new(b"table 4 3 2 1 id:int qty:int\nbatch\nput 1,10\nend\n".as_slice());
@@ -12,7 +11,8 @@
 //! run_script(&rt, alloc, &mut reader, &mut writer, &crew)?;        // table 2, batch 1
 //! ```
 //!
-//! A table that lives on takes script after script by [`run_commands`]; two of them are one where the first ends between two commands.
+//! A table that outlives one script takes further scripts with [`run_commands`]. Two scripts are one run if the first ends between two
+//! commands.
 #![tactic(auto)]
 
 mod context;

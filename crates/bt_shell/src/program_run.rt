@@ -1,4 +1,4 @@
-//! The program over any runtime and streams.
+//! The program, generic in its runtime and its streams.
 ghost use Rattle.std.specs.Prelude.{◌≡◌, ◌≤◌, ◌+◌, ◌≢◌, ◌⊎◌, [], false, true, IfSome, OnOk, OnErr, IsErrOf, ℕ, List};
 ghost use Rattle.bt_script.specs.Options.{AreWithinLimits, AsksHelp, IsFaulty, IsToReadInput, MustBeRefused};
 ghost use Rattle.bt_script.specs.Streams.{FailsToGive, GaveAtMost, GivesWithin, Took, count_of, has_failed, has_unflushed, script_limit, source_of};
@@ -24,7 +24,7 @@ use std::{fs, mem};
 /// Why the program ends with a status other than 0.
 #[derive(Debug, Drop)]
 pub enum ProgramFault {
-    /// The command line says nothing to run.
+    /// The command line has a fault, so nothing runs.
     Words,
     /// The run ended early.
     Run(RunFault),
@@ -54,7 +54,7 @@ impl From<AllocError> for ProgramFault {
 }
 
 impl ProgramFault {
-    // The fault as a line of standard error.
+    // The fault as a line of the standard error stream.
     fn line(&self) -> &'static str
         ensures { result.now ≡ line_of self.now }
     {
@@ -66,8 +66,8 @@ impl ProgramFault {
         }
     }
 
-    /// Writes the fault as one line, after `betable: `, and answers the exit status: 2 for the command line, and 1 for a
-    /// run. An error of the stream is let go.
+    /// Writes the fault as one line, after `betable: `, and returns the exit status: 2 for a fault of the command line, 1 for one of the run.
+    /// An error of this stream is ignored.
     pub fn report<E: Write>(&self, errors: &mut Counted<E>) -> u8
         ensures status { result ≡ status_of self.now }
         ensures line { TookLine E.contents errors.old errors.new self.now }
@@ -80,7 +80,7 @@ impl ProgramFault {
     }
 }
 
-// Runs the script of a file. One that does not open is a read that fails.
+// Runs the script of a file. A file that does not open is a read that fails.
 fn run_file<R: Files + AllocGlobal + Threads + Wait + Sync, W: Write>(
     rt: &R,
     path: &str,
@@ -106,7 +106,7 @@ fn run_file<R: Files + AllocGlobal + Threads + Wait + Sync, W: Write>(
     memory.run(&context, &mut Counted::new(file), output)
 }
 
-// The crew that words ask for.
+// The crew of the sizes that the words give.
 fn crew_of(words: &Words) -> Crew<NoGate>
     requires { AreWithinLimits words.now.workers words.now.cut words.now.grain }
     ensures sizes { (result.workers ≡ words.now.workers) × (result.cut ≡ words.now.cut) × (result.grain ≡ words.now.grain) }
@@ -117,7 +117,7 @@ fn crew_of(words: &Words) -> Crew<NoGate>
     }
 }
 
-// Does what the words ask for. After a fault what was written is not flushed.
+// Runs what the words ask for. After a fault, what was written is not flushed.
 fn run_words<R: Files + AllocGlobal + Threads + Wait + Sync, I: Read, W: Write>(
     rt: &R,
     words: &Texts,
@@ -134,7 +134,7 @@ fn run_words<R: Files + AllocGlobal + Threads + Wait + Sync, I: Read, W: Write>(
     ensures words { OnOk result (IsToRun words.now ⊎ AsksHelp words.now) }
     ensures short { OnOk result (GaveAtMost I.remaining input.old input.new script_limit) }
 
-    // Which fault it is, and what it leaves.
+    // The fault, and what it leaves.
     ensures faulty { IsErrOf result ProgramFault.Words → IsFaulty words.now }
     ensures refused { MustBeRefused words.now → IsErrOf result ProgramFault.Words ⊎ IsErrOf result (ProgramFault.Run RunFault.OutOfMemory) }
     ensures unwritten { MustBeRefused words.now → output.new ≡ output.old }
@@ -147,7 +147,7 @@ fn run_words<R: Files + AllocGlobal + Threads + Wait + Sync, I: Read, W: Write>(
     ensures within { IsErrOf result (ProgramFault.Run RunFault.OutOfMemory) → GaveAtMost I.remaining input.old input.new script_limit }
     ensures replies { IsErrOf result (ProgramFault.Run RunFault.OutOfMemory) → AnswersReplies I.remaining W.contents words.now input.old output.old output.new }
 
-    // What is read.
+    // What is read of the input.
     ensures untouched { LeavesInput words.now input.old input.new }
     ensures at_most { GaveAtMost I.remaining input.old input.new (script_limit + 1) }
 {
@@ -172,7 +172,7 @@ fn run_words<R: Files + AllocGlobal + Threads + Wait + Sync, I: Read, W: Write>(
     }
 }
 
-// Does what the words ask for, and flushes what was written, also after a fault.
+// Runs what the words ask for, and flushes what was written, also after a fault.
 fn run_and_flush<R: Files + AllocGlobal + Threads + Wait + Sync, I: Read, W: Write>(
     rt: &R,
     words: &Texts,
@@ -190,7 +190,7 @@ fn run_and_flush<R: Files + AllocGlobal + Threads + Wait + Sync, I: Read, W: Wri
     ensures words { OnOk result (IsToRun words.now ⊎ AsksHelp words.now) }
     ensures short { OnOk result (GaveAtMost I.remaining input.old input.new script_limit) }
 
-    // Which fault it is, and what it leaves.
+    // The fault, and what it leaves.
     ensures faulty { IsErrOf result ProgramFault.Words → IsFaulty words.now }
     ensures refused { MustBeRefused words.now → IsErrOf result ProgramFault.Words ⊎ IsErrOf result (ProgramFault.Run RunFault.OutOfMemory) }
     ensures unwritten { MustBeRefused words.now → Took W.contents output.old output.new [] }
@@ -202,7 +202,7 @@ fn run_and_flush<R: Files + AllocGlobal + Threads + Wait + Sync, I: Read, W: Wri
     ensures memory { IsErrOf result (ProgramFault.Run RunFault.OutOfMemory) → GivesWithin I.remaining input.old input.new script_limit }
     ensures replies { IsErrOf result (ProgramFault.Run RunFault.OutOfMemory) → AnswersReplies I.remaining W.contents words.now input.old output.old output.new }
 
-    // What is read.
+    // What is read of the input.
     ensures untouched { LeavesInput words.now input.old input.new }
     ensures at_most { GaveAtMost I.remaining input.old input.new (script_limit + 1) }
 {
@@ -212,12 +212,11 @@ fn run_and_flush<R: Files + AllocGlobal + Threads + Wait + Sync, I: Read, W: Wri
     Ok(flushed?)
 }
 
-/// Runs the program over its words, its name first, and three streams, and answers its exit status. 0: the script ran, or
-/// the help text was printed. 1: `read failed`, `write failed` or `out of memory`. 2: `faulty command line`. For a status
-/// other than 0 the error stream gets that as one line, after `betable: `.
+/// Runs the program with its words, of which the first is its name, and three streams, and returns its exit status. 0: the script ran, or the help text was
+/// printed. 1: `read failed`, `write failed` or `out of memory`. 2: `faulty command line`. If the status is not 0, one line with that text, after `betable: `,
+/// is written to the error stream.
 ///
-/// Where the words name no file, the input is the script: with status 0 the output has gained its replies, and with any
-/// other status a prefix of them.
+/// If the words name no file, the input is the script. With status 0 all of its replies are written to the output, and with any other status a prefix of them.
 pub fn program<R: Files + AllocGlobal + Threads + Wait + Sync, I: Read, W: Write, E: Write>(
     rt: &R,
     words: &Texts,
@@ -229,12 +228,12 @@ pub fn program<R: Files + AllocGlobal + Threads + Wait + Sync, I: Read, W: Write
     requires writes { has_failed output.old ≡ false }
     ensures status { result ≤ 2 }
 
-    // What the words name is the script: the input, or a file, whose bytes no contract knows.
+    // The script is the one that the words name: the input, or a file, whose bytes no contract knows.
     ensures ok { result ≡ 0 → AnswersScript I.remaining W.contents words.now input.old output.old output.new }
     ensures input { result ≡ 0 → IsToReadInput words.now → IsWholeRun I.remaining W.contents input.old input.new output.old output.new }
     ensures prefix { AnswersPrefix I.remaining W.contents words.now input.old output.old output.new }
 
-    // What each status says.
+    // What each status means.
     ensures words { result ≡ 0 → IsToRun words.now ⊎ AsksHelp words.now }
     ensures healthy { result ≡ 0 → AreHealthy input.new output.new }
     ensures short { result ≡ 0 → GaveAtMost I.remaining input.old input.new script_limit }
@@ -246,17 +245,17 @@ pub fn program<R: Files + AllocGlobal + Threads + Wait + Sync, I: Read, W: Write
     ensures refused { MustBeRefused words.now → (result ≡ 2) ⊎ (result ≡ 1) }
     ensures unwritten { MustBeRefused words.now → Took W.contents output.old output.new [] }
 
-    // Between any two commands of any script the table, where there is one, is sound.
+    // Between any two commands of any script the table, if there is one, is sound.
     ensures sound { (script : List ℕ) (n : ℕ) → IfSome (state_after_commands script n) IsSound }
     ensures complete { (script : List ℕ) (n : ℕ) → IfSome (state_after_commands script n) CompleteIndexesHold }
 
-    // What is read.
+    // What is read of the input.
     ensures untouched { LeavesInput words.now input.old input.new }
     ensures at_most { GaveAtMost I.remaining input.old input.new (script_limit + 1) }
 {
     let mut memory = RunMemory::new(rt.alloc());
     let ended = run_and_flush(rt, words, &mut memory, input, output);
-    // The process ends now, which gives the memory back at once: the nodes of the table are not walked for it.
+    // The process ends here, which frees all its memory at once; the nodes of the table are not visited to free them.
     mem::forget(memory);
     match ended {
         Ok(()) => 0,

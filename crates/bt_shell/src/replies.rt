@@ -16,7 +16,7 @@ use std::alloc::{AllocError, Global};
 use std::marker::Model;
 use std::mem;
 
-/// Adds a word, a number and a line end.
+/// Appends a word, a number and a line end.
 pub(crate) fn write_count(out: &mut Vec<u8>, word: &[u8], count: usize) -> Result<(), AllocError>
     ensures { OnOk result (out.new.items ≡ out.old.items ++ count_line word.now count) }
 {
@@ -26,7 +26,7 @@ pub(crate) fn write_count(out: &mut Vec<u8>, word: &[u8], count: usize) -> Resul
     Ok(())
 }
 
-// The room of a list, without its bytes.
+// The memory of a list, without its bytes.
 fn cleared(room: Vec<u8>) -> Vec<u8>
     ensures { result.items ≡ [] }
 {
@@ -35,7 +35,7 @@ fn cleared(room: Vec<u8>) -> Vec<u8>
     text
 }
 
-/// The reply that is a word, a number and a line end. As each reply here, it is written into the room of a list, whose bytes are dropped.
+/// The reply that is a word, a number and a line end. Like each reply here, it is written into the memory of a list, whose bytes are dropped.
 pub(crate) fn count_reply(
     alloc: Global,
     word: &[u8],
@@ -58,7 +58,7 @@ fn write_row_line(out: &mut Vec<u8>, row: &Row) -> Result<(), AllocError>
     Ok(())
 }
 
-// The reply that is the row of a key, where it has one.
+// The reply that is the row of a key, if there is one.
 fn row_reply(alloc: Global, row: Option<Row>, room: Vec<u8>) -> Result<ReplyText, AllocError>
     ensures { IfOk result (λ text. text ≡ spec.row_reply row) }
 {
@@ -71,7 +71,7 @@ fn row_reply(alloc: Global, row: Option<Row>, room: Vec<u8>) -> Result<ReplyText
     Ok(ReplyText::new(alloc, text))
 }
 
-// Adds the name of an index and how many messages it was sent, behind a space.
+// Appends a space, the name of an index and the number of messages that it was sent.
 fn write_sent(out: &mut Vec<u8>, sent: &SentCount) -> Result<(), AllocError>
     ensures { OnOk result (out.new.items ≡ out.old.items ++ spec.sent_text sent.now) }
 {
@@ -81,7 +81,7 @@ fn write_sent(out: &mut Vec<u8>, sent: &SentCount) -> Result<(), AllocError>
     write_number(out, sent.count as u64)
 }
 
-// Adds those of each index.
+// Appends the same for each index.
 fn write_each_sent(out: &mut Vec<u8>, sent: &[SentCount]) -> Result<(), AllocError>
     ensures { OnOk result (out.new.items ≡ out.old.items ++ flat_map spec.sent_text sent.now) }
 {
@@ -91,7 +91,7 @@ fn write_each_sent(out: &mut Vec<u8>, sent: &[SentCount]) -> Result<(), AllocErr
     Ok(())
 }
 
-// The reply that is the number of messages of a batch, and that of each index.
+// The reply that is the number of messages of a batch, and the number that each index was sent.
 fn batch_reply(
     alloc: Global,
     count: usize,
@@ -124,7 +124,7 @@ fn name_reply(
     Ok(ReplyText::new(alloc, text))
 }
 
-// The reply that is the name of an index, how many rows a step of its building read, and whether it is complete.
+// The reply that is the name of an index, the number of rows that a step of its building read, and whether it is complete.
 fn build_reply(
     alloc: Global,
     name: &Text,
@@ -172,7 +172,7 @@ pub(crate) fn reply_text(
     }
 }
 
-// Adds the line of a group.
+// Appends the line of a group.
 fn write_sum_line(out: &mut Vec<u8>, sum: &Sum) -> Result<(), AllocError>
     ensures { OnOk result (out.new.items ≡ out.old.items ++ sum_line sum.now) }
 {
@@ -186,7 +186,7 @@ fn write_sum_line(out: &mut Vec<u8>, sum: &Sum) -> Result<(), AllocError>
     Ok(())
 }
 
-// Adds the lines of groups.
+// Appends the lines of groups.
 fn write_sum_lines(out: &mut Vec<u8>, sums: &[Sum]) -> Result<(), AllocError>
     ensures { OnOk result (out.new.items ≡ out.old.items ++ flat_map sum_line sums.now) }
 {
@@ -196,7 +196,7 @@ fn write_sum_lines(out: &mut Vec<u8>, sums: &[Sum]) -> Result<(), AllocError>
     Ok(())
 }
 
-/// The reply that is the lines of groups, and then their number.
+/// The reply that is the lines of groups, followed by their number.
 pub(crate) fn sums_reply(
     alloc: Global,
     sums: &[Sum],
@@ -210,11 +210,11 @@ pub(crate) fn sums_reply(
     Ok(ReplyText::new(alloc, text))
 }
 
-/// Lines, written as the rows that they show come: one text, or where rows are gone through in parts, the text of each part, which no join copies. A contract
-/// sees all bytes and the number of lines.
+/// Lines that are written row by row. They are one text; if the rows are read in parts, they are one text for each part, and joining the parts copies none of
+/// them. A contract sees all bytes and the number of lines.
 #[derive(Drop)]
 pub struct Lines {
-    // The texts before the one at hand, in order.
+    // The texts before the current one, in order.
     pieces: Vec<Vec<u8>>,
     text: Vec<u8>,
     count: usize,
@@ -229,7 +229,7 @@ impl Model for Lines {
     ghost view = { λ l. (text_of_pieces l.pieces.items ++ l.text.items, l.count) };
 }
 
-// The number of lines with more of them. Each has a byte at least, and no memory holds more bytes than are counted.
+// The sum of two numbers of lines. A line has at least one byte, and memory never holds more bytes than a `usize` can count.
 fn add_count(count: usize, more: usize) -> Result<usize, AllocError>
     ensures { IfOk result (λ sum. sum ≡ count + more) }
 {
@@ -237,7 +237,7 @@ fn add_count(count: usize, more: usize) -> Result<usize, AllocError>
 }
 
 impl Lines {
-    /// No line, with the room of a list, whose bytes are dropped. Takes no memory.
+    /// No lines, in the memory of a list, whose bytes are dropped. Allocates nothing.
     pub fn in_room(alloc: Global, room: Vec<u8>) -> Self
         ensures { result ≡ ([], 0) }
     {
@@ -248,7 +248,7 @@ impl Lines {
         }
     }
 
-    /// The lines, and then a word and their number.
+    /// The lines, followed by a word and their number.
     pub fn into_reply(self, word: &[u8]) -> Result<ReplyText, AllocError>
         ensures { IfOk result (λ text. text ≡ self.0 ++ count_line word.now self.1) }
     {
@@ -296,7 +296,7 @@ impl ForkVisitor<Row> for Lines {
     ghost as_one = { λ lines rows behind. lines_as_one (λ row. spec.row_line row.1) lines rows behind };
 }
 
-// Adds the item of a refusal behind a space, where it has one.
+// Appends a space and the item of a refusal, if it has one.
 fn write_item(out: &mut Vec<u8>, item: Option<u64>) -> Result<(), AllocError>
     ensures { OnOk result (out.new.items ≡ out.old.items ++ item_text item) }
 {
@@ -307,7 +307,7 @@ fn write_item(out: &mut Vec<u8>, item: Option<u64>) -> Result<(), AllocError>
     write_number(out, item)
 }
 
-/// The reply to what is refused.
+/// The reply that is a refusal.
 pub(crate) fn refusal_reply(alloc: Global, refusal: Refusal) -> Result<ReplyText, AllocError>
     ensures { IfOk result (λ text. text ≡ refused_text refusal) }
 {

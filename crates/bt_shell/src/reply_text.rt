@@ -8,7 +8,7 @@ use std::alloc::Global;
 use std::io::Write;
 use std::marker::Model;
 
-/// The text of a reply. It may stand in several pieces, which are written one after the other and never copied into one. A contract sees all its bytes.
+/// The text of a reply. It may be in several pieces, which are written one after the other and never copied into one. A contract sees all its bytes.
 #[derive(Drop)]
 pub struct ReplyText {
     // The pieces before the last one, in order.
@@ -25,7 +25,7 @@ impl Model for ReplyText {
     ghost view = { λ t. text_of_pieces t.pieces.items ++ t.last.items };
 }
 
-// Writes pieces one after the other. After an error a prefix of their bytes is written.
+// Writes pieces one after the other. If it fails, a prefix of their bytes is written.
 fn write_pieces<W: Write>(writer: &mut Counted<W>, pieces: &[Vec<u8>]) -> Result<(), RunFault>
     ensures ok { OnOk result (Took W.contents writer.old writer.new (text_of_pieces pieces.now)) }
     ensures healthy { OnOk result (has_failed writer.new ≡ has_failed writer.old) }
@@ -39,21 +39,21 @@ fn write_pieces<W: Write>(writer: &mut Counted<W>, pieces: &[Vec<u8>]) -> Result
 }
 
 impl ReplyText {
-    /// A text in one piece. Takes no memory.
+    /// A text in one piece. Allocates nothing.
     pub fn new(alloc: Global, text: Vec<u8>) -> Self
         ensures { result ≡ text.items }
     {
         ReplyText::from_pieces(Vec::new(alloc), text)
     }
 
-    /// Pieces, and then the last one.
+    /// A text in several pieces, the last one given by itself.
     pub fn from_pieces(pieces: Vec<Vec<u8>>, last: Vec<u8>) -> Self
         ensures { result ≡ text_of_pieces pieces.items ++ last.items }
     {
         ReplyText { pieces, last }
     }
 
-    /// Writes all of the text. After an error a prefix of it is written. A write that fails is not tried again.
+    /// Writes all of the text. If it fails, a prefix of the text is written. A write that fails is not tried again.
     pub fn write_to<W: Write>(&self, writer: &mut Counted<W>) -> Result<(), RunFault>
         ensures ok { OnOk result (Took W.contents writer.old writer.new self.now) }
         ensures healthy { OnOk result (has_failed writer.new ≡ has_failed writer.old) }
@@ -64,7 +64,7 @@ impl ReplyText {
         write_text(writer, self.last.as_slice())
     }
 
-    /// The last piece, whose room a later text can take.
+    /// The last piece, so that a later text can be written into its memory.
     pub fn into_room(self) -> Vec<u8> {
         let ReplyText { last, .. } = self;
         last

@@ -1,4 +1,4 @@
-//! The run of a script.
+//! Running a script.
 ghost use Rattle.std.specs.Prelude.{◌≡◌, ◌+◌, ◌<◌, ◌^◌, false, true, flat_map, IfOk, IfSome, IsErrOf, OnErr, OnOk, ℕ, List, Some};
 ghost use Rattle.std.specs.Io.KnownBytes.{Keeps};
 ghost use Rattle.bt_script.specs.Commands.{commands};
@@ -32,7 +32,7 @@ pub(crate) fn flush_output<W: Write>(writer: &mut Counted<W>) -> Result<(), RunF
     Ok(())
 }
 
-// How many commands are refused, with one more that may be.
+// The number of refused commands after one more command.
 fn count_with(count: usize, refused: bool) -> usize
     requires { count + 1 < 2 ^ 64 }
     ensures { result ≡ count + one_where refused }
@@ -40,7 +40,7 @@ fn count_with(count: usize, refused: bool) -> usize
     if refused { count + 1 } else { count }
 }
 
-// What is true of a table between any two calls. Nothing is done.
+// What is true of a table between any two calls. It does nothing.
 fn soundness(table: &Option<Table>)
     ensures { IfSome table.now IsSoundUnlessLost }
 {
@@ -49,7 +49,7 @@ fn soundness(table: &Option<Table>)
     }
 }
 
-// What is true of all states and commands, and of those of a script. Nothing is done.
+// What is true of all states and commands, and of those of a script. It does nothing.
 fn laws(_script: &[u8])
     ensures one_run { (first : List ℕ) (before : State) → EndsBetweenCommands first → AreOneRun before first _script.now }
     ensures no_tree { NoTreeShows }
@@ -59,15 +59,15 @@ fn laws(_script: &[u8])
     ensures cuts { CutsDoNotShow }
 {}
 
-/// Carries out the commands of a script on a table that lives on, or on none so far, writes the reply to each of them and flushes these.
-/// Returns how many of the commands were refused.
+/// Carries out the commands of a script, writes the reply to each of them, and flushes the replies. The commands start from a table that outlives the run, or
+/// from none. Returns the number of commands that were refused.
 ///
-/// What is written are the replies that the commands have from that table on, by the definition `replies`, and the table is then what they leave of it. So
-/// the run of one script and then of another is the run of both as one, if the first ends between two commands. `Write`: the writer failed.
-/// `OutOfMemory`: a request for memory was refused, and no byte is written of the reply to the command at hand.
+/// The replies are those that the definition `replies` gives for the commands from that table on, and the table afterwards is the one that the commands leave.
+/// So the runs of two scripts, one after the other, are the run of both as one script, if the first ends between two commands. `Write`: the writer failed.
+/// `OutOfMemory`: an allocation failed, and no byte of the reply to the current command is written.
 ///
-/// After a fault the table is the one after the commands with whole replies or after one command more, or it is lost. A lost table stays lost, and each
-/// command on it but `table` is refused as `Failed`.
+/// After a fault the table is the one after the commands with whole replies, the one after one more command, or lost. A lost table stays lost, and each command
+/// on it except `table` is refused as `Failed`.
 pub fn run_commands<W: Write, T, C: ScriptWorkforce<T>>(
     rt: &T,
     alloc: Global,
@@ -84,22 +84,23 @@ pub fn run_commands<W: Write, T, C: ScriptWorkforce<T>>(
     ensures flushed { OnOk result (has_unflushed writer.new ≡ false) }
     ensures err { OnErr result (TookPrefix W.contents writer.old writer.new (replies table.old (commands script.now))) }
 
-    // Which fault it is, how many commands have their whole replies, and which table is left.
+    // The fault, the number of commands that have their whole replies, and the table that is left.
     ensures no_read { IsErrOf result RunFault.Read → ⊥ }
     ensures write { IsErrOf result RunFault.Write → (has_failed writer.new ≡ true) × StopsWithinReply (Took W.contents writer.old writer.new) table.old table.new script.now }
     ensures memory { IsErrOf result RunFault.OutOfMemory → (has_failed writer.new ≡ has_failed writer.old) × StopsBetweenReplies (Took W.contents writer.old writer.new) table.old table.new script.now }
 
-    // A lost table stays lost, and each command on it but `table` is refused as Failed.
+    // A lost table stays lost, and each command on it except `table` is refused as Failed.
     ensures lost { table.old ≡ Some Lost → (table.new ≡ Some Lost) × (replies table.old (commands script.now) ≡ flat_map lost_reply (commands script.now)) }
 
-    // Whatever the result is, the table is sound unless it is lost, and so each complete index holds exactly the entries that its definition selects from the rows.
+    // After any result the table is sound unless it is lost, and so each complete index holds exactly the entries that its definition selects from the rows.
     ensures sound { IfSome table.new IsSoundUnlessLost }
     ensures complete { IfSome table.new CompleteIndexesHold }
 
-    // This script after any that ends between two commands is the rest of one script.
+    // This script, after any script that ends between two commands, is the rest of one script.
     ensures one_run { (first : List ℕ) (before : State) → EndsBetweenCommands first → AreOneRun before first script.now }
 
-    // No reply but an image, and whether a load is taken, depends on trees, on shapes, on upkeep, or on how messages are cut into batches.
+    // The reply to an image depends on trees, and so does whether a load is accepted. No other reply depends on trees, shapes, upkeep or the cutting of
+    // batches.
     ensures no_tree { NoTreeShows }
     ensures upkeep { UpkeepKeepsContents }
     ensures shape { ShapeIsNoContent }
@@ -122,7 +123,7 @@ pub fn run_commands<W: Write, T, C: ScriptWorkforce<T>>(
     Ok(refused)
 }
 
-/// The replies to a script, each command of which is carried out in turn, from no table on.
+/// The replies to the commands of a script, which are carried out one after the other and begin with no table.
 pub fn replies_to<T, C: ScriptWorkforce<T>>(
     rt: &T,
     alloc: Global,
@@ -138,8 +139,7 @@ pub fn replies_to<T, C: ScriptWorkforce<T>>(
     Ok(writer.into_inner())
 }
 
-/// What a run has in memory between commands: the script, and the table where there is one. The caller says what becomes of
-/// it after the run.
+/// What a run has in memory between commands: the script, and the table if there is one. The caller decides whether it is freed after the run.
 #[derive(Drop)]
 pub(crate) struct RunMemory {
     script: Vec<u8>,
@@ -154,7 +154,7 @@ impl RunMemory {
         }
     }
 
-    // Runs a script, as `run_script` says, whatever it had before.
+    // Runs a script, as `run_script` says; what was here before is dropped.
     pub(crate) fn run<R: Read, W: Write, T, C: ScriptWorkforce<T>>(
         &mut self,
         context: &Context<'_, T, C>,
@@ -193,13 +193,13 @@ impl RunMemory {
     }
 }
 
-/// Runs a script: reads it whole, and then writes the reply to each of its commands and flushes them.
+/// Runs a script: reads all of it, then writes the reply to each of its commands and flushes them.
 ///
-/// What is written are the replies that the script has by the definition `run` for the bytes that the reader had, and after
-/// a fault a prefix of them. `Read`: the reader failed, or gave a byte over [`SCRIPT_LIMIT`](crate::SCRIPT_LIMIT), and nothing is written.
-/// `Write`: the writer failed. `OutOfMemory`: a request for memory was refused; the command at hand has written nothing.
+/// The replies are those of the definition `run` for the bytes that the reader had; after a fault a prefix of them is written. `Read`: the reader failed, or
+/// gave a byte over [`SCRIPT_LIMIT`](crate::SCRIPT_LIMIT), and nothing is written. `Write`: the writer failed. `OutOfMemory`: an allocation failed, and nothing
+/// of the reply to the current command is written.
 ///
-/// Whoever works, a crew of any number of workers or the caller alone, in whatever order they take their jobs, the replies are the same.
+/// The replies are the same for a crew of any number of workers and for the caller alone, and for any order in which workers take their jobs.
 pub fn run_script<R: Read, W: Write, T, C: ScriptWorkforce<T>>(
     rt: &T,
     alloc: Global,
@@ -216,7 +216,7 @@ pub fn run_script<R: Read, W: Write, T, C: ScriptWorkforce<T>>(
     ensures short { OnOk result (GaveAtMost R.remaining reader.old reader.new script_limit) }
     ensures flushed { OnOk result (has_unflushed writer.new ≡ false) }
 
-    // Which fault it is, and what it leaves.
+    // The fault, and what it leaves.
     ensures read { IsErrOf result RunFault.Read → FailsToGive R.remaining reader.old reader.new script_limit }
     ensures unread { IsErrOf result RunFault.Read → writer.new ≡ writer.old }
     ensures write { IsErrOf result RunFault.Write → has_failed writer.new ≡ true }
@@ -225,13 +225,13 @@ pub fn run_script<R: Read, W: Write, T, C: ScriptWorkforce<T>>(
     ensures within { IsErrOf result RunFault.OutOfMemory → GaveAtMost R.remaining reader.old reader.new script_limit }
     ensures replies { IsErrOf result RunFault.OutOfMemory → WritesReplies W.contents (R.remaining (source_of reader.old)) writer.old writer.new }
 
-    // Between any two commands of any script the table, where there is one, is sound.
+    // Between any two commands of any script the table, if there is one, is sound.
     ensures sound { (script : List ℕ) (n : ℕ) → IfSome (state_after_commands script n) IsSound }
 
     // So each complete index holds exactly the entries that its definition selects from the rows.
     ensures complete { (script : List ℕ) (n : ℕ) → IfSome (state_after_commands script n) CompleteIndexesHold }
 
-    // No more than one byte over the limit is read.
+    // At most one byte over the limit is read.
     ensures at_most { GaveAtMost R.remaining reader.old reader.new (script_limit + 1) }
 {
     RunMemory::new(alloc).run(&Context { rt, alloc, crew }, reader, writer)

@@ -24,7 +24,7 @@ use bt_table::{Reply, Table};
 use bt_value::{Refusal, Text};
 use std::alloc::{AllocError, Global};
 
-// A shape whose buffers have this capacity, within the limits.
+// A shape with buffers of this capacity, if it is within the limits.
 fn shape_of(fanout: u32, buffer: Capacity, leaf: u32) -> Result<Shape, Refusal>
     ensures ok { IfOk result (λ shape. shape ≡ step.shape_of fanout buffer leaf) }
     ensures allowed { IfOk result (λ _. step.is_allowed (step.shape_of fanout buffer leaf) ≡ true) }
@@ -36,7 +36,7 @@ fn shape_of(fanout: u32, buffer: Capacity, leaf: u32) -> Result<Shape, Refusal>
     }
 }
 
-// The text of what a call on the table returns.
+// The text of the result of a call on the table.
 fn call_text(
     alloc: Global,
     reply: Result<Reply, Refusal>,
@@ -48,7 +48,7 @@ fn call_text(
     Ok(reply_text(alloc, reply?, room)?)
 }
 
-// The definition of a new index, or the least refusal of its name and of what it is made of.
+// The definition of a new index, or the smallest refusal of its name and of its parts.
 fn index_def(alloc: Global, table: &Table, form: &IndexForm) -> Result<IndexDef, Refusal>
     ensures answer { Answers (step.definition_of table.now form.now) result }
     ensures suits { IfOk result (λ def. Suits table.now def) }
@@ -81,7 +81,7 @@ fn create_index(
     call_text(alloc, table.create_index(alloc, name, def?), room)
 }
 
-// Writes the rows of a range as lines, into the room of a list.
+// Writes the rows of a range as lines, into the memory of a list.
 fn scan<T, C: ScriptWorkforce<T>>(
     context: &Context<'_, T, C>,
     table: &Table,
@@ -97,7 +97,7 @@ fn scan<T, C: ScriptWorkforce<T>>(
     Ok(lines.into_reply(b"rows ")?)
 }
 
-// Writes the groups of a range as lines, into the room of a list.
+// Writes the groups of a range as lines, into the memory of a list.
 fn sums<T, C: ScriptWorkforce<T>>(
     context: &Context<'_, T, C>,
     table: &Table,
@@ -118,7 +118,7 @@ fn image(alloc: Global, table: &Table, name: &Text) -> Result<ReplyText, Refusal
     Ok(ReplyText::new(alloc, bt_view::image(alloc, table, name)?))
 }
 
-// The reply to a command where there is a table, or its refusal. All replies but an image are written into the room of a list.
+// The reply to a command on an existing table, or its refusal. All replies except an image are written into the memory of a list.
 fn reply_of_table<T, C: ScriptWorkforce<T>>(
     context: &Context<'_, T, C>,
     table: &mut Table,
@@ -156,7 +156,7 @@ fn reply_of_table<T, C: ScriptWorkforce<T>>(
     }
 }
 
-// Makes the table, where there is none so far.
+// Creates the table, if there is none so far.
 fn create_table(
     alloc: Global,
     table: &mut Option<Table>,
@@ -177,7 +177,7 @@ fn create_table(
     Ok(text)
 }
 
-// The reply to a command that is not refused, or its refusal.
+// The result of a command, or its refusal.
 fn command_reply<T, C: ScriptWorkforce<T>>(
     context: &Context<'_, T, C>,
     table: &mut Option<Table>,
@@ -215,7 +215,7 @@ fn refusal_answer(alloc: Global, refusal: Refusal) -> Result<CommandReply, Alloc
     })
 }
 
-// The reply to a command, and what the command does. An `Err` is for a refused request for memory.
+// The reply to a command, after it is carried out. An `Err` means that an allocation failed.
 fn take_turn<T, C: ScriptWorkforce<T>>(
     context: &Context<'_, T, C>,
     table: &mut Option<Table>,
@@ -238,10 +238,10 @@ fn take_turn<T, C: ScriptWorkforce<T>>(
     }
 }
 
-/// The reply to the command at a place, with the place after it, or `None` if there is none further. An `Err` is for a refused request for memory: the table is
-/// as it was, as the command leaves it, or lost.
+/// The reply to the command at a place, with the place after it, or `None` if there are no more commands. An `Err` means that an allocation failed: the table
+/// is as it was, as the command leaves it, or lost.
 ///
-/// The reply takes the room of a list, such as the reply before it, so that replies one after the other ask for it once.
+/// The reply is written into the memory of a list, such as the reply before it, so that replies one after the other allocate it once.
 pub(crate) fn next_reply<T, C: ScriptWorkforce<T>>(
     context: &Context<'_, T, C>,
     script: &[u8],

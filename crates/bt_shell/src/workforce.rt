@@ -1,4 +1,4 @@
-//! Who works for a script: the caller alone, or a crew.
+//! Who works on a script: the caller alone, or a crew.
 ghost use Rattle.std.specs.Prelude.{◌≡◌, ◌≢◌, fold, IfErr, IsErrOf, None};
 ghost use Rattle.bt_value.specs.Answers.{Answers};
 ghost use Rattle.bt_value.specs.Results.{map_ok};
@@ -18,10 +18,10 @@ use std::alloc::Global;
 use std::sync::Wait;
 use std::thread::Threads;
 
-/// Who works for a script: a [`Workforce`], which also reads. The type of what is shown the rows is named here, since a crew hands it to threads, and inside an
-/// `impl` it is not known of a type parameter that a thread may have it. Whoever works, the calls have the same clauses.
+/// Who works on a script: a [`Workforce`] that also reads. The type of the visitor of the rows is named here, because a crew passes it to threads, and inside
+/// an `impl` it is not known that a thread may have the value of a type parameter. The calls have the same clauses for either.
 pub trait ScriptWorkforce<T>: Workforce<T> {
-    /// Writes the rows of a tree between two bounds as lines, behind those that there are.
+    /// Appends the rows of a tree between two bounds to some lines.
     fn scan(
         &self,
         rt: &T,

@@ -1,4 +1,4 @@
--- Two scripts one after the other, of which the first ends between two commands: for the law of runs.
+-- Two scripts one after the other; the first ends between two commands. Serves the law of runs.
 use Rattle.std.proofs.Common.{ℕ, true, List, [], ◌∷◌, ◌++◌, ◌≡◌, ◌==◌, ◌∙◌, refl, sym, ap, append_assoc, inl, inr}
 use Rattle.std.proofs.lemmas.Bool.{cases_Bool}
 use Rattle.std.specs.List.{onto_first}
@@ -12,7 +12,7 @@ use Rattle.bt_shell.proofs.Turns.{after_commands-append, replies-append}
 onto_first-append : (b : ℕ) (some more : List (List ℕ)) (line : List ℕ) (rest : List (List ℕ)) → some ≡ line ∷ rest → onto_first b (some ++ more) ≡ onto_first b some ++ more
 onto_first-append b some more line rest is = rw is refl
 
--- where bytes are, a line is
+-- if there is a byte, there is a line
 onto_some : (b : ℕ) (others : List (List ℕ)) → (line : List ℕ) × ((rest : List (List ℕ)) × (onto_first b others ≡ line ∷ rest))
 onto_some b [] = (b ∷ [], ([], refl))
 onto_some b (line ∷ rest) = (b ∷ line, (rest, refl))

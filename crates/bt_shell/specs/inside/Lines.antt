@@ -6,7 +6,7 @@ use Rattle.bt_node.specs.Folds.{joined_as_one}
 abbrev pub with_line : {T : Type 0} → (T → List ℕ) → List ℕ × ℕ → T → List ℕ × ℕ
 with_line line lines item = (lines.0 ++ line item, lines.1 + 1)
 
--- lines and their number, with those behind
+-- lines and their number, followed by others
 abbrev pub with_lines : List ℕ × ℕ → List ℕ × ℕ → List ℕ × ℕ
 with_lines lines behind = (lines.0 ++ behind.0, lines.1 + behind.1)
 

@@ -1,4 +1,4 @@
--- What it is that a command is carried out, is refused, is cut short, and is answered in its turn.
+-- When a command is carried out, refused, cut short, or replied to as the next of a script.
 use Rattle.std.specs.Prelude.{ℕ, ◌≡◌, ◌≢◌, ◌⊎◌, Bool, List, ◌∷◌, Some, Result, Ok, Err}
 use Rattle.bt_value.specs.declared.refusal.Refusal.{Refusal}
 use Rattle.bt_value.specs.declared.refusal.Refusal.TheVariants.{OutOfMemory}
@@ -7,16 +7,16 @@ use Rattle.bt_script.specs.declared.command.Command.{Command}
 use Rattle.bt_table.specs.Tables.{Lost}
 use Rattle.bt_shell.specs.Steps.{State, has_refusal, outcome, turn}
 
--- A command leaves this table and is answered by this text, or it is refused so and leaves the table as it was, unless memory was wanting.
+-- A command leaves this table and gives this text as its reply, or it is refused like this and leaves the table as it was, unless memory ran out.
 abbrev pub CarriesOut : State → State → Command → Result (List ℕ) Refusal → Type 0
 CarriesOut old new command (Ok text) = outcome old command ≡ Ok (new, text)
 CarriesOut old new command (Err refusal) = refusal ≢ OutOfMemory → (outcome old command ≡ Err refusal) × (new ≡ old)
 
--- A command for which memory is refused leaves the table as it was, as the command leaves it, or lost.
+-- A command that runs out of memory leaves the table as it was, as the command leaves it, or lost.
 abbrev pub IsCutShort : State → State → Command → Type 0
 IsCutShort old new command = (new ≡ old) ⊎ (new ≡ (turn old (Ok command)).0) ⊎ (new ≡ Some Lost)
 
--- one turn: the first of these commands is answered by a text, a refusal or none, and leaves a table, and then come the others
+-- one command: the first of these commands has a text as its reply, is refused or not, and leaves a table, and the others follow
 pub record IsTurn (old new : State) (all others : List Answer) (text : List ℕ) (refused : Bool) : Type 0 where
   pub answer : Answer
   pub first : all ≡ answer ∷ others

@@ -17,7 +17,7 @@ has_status : (fault : ProgramFault) → status_of fault ≡ 0 → ⊥
 has_status Words none = omega (arith, none)
 has_status (Run fault) none = omega (arith, none)
 
--- what is said of each fault, of the one that it is
+-- for each fault its cause
 cause_of : {T I W : Type 0} (remaining : I → Option (List ℕ)) (contents : W → Option (List ℕ)) (words : List (List ℕ)) (input read : Counted I) (output written : Counted W) (fault : ProgramFault)
     → (IsErrOf {T = T} (Err fault) Words → IsFaulty words)
     → (IsErrOf {T = T} (Err fault) (Run Read) → IsToRun words)

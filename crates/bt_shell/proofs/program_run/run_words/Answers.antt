@@ -3,7 +3,7 @@ use Rattle.bt_script.specs.Streams.{source_of}
 use Rattle.bt_shell.proofs.Turns.{nothing_replied, nothing_written}
 use Rattle.bt_shell.proofs.program_run.run_words.Goals as goal
 
--- the words are not read for want of memory, and nothing is written
+-- the words are not read because memory runs out, and nothing is written
 pub returns-in-Err-OutOfMemory-clause-err : goal.returns-in-Err-OutOfMemory-clause-err
 returns-in-Err-OutOfMemory-clause-err g c =
     let held = g.W.Write.contents in

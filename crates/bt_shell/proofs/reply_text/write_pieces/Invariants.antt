@@ -4,7 +4,7 @@ use Rattle.bt_shell.specs.inside.Pieces.{text_of_pieces}
 use Rattle.bt_shell.proofs.Written.{HasWritten}
 use Rattle.bt_shell.proofs.reply_text.write_pieces.Given as goal
 
--- the pieces so far are written, and then come the others
+-- the pieces so far are written, and the others follow
 abbrev pub invariant-loop-piece : goal.invariant-loop-piece
 invariant-loop-piece g l = record {
   healthy : has_failed l.writer ≡ has_failed l.fn.writer;

@@ -16,7 +16,7 @@ commands-init g c = record {
   so_far = run_begins g.W.Write.contents c.args.writer.now c.args.table.now (commands c.args.script.now) (Took-nil g.W.Write.contents c.args.writer.now (omega arith));
 }
 
--- ---- memory is refused at the next command
+-- ---- out of memory at the next command
 
 pub returns-in_err-reply-clause-err : goal.returns-in_err-reply-clause-err
 returns-in_err-reply-clause-err g c =

@@ -5,7 +5,7 @@ use Rattle.bt_shell.specs.Runs.{refused_count}
 use Rattle.bt_shell.proofs.Turns.{HasRun}
 use Rattle.bt_shell.proofs.script_run.run_commands.Given as goal
 
--- some commands are answered in whole, and the others are those from here on
+-- some commands have their whole replies, and the others are those from here on
 abbrev pub invariant-commands : goal.invariant-commands
 invariant-commands g l = record {
   counted : refused_count l.fn.table (commands l.script) ≡ l.refused + refused_count l.table (commands (drop l.at l.script));

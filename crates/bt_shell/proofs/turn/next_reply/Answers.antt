@@ -22,7 +22,7 @@ returns-in_ok-reply-in-Good-clause-step g c = record {
   judged = c.in_ok-reply-in-Good.ensures.refused;
 }
 
--- memory is refused: no command is read, its refusal has no text, or the command is cut short
+-- out of memory: no command is read, its refusal has no text, or the command is cut short
 pub returns-in_err-parse_command-clause-left : goal.returns-in_err-parse_command-clause-left
 returns-in_err-parse_command-clause-left g c = on_err c.from_residual.result _ (left_as_it_was c.args.table.now c.args.table.now (commands (drop c.args.at c.args.script.now)) refl)
 
