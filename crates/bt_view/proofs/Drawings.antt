@@ -11,7 +11,7 @@ use Rattle.bt_view.specs.Images.{deeper, inner_line, message_line, node_text, ot
 pub same_item : {X : Type 0} (x y : X) → Some x ≡ Some y → x ≡ y
 same_item x y is = cc
 
--- one more of the lines of some items
+-- the lines of one more item
 pub lines_more : {X : Type 0} (f : X → List ℕ) (xs : List X) (i : ℕ) (x : X) → slice_get xs i ≡ Some x → flat_map f (take (suc i) xs) ≡ flat_map f (take i xs) ++ f x
 lines_more f [] i x is = cc
 lines_more f (y ∷ ys) zero x is = append-nil (f y) ∙ ap f (same_item y x is)
@@ -77,7 +77,7 @@ highest_last t i most before after past was step =
     let all = height_listed t in
     omega (arith, whole, all, was, step)
 
--- by what stands behind the key of a value, and behind that of an upsert
+-- for the text after the key of a value, and after that of an upsert
 module _ {V D : Type 0} (value_text : V → List ℕ) (delta_text : D → List ℕ) where
   -- the lines of one more child
   pub siblings_more : (indent : List ℕ) (place : ℕ) (xs : Siblings V (Message V D)) (i : ℕ) (x : Key × Tree V (Message V D)) → slice_get xs i ≡ Some x
@@ -97,7 +97,7 @@ module _ {V D : Type 0} (value_text : V → List ℕ) (delta_text : D → List �
       ap (λ (l : List ℕ). pivot_line indent k ++ (node_text value_text delta_text indent t ++ l)) (others_listed indent (suc place) ns)
       ∙ sym (append_assoc (pivot_line indent k) (node_text value_text delta_text indent t) (siblings_text value_text delta_text indent (suc (suc place)) (children ns)))
 
-  -- a node has its own lines, and then those of its children
+  -- a node has its own lines, followed by those of its children
   node_listed : (indent : List ℕ) (t : Tree V (Message V D)) → node_text value_text delta_text indent t ≡ own_text value_text delta_text indent (deeper indent) t ++ siblings_text value_text delta_text (deeper indent) 0 (children_of t)
   node_listed indent (leaf rows) = sym (append-nil _)
   node_listed indent (inner none buffer) =
@@ -110,7 +110,7 @@ module _ {V D : Type 0} (value_text : V → List ℕ) (delta_text : D → List �
       ap (λ (l : List ℕ). own ++ (lines ++ (node_text value_text delta_text (deeper indent) t ++ l))) (others_listed (deeper indent) 0 ns)
       ∙ sym (append_assoc own lines (node_text value_text delta_text (deeper indent) t ++ siblings_text value_text delta_text (deeper indent) 1 (children ns)))
 
-  -- one more child, behind its pivot, was added
+  -- one more child, after its pivot, was added
   pub child_written : (xs : Siblings V (Message V D)) (i : ℕ) (below : List ℕ) (child : Tree V (Message V D)) (out own before mid after : List ℕ)
       → option_map (λ p. p.1) (slice_get xs i) ≡ Some child → mid ≡ before ++ pivot_text below i (slice_get xs i) → after ≡ mid ++ node_text value_text delta_text below child
       → before ≡ out ++ (own ++ siblings_text value_text delta_text below 0 (take i xs)) → after ≡ out ++ (own ++ siblings_text value_text delta_text below 0 (take (i + 1) xs))

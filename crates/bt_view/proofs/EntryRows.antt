@@ -20,7 +20,7 @@ use Rattle.bt_view.specs.declared.range.KeyRange.{KeyRange}
 use Rattle.bt_view.specs.declared.shown.Shown.{Shown}
 
 module _ (kinds : List Kind) where
-  -- rows under the keys of entries, each what its entry shows
+  -- rows under the keys of entries, each the row that its entry shows
   abbrev pub AreShown : Rows (List Value) → Rows (List Value) → Type 0
   AreShown [] [] = Unit {0}
   AreShown [] (r ∷ rs) = ⊥
@@ -78,7 +78,7 @@ module _ (kinds : List Kind) where
       ap (λ row. cons_option (option_map (λ row. (e.0, row)) row) (rows_of_entries kinds es)) all.1
       ∙ ap (λ k. (k, r.1) ∷ rows_of_entries kinds es) all.0 ∙ ap (λ rows. r ∷ rows) (shown-rows es rs all.2)
 
--- what a visitor of rows is after the entries by which rows are shown
+-- a visitor of rows after the entries that rows are shown by
 pub gone-through : {S : Type 0} (visited : S → Key × List Value → S) (rows : Shown) (visitor : S) (kinds : List Kind) (entries : Rows (List Value)) (old new : List Kind × S) → rows_shown rows ≡ rows_of_entries kinds entries
     → ◌≡◌ {A = List Kind × S} old (kinds, visitor) → ◌≡◌ {A = List Kind × S} new (fold (after_entry visited) old entries) → new.1 ≡ fold visited visitor (rows_shown rows)
 gone-through {S} visited rows visitor kinds entries old new shows begins is =

@@ -49,7 +49,7 @@ before-later : (j k : Key) (sums : List Sum) → is_before j k ≡ true → AreB
 before-later j k [] later before = tt
 before-later j k (s ∷ sums) later before = (before_chain (code_of s.group) j k before.0 later, before-later j k sums later before.1)
 
--- a key behind another one
+-- a key after another one
 behind : (j k : Key) → is_before j k ≡ true → key_cmp k j ≡ Greater
 behind j k before = total_keys.antisymm k j ∙ ap ordering_reverse (is_less (key_cmp j k) before)
 
@@ -92,7 +92,7 @@ module _ (columns place : ℕ) (kinds : List Kind) where
   abbrev IsGroup : List Value → Type 0
   IsGroup group = (map kind_of group ≡ kinds) × AreInRange group
 
-  -- what is left to be shown of rows
+  -- the rows that are left give the same groups by code and one after the other
   abbrev IsAll : List (List Value) → List Sum → Sum → Type 0
   IsAll rows sums sum = fold (and_row columns place) (Some (entries (listed sums sum))) rows ≡ option_map entries (fold (grouped columns place) (Some (listed sums sum)) rows)
 
@@ -132,7 +132,7 @@ module _ (columns place : ℕ) (kinds : List Kind) where
             absurd (true≢false (sym (same_values-complete sum.group (take columns row) same) ∙ other))
       ]
 
-      -- what becomes of the groups at hand, by whether the row is of the last
+      -- the groups so far with one more row, by whether it belongs to the last of them
       last_with : Bool → Groups
       last_with same = if same then option_map (λ both. both ∷ []) (if nat_le (sum.count + 1) most_rows then Some more else None) else Some (sum ∷ group_of columns place row ∷ [])
 

@@ -21,20 +21,20 @@ use Rattle.bt_view.specs.Groups.{first_values, groups_of, most_rows, number_in, 
 use Rattle.bt_view.specs.inside.Neighbours.{group_of, with_more}
 use Rattle.bt_view.specs.declared.groups.Sum.{Sum}
 
--- whether two keys are one
+-- whether two keys are equal
 abbrev is_key : Key → Key → Bool
 is_key = eq_by_cmp key_cmp
 
 is_itself : (k : Key) → is_key k k ≡ true
 is_itself k = ap is_eq (tied_itself total_keys k)
 
--- groups by the codes of their first values, with a row that is added to its group, or is the first of it
+-- groups by the codes of their first values, with a row that is added to its group, or is the first of a new one
 abbrev pub added_to : ℕ → ℕ → Rows Sum → List Value → Option Sum → Option (Rows Sum)
 added_to columns place groups row None = Some (put key_cmp (code_of (take columns row)) (group_of columns place row) groups)
 added_to columns place groups row (Some sum) =
     option_map (λ sum. put key_cmp (code_of (take columns row)) sum groups) (with_more sum 1 (number_in row place))
 
--- there are none, once a group has more rows than are counted
+-- no groups are left once one has more rows than can be counted
 abbrev pub and_row : ℕ → ℕ → Option (Rows Sum) → List Value → Option (Rows Sum)
 and_row columns place None row = None
 and_row columns place (Some groups) row = added_to columns place groups row (find key_cmp (code_of (take columns row)) groups)
@@ -101,7 +101,7 @@ module _ (columns place : ℕ) where
   rows-more : (q : Key) (rows : List (List Value)) (row : List Value) → rows_of q (rows ++ row ∷ []) ≡ rows_of q rows ++ cond (is_key q (code row)) (row ∷ []) []
   rows-more q rows row = filter-append (λ r. is_key q (code r)) rows (row ∷ [])
 
-  -- what is found of a key in the groups of rows
+  -- what is found under a key in the groups of rows
   abbrev expected : List (List Value) → Key → Option (Sum)
   expected rows q = option_map (λ v. sum_with rows (q, v)) (find key_cmp q (pairs rows))
 

@@ -45,7 +45,7 @@ module _ (schema : Schema) where
 
 -- ---- the first column of a name
 
--- what was found, counted from so many places before
+-- what was found, counted from an earlier place
 abbrev pub later : ℕ → Option (ℕ × Kind) → Option (ℕ × Kind)
 later n found = option_map (λ f. (n + f.0, f.1)) found
 

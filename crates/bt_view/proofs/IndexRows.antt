@@ -1,4 +1,4 @@
--- The rows of an index stand under their keys as those of a table do, and are what its entries show. Serves scans and sums of an index.
+-- The rows of an index are under their keys as those of a table are, and are what its entries show. Serves scans and sums of an index.
 use Rattle.std.proofs.Common.{◌≡◌, ◌∙◌, ◌≤◌, ◌<◌, ℕ, zero, suc, arith, Bool, true, false, true≢false, T, List, [], ◌∷◌, ◌++◌, Option, Some, None, refl, sym, ap, subst, append_assoc, length, map, take, ◌&&◌, if◌then◌else◌}
 use Rattle.std.proofs.lemmas.List.{length-append, length-map, length-take, take_at}
 use Rattle.std.specs.Cmp.Lexicographic.{as_long}

@@ -1,4 +1,4 @@
--- What a range of an index is answered with. Serves scans and sums of an index.
+-- The result of reading a range of an index. Serves scans and sums of an index.
 use Rattle.std.proofs.Common.{◌≡◌, ◌≢◌, ◌∙◌, ◌≤◌, ◌<◌, ℕ, arith, length, Bool, true, false, List, [], Option, Some, Result, Ok, Err, ap, fold, map, refl, subst, sym, take, if◌then◌else◌}
 use Rattle.std.proofs.lemmas.List.{length-map}
 use Rattle.std.specs.List.{All}
@@ -55,12 +55,12 @@ module _ (table : PlainTable) (index : Index) (from to : Option (List (List ℕ)
   done (Ok range) false own is = cc
   done (Err e) whole own is = cc
 
-  -- by the columns of a schema that is the table's
+  -- the range by the columns of a schema that is the table's
   abbrev pub range_by : Schema → Result KeyRange Refusal
   range_by schema = range_as (take (index_schema schema index.def).keys (index_schema schema index.def).columns) from to
 
   module _ (schema : Schema) (shows : ShowsIndex table schema index) where
-    -- unless memory was wanting
+    -- unless memory ran out
     pub scan_refused : (refusal : Refusal) → (refusal ≢ OutOfMemory → and_then (when_whole index.cover) (range_by schema) ≡ Err refusal) → refusal ≢ OutOfMemory → scan_with_keys_of from to (Secondary table index) ≡ Err refusal
     scan_refused refusal is certain =
         refused range (is_whole index.cover) refusal (subst (λ s. and_then (when_whole index.cover) (range_by s) ≡ Err refusal) shows.schema_is (is certain))

@@ -1,4 +1,4 @@
--- Groups behind others: the last of these and the first of those behind. Serves what groups rows.
+-- Groups after others: the last of the first ones and the first of the following ones. Serves the code that groups rows.
 use Rattle.std.proofs.Common.{◌≡◌, ◌<◌, Bool, true, false, if◌then◌else◌, List, [], ◌∷◌, ◌++◌, Some, None, option_map, get_or, set, length, append_assoc, refl, sym, subst, ap, ◌∙◌, arith}
 use Rattle.bt_value.specs.Values.{same_values}
 use Rattle.bt_view.specs.inside.Neighbours.{AreBounded, Groups, IsBounded, groups_then, with_more}
@@ -12,7 +12,7 @@ last_then (s ∷ r ∷ sums) last behind =
     ap (option_map (λ groups. s ∷ groups)) (last_then (r ∷ sums) last behind)
     ∙ elim (groups_then (last ∷ []) behind) as (λ z. option_map (λ groups. s ∷ groups) (option_map (λ groups. r ∷ (sums ++ groups)) z) ≡ option_map (λ groups. s ∷ r ∷ (sums ++ groups)) z) [ None ↦ refl | Some x ↦ refl ]
 
--- Groups, of which one is the last, and others behind, of which one is the first.
+-- Groups with their last one, and the groups after them with their first one.
 pub record AreBehind (groups sums : List Sum) (last : Sum) (behind : List Sum) (first : Sum) : Type 0 where
   pub begin : groups ≡ sums ++ last ∷ []
   pub some : 0 < length behind
@@ -27,14 +27,14 @@ module _ (groups sums : List Sum) (last : Sum) where
   opened same first others begin is =
       ap (λ all. groups_then all (first ∷ others)) begin ∙ last_then sums last (first ∷ others) ∙ ap (λ same. option_map (λ groups. sums ++ groups) (by_test same last first others)) is
 
-  -- they are the same, and have too many rows
+  -- both are the same group, which would have too many rows
   pub last_over : (behind : List Sum) (first : Sum) → AreBehind groups sums last behind first → same_values last.group first.group ≡ true → with_more last first.count first.total ≡ None → groups_then groups behind ≡ None
   last_over [] first are is over = absurd (omega (arith, are.some))
   last_over (t ∷ ts) first are is over =
       opened true t ts are.begin (ap (λ (x : Sum). same_values last.group x.group) (sym are.one) ∙ is)
       ∙ ap (λ both. option_map (λ groups. sums ++ groups) (option_map (λ both. both ∷ ts) both)) (ap (λ (x : Sum). with_more last x.count x.total) (sym are.one) ∙ over)
 
-  -- they are the same
+  -- both are the same group
   pub last_same : (behind : List Sum) (first both : Sum) → AreBehind groups sums last behind first → same_values last.group first.group ≡ true → with_more last first.count first.total ≡ Some both
       → groups_then groups behind ≡ Some (sums ++ set behind 0 both)
   last_same [] first both are is fits = absurd (omega (arith, are.some))
@@ -42,7 +42,7 @@ module _ (groups sums : List Sum) (last : Sum) where
       opened true t ts are.begin (ap (λ (x : Sum). same_values last.group x.group) (sym are.one) ∙ is)
       ∙ ap (λ both. option_map (λ groups. sums ++ groups) (option_map (λ both. both ∷ ts) both)) (ap (λ (x : Sum). with_more last x.count x.total) (sym are.one) ∙ fits)
 
-  -- they are not
+  -- they are different groups
   pub last_other : (behind : List Sum) (first : Sum) → AreBehind groups sums last behind first → same_values last.group first.group ≡ false → groups_then groups behind ≡ Some ((sums ++ last ∷ []) ++ behind)
   last_other [] first are is = absurd (omega (arith, are.some))
   last_other (t ∷ ts) first are is =

@@ -26,7 +26,7 @@ use Rattle.bt_view.specs.declared.range.KeyRange.{KeyRange}
 abbrev NotBehind : Ordering → Type 0
 NotBehind o = (o ≡ Less) ⊎ (o ≡ Equal)
 
--- where a list of values comes before another one, its first values do not come behind those of the other
+-- if a list of values comes before another one, its first values do not come after those of the other
 firsts : (n : ℕ) (vs ws : List Value) → T (is_lt (values_cmp vs ws)) → NotBehind (values_cmp (take n vs) (take n ws))
 firsts zero vs ws before = inr refl
 firsts (suc n) [] [] before = absurd before

@@ -29,13 +29,13 @@ of_rows columns place kinds rows ascend =
     ∙ ap (or_refused TooMany) (fold-map (grouped columns place) (λ row. row.1) (Some []) rows)
     ∙ sym (ap (λ (g : ℕ × ℕ × Groups). or_refused TooMany g.2) (columns_stay columns place (Some []) rows))
 
--- what is shown is these rows, and is grouped so
+-- the rows that are shown are these, and they are grouped like this
 pub of_shown : (answer : Result (List Sum) Refusal) (begin groups : ℕ × ℕ × Groups) (rows shown : Rows (List Value)) → answer ≡ or_refused TooMany (fold after_row begin rows).2
     → ◌≡◌ {A = ℕ × ℕ × Groups} groups begin → shown ≡ rows → answer ≡ or_refused TooMany (fold after_row groups shown).2
 of_shown answer begin groups rows shown is begins shows =
     is ∙ sym (ap (λ (g : ℕ × ℕ × Groups). or_refused TooMany (fold after_row g rows).2) begins) ∙ sym (ap (λ rows. or_refused TooMany (fold after_row groups rows).2) shows)
 
--- of what is refused for too many rows alone, no other refusal comes
+-- an answer that is refused only because a group has too many rows has no other refusal
 pub only_too_many : (P : Refusal → Type 0) (answer : Result (List Sum) Refusal) (groups : Groups) → answer ≡ or_refused TooMany groups → IfErr answer (λ refusal. refusal ≢ TooMany → P refusal)
 only_too_many P answer groups is = subst (λ answer. IfErr answer (λ refusal. refusal ≢ TooMany → P refusal)) (sym is) (of_groups groups)
   where

@@ -33,7 +33,7 @@ with_cover cover = Intact (record (empty_table stock (record { fanout = 4; buffe
   indexes = record { name = codes "q"; def = record { on = 1 ∷ []; include = 2 ∷ []; condition = None; keys = 1 }; cover = cover; tree = (record { fanout = 4; buffer = 3; leaf = 2; measure = measures.Messages }, leaf []) } ∷ [];
 })
 
--- its columns, those of the key, the included ones; by rising qty, and then by key
+-- the columns that it is ordered by, those of the key, and the included ones; in ascending order of qty, and then of the key
 pub rows_of_index : scan (with_cover Whole) (codes "q") None None ≡ Ok (row 10 2 7 ∷ row 20 1 7 ∷ row 20 3 7 ∷ [])
 unfolding eight_bytes values_on_literals
 rows_of_index = refl
@@ -48,7 +48,7 @@ pub sums_of_index : sums (with_cover Whole) (codes "q") 1 (codes "id") None None
 unfolding eight_bytes values_on_literals
 sums_of_index = refl
 
--- a bound is read before a building index is refused, and that before a group of more columns than its key
+-- a bad bound is refused before a building index, and that before a group of more columns than the key
 pub wrong_bound : scan (with_cover (UpTo (code_of (value.Int (pos 3) ∷ [])))) (codes "q") None (Some (codes "x" ∷ [])) ≡ Err (BadField 2)
 unfolding eight_bytes values_on_literals
 wrong_bound = refl

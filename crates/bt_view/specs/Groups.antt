@@ -20,7 +20,7 @@ use Rattle.bt_value.specs.Results.{and_then}
 use Rattle.bt_view.specs.Ranges.{range_of, rows_of_tree, rows_within, schema_of}
 use Rattle.bt_view.specs.declared.groups.Sum.{Sum}
 
--- the number that a value is; 0 where it is no int
+-- the number that a value is; 0 if it is not int
 abbrev pub number_of_value : Value → ℤ
 number_of_value (value.Int n) = n
 number_of_value other = pos 0
@@ -29,7 +29,7 @@ number_of_value other = pos 0
 abbrev pub number_in : List Value → ℕ → ℤ
 number_in row place = number_of_value (get_or row place (value.Flag false))
 
--- the most rows of a group
+-- the largest number of rows of a group
 abbrev pub most_rows : ℕ
 most_rows = 18446744073709551615
 
@@ -46,16 +46,16 @@ rows_in_group columns key rows = filter (λ row. eq_by_cmp key_cmp key (code_of 
 abbrev pub total_of : ℕ → List (List Value) → ℤ
 total_of place rows = fold (λ total row. total +ℤ number_in row place) (pos 0) rows
 
--- of the rows with the same first values, how many there are, and the sum of the numbers at a place
+-- of the rows with the same first values, the number of them, and the sum of the numbers at a place
 abbrev pub sum_of : ℕ → ℕ → List (List Value) → Key × List Value → Sum
 sum_of columns place rows group =
     record { group = group.1; count = length (rows_in_group columns group.0 rows); total = total_of place (rows_in_group columns group.0 rows) }
 
--- these groups, unless one has more rows than are counted
+-- these groups, unless one has more rows than can be counted
 abbrev pub unless_too_many : List Sum → Result (List Sum) Refusal
 unless_too_many groups = if list_all (λ group. nat_le group.count most_rows) groups then Ok groups else Err TooMany
 
--- the groups of rows by so many first columns with the sum of the column at a place, in order, or that one has too many rows
+-- the groups of rows by their first columns with the sum of the column at a place, in order, or that one has too many rows
 abbrev pub groups_of : ℕ → ℕ → List (List Value) → Result (List Sum) Refusal
 groups_of columns place rows = unless_too_many (map (sum_of columns place rows) (first_values columns rows))
 
@@ -64,7 +64,7 @@ abbrev pub int_place : ℕ × Kind → Result ℕ Refusal
 int_place (place, kind.Int) = Ok place
 int_place (place, other) = Err NotInt
 
--- the place of a column that is summed, where one of its name was found, and a group is that of so many of the first columns, at least one and key columns all
+-- the place of a column that is summed, if one of its name was found and a group has at least one column and at most the key columns
 abbrev pub summed_at : ℕ → ℕ → Option (ℕ × Kind) → Result ℕ Refusal
 summed_at keys grouping found = if nat_le 1 grouping && nat_le grouping keys then at_column int_place found else Err NoSuchColumn
 
@@ -72,13 +72,13 @@ summed_at keys grouping found = if nat_le 1 grouping && nat_le grouping keys the
 abbrev pub summed_place : List Column → ℕ → ℕ → List ℕ → Result ℕ Refusal
 summed_place columns keys grouping name = summed_at keys grouping (named_from 0 name columns)
 
--- the groups of a range of a tree by so many of its first columns, with the sum of the column of this name, or the first of these refusals: of the bounds, of
--- an index that is building, of the columns, and of a group that has too many rows
+-- the groups of a range of a tree by its first columns, with the sum of the column of this name, or the first of these refusals: of the bounds, of an index
+-- that is building, of the columns, and of a group that has too many rows
 abbrev pub sums_of : ℕ → List ℕ → Option (List (List ℕ)) → Option (List (List ℕ)) → NamedTree → Result (List Sum) Refusal
 sums_of grouping column from to tree =
     and_then (λ range. and_then (λ rows. and_then (λ place. groups_of grouping place (rows_within range rows))
     (summed_place (schema_of tree).columns (schema_of tree).keys grouping column)) (rows_of_tree tree)) (range_of tree from to)
 
--- the groups of a range of the tree of a name
+-- the groups of a range of the tree of this name
 abbrev pub sums : TableState → List ℕ → ℕ → List ℕ → Option (List (List ℕ)) → Option (List (List ℕ)) → Result (List Sum) Refusal
 sums state name grouping column from to = and_then (sums_of grouping column from to) (tree_named state name)

@@ -19,15 +19,15 @@ use Rattle.bt_table.specs.Calls.{NamedTree, Primary, Secondary, tree_named}
 use Rattle.bt_table.specs.Indexes.{EntryTree}
 use Rattle.bt_table.specs.Tables.{RowTree, TableState}
 
--- the indent of what is one level deeper: two spaces more
+-- the indent one level deeper: two more spaces
 abbrev pub deeper : List ℕ → List ℕ
 deeper indent = indent ++ codes "  "
 
--- the start of a line: a mark behind the indent, and a key in hexadecimal
+-- the start of a line: the indent, a mark and a key in hexadecimal
 abbrev pub key_start : List ℕ → List ℕ → Key → List ℕ
 key_start indent mark key = indent ++ (mark ++ (codes " " ++ hex_text key))
 
--- a line with a mark, a key, and what stands behind the key
+-- a line with a mark, a key, and the text after the key
 abbrev pub key_line : List ℕ → List ℕ → Key → List ℕ → List ℕ
 key_line indent mark key text = key_start indent mark key ++ (text ++ codes "\n")
 
@@ -42,18 +42,18 @@ leaf_line indent rows = indent ++ (codes "leaf " ++ (decimal rows ++ codes "\n")
 abbrev pub inner_line : List ℕ → ℕ → ℕ → List ℕ
 inner_line indent children messages = indent ++ (codes "inner " ++ (decimal children ++ (codes " " ++ (decimal messages ++ codes "\n"))))
 
--- the first line, with a height that is held at the greatest number of 64 bits
+-- the first line; the height is at most the largest number of 64 bits
 abbrev pub first_line : List ℕ → ℕ → List ℕ
 first_line name high = codes "image " ++ (name ++ (codes " height " ++ (decimal (min high (2 ^ 64 - 1)) ++ codes "\n")))
 
--- ---- a tree of any values, by what stands behind the key of a value, with its space
+-- ---- a tree of any values, by the text after the key of a value, with the space before it
 
 module _ {V : Type 0} (value_text : V → List ℕ) where
   -- the line of a row of a leaf
   abbrev pub leaf_row_line : List ℕ → Key × V → List ℕ
   leaf_row_line indent row = key_line indent (codes "=") row.0 (value_text row.1)
 
-  -- and by what stands behind the key of an upsert, with its space
+  -- and by the text after the key of an upsert, with the space before it
   module _ {D : Type 0} (delta_text : D → List ℕ) where
     -- the line of a message
     abbrev pub message_line : List ℕ → Key × Message V D → List ℕ
@@ -61,7 +61,8 @@ module _ {V : Type 0} (value_text : V → List ℕ) where
     message_line indent (key, message.Del) = key_line indent (codes "-") key []
     message_line indent (key, message.Ups delta) = key_line indent (codes "~") key (delta_text delta)
 
-    -- The lines of a node behind its indent, and of what is below it: its rows, or its messages and then its children. A pivot stands before each child but the first.
+    -- The lines of a node after its indent, and of what is below it: its rows, or its messages and then its children. A pivot precedes each child except the
+    -- first.
     abbrev mutual
       pub node_text : List ℕ → Tree V (Message V D) → List ℕ
       node_text indent (leaf rows) = leaf_line indent (length rows) ++ flat_map (leaf_row_line (deeper indent)) rows
@@ -82,7 +83,7 @@ module _ {V : Type 0} (value_text : V → List ℕ) where
 
 -- ---- a tree of rows
 
--- the record of values behind a space
+-- a space and the record of values
 abbrev pub row_text : List Value → List ℕ
 row_text values = codes " " ++ record_text (map text_of values)
 
@@ -100,7 +101,7 @@ row_image columns = image_text row_text (change_text columns)
 
 -- ---- a tree of an index
 
--- the record of the included columns behind a space, where there are any
+-- a space and the record of the included columns, if there are any
 abbrev pub entry_text : List Value → List ℕ
 entry_text [] = []
 entry_text (first ∷ others) = row_text (first ∷ others)
@@ -116,6 +117,6 @@ abbrev pub image_of : List ℕ → NamedTree → List ℕ
 image_of name (Primary table) = row_image table.schema.columns name table.tree
 image_of name (Secondary table index) = entry_image name index.tree.1
 
--- the tree of a name
+-- the image of the tree of this name
 abbrev pub image : TableState → List ℕ → Result (List ℕ) Refusal
 image state name = map_ok (image_of name) (tree_named state name)

@@ -1,4 +1,4 @@
--- Lists to which each row adds others, made in two parts.
+-- Lists that each row adds others to, made in two parts.
 use Rattle.std.proofs.Common.{◌≡◌, List, [], ◌++◌, append_assoc, append-nil, fold}
 use Rattle.bt_node.specs.Folds.{joined_as_one}
 

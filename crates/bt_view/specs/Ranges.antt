@@ -24,26 +24,26 @@ use Rattle.bt_view.specs.declared.range.KeyRange.{KeyRange}
 abbrev pub column_in : List Column → ℕ → Column
 column_in columns place = get_or columns place (record { name = []; kind = kind.Flag })
 
--- an index as a table: the columns that it is ordered by and those of the key of the table, which are its key, and the columns that it includes
+-- an index as a table: its key is the columns that it is ordered by and the key columns of the table, and the columns that it includes follow
 abbrev pub index_schema : Schema → Definition → Schema
 index_schema schema def = record {
   columns = (map (column_in schema.columns) def.on ++ take schema.keys schema.columns) ++ map (column_in schema.columns) def.include;
   keys = length def.on + schema.keys;
 }
 
--- the columns of the rows of a tree, and how many of them are its key
+-- the columns of the rows of a tree, and the number of its key columns
 abbrev pub schema_of : NamedTree → Schema
 schema_of (Primary table) = table.schema
 schema_of (Secondary table index) = index_schema table.schema index.def
 
 -- ---- ranges
 
--- the key that a bound spells, where there is one: the code of values of the first key columns
+-- the key that a bound encodes, if there is a bound: the code of values of the first key columns
 abbrev pub bound_as : List Column → ℕ → Option (List (List ℕ)) → Result (Option Key) Refusal
 bound_as columns item None = Ok None
 bound_as columns item (Some fields) = map_ok (λ values. Some (code_of values)) (prefix_as columns item fields)
 
--- the range between two bounds; of two refusals the least
+-- the range between two bounds; of two refusals the smaller one
 abbrev pub range_as : List Column → Option (List (List ℕ)) → Option (List (List ℕ)) → Result KeyRange Refusal
 range_as columns from to = map_ok (λ bounds. record { from = bounds.0; to = bounds.1 }) (both_read (bound_as columns 1 from) (bound_as columns 2 to))
 
@@ -54,15 +54,16 @@ range_of tree from to = range_as (take (schema_of tree).keys (schema_of tree).co
 abbrev pub all_keys : KeyRange
 all_keys = record { from = None; to = None }
 
--- the rows whose key lies in a range, by rising key: at or past its lower bound and before its upper one
+-- the rows whose key is in a range, in ascending order of their keys: at or after its lower bound and before its upper one
 abbrev pub rows_within : KeyRange → Rows (List Value) → List (List Value)
 rows_within range rows = map (λ row. row.1) (between range.from range.to rows)
 
--- the row that an index has for a row of a table, and its key, if the row passes the filter: the columns that it is ordered by, those of the key, and the included ones
+-- the row that an index has for a row of a table, and its key, if the row passes the filter: the columns that it is ordered by, the key columns of the table,
+-- and the included ones
 abbrev pub index_row : ℕ → Definition → Key → List Value → Option (Key × List Value)
 index_row keys def key row = option_map (λ entry. (entry.0, (picked def.on row ++ take keys row) ++ entry.1)) (entry_of def key row)
 
--- what an index that covers all rows is answered with; another one is building
+-- this result if an index covers all rows; otherwise the index is building
 abbrev pub when_whole : {T : Type 0} → Cover → T → Result T Refusal
 when_whole cover answer = if is_whole cover then Ok answer else Err Building
 
@@ -75,7 +76,7 @@ rows_of_tree (Secondary table index) = when_whole index.cover (select (index_row
 abbrev pub scan_with_keys_of : Option (List (List ℕ)) → Option (List (List ℕ)) → NamedTree → Result (Rows (List Value)) Refusal
 scan_with_keys_of from to tree = and_then (λ range. map_ok (between range.from range.to) (rows_of_tree tree)) (range_of tree from to)
 
--- the rows of a range of the tree of a name by their keys
+-- the rows of a range of the tree of this name by their keys
 abbrev pub scan_with_keys : TableState → List ℕ → Option (List (List ℕ)) → Option (List (List ℕ)) → Result (Rows (List Value)) Refusal
 scan_with_keys state name from to = and_then (scan_with_keys_of from to) (tree_named state name)
 

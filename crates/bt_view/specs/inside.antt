@@ -1,4 +1,4 @@
--- Definitions that only private clauses cite: lines of nodes, entries and groups as a walk of a tree meets them; and the laws of what goes on side by side.
+-- Definitions that only private clauses cite: lines of nodes, and entries and groups in the order of a walk of a tree; and the laws of walks in two parts.
 pub mod Drawings
 pub mod Entries
 pub mod EntryParts

@@ -31,7 +31,7 @@ fn column_at(alloc: Global, columns: &[Column], place: usize) -> Result<Column, 
     }
 }
 
-// Adds copies of the columns at places.
+// Appends copies of the columns at places.
 fn add_columns(
     alloc: Global,
     shown: &mut Columns,
@@ -46,7 +46,7 @@ fn add_columns(
     Ok(())
 }
 
-// Adds copies of columns.
+// Appends copies of columns.
 fn add_all(alloc: Global, shown: &mut Columns, columns: &[Column]) -> Result<(), AllocError>
     ensures { OnOk result (shown.new ≡ shown.old ++ columns.now) }
 {
@@ -56,7 +56,7 @@ fn add_all(alloc: Global, shown: &mut Columns, columns: &[Column]) -> Result<(),
     Ok(())
 }
 
-/// Copies of the columns of the rows of an index: those that it is ordered by, those of the key of the table, and those that it includes.
+/// Copies of the columns of the rows of an index: those that it is ordered by, the key columns of the table, and those that it includes.
 pub(crate) fn index_columns(
     alloc: Global,
     schema: &Schema,
@@ -71,7 +71,7 @@ pub(crate) fn index_columns(
     Ok(shown)
 }
 
-// The name and the kind of the column at a place; no name and the kind of a flag where there is none.
+// The name and the kind of the column at a place; no name and the kind of a flag if there is none.
 fn name_and_kind(columns: &[Column], place: usize) -> (&[u8], Kind)
     ensures name { result.0.now ≡ (spec.column_in columns.now place).name }
     ensures kind { result.1 ≡ (spec.column_in columns.now place).kind }
@@ -94,7 +94,7 @@ fn kinds_at(alloc: Global, columns: &[Column], places: &[usize]) -> Result<Vec<K
     Ok(kinds)
 }
 
-/// The kinds of the columns of the key of an index.
+/// The kinds of the key columns of an index.
 pub(crate) fn index_kinds(
     alloc: Global,
     schema: &Schema,
@@ -109,7 +109,7 @@ pub(crate) fn index_kinds(
     Ok(kinds)
 }
 
-// The first of the columns at places that has a name: which of the places is its own, and its kind.
+// The first of the columns at places that has a name: its position in the list of places, and its kind.
 fn find_placed(columns: &[Column], places: &[usize], name: &[u8]) -> Option<(usize, Kind)>
     ensures found { result ≡ named_from 0 name.now (map (spec.column_in columns.now) places.now) }
     ensures within { IfSome result (λ f. f.0 < length places.now) }
@@ -123,7 +123,7 @@ fn find_placed(columns: &[Column], places: &[usize], name: &[u8]) -> Option<(usi
     None
 }
 
-/// The first column of the rows of an index that has a name: its place and its kind. Takes no memory.
+/// The first column of the rows of an index that has a name: its place and its kind. Allocates nothing.
 pub(crate) fn find_index_column(
     schema: &Schema,
     def: &IndexDef,
@@ -143,7 +143,7 @@ pub(crate) fn find_index_column(
     Some((on.len() + keys.len() + place, kind))
 }
 
-/// How many of the columns of the rows of an index are its key.
+/// The number of key columns of an index.
 pub(crate) fn key_count(schema: &Schema, def: &IndexDef) -> usize
     ensures count { result ≡ (spec.index_schema schema.now def.now).keys }
     ensures within { result ≤ length (spec.index_schema schema.now def.now).columns }
@@ -151,7 +151,7 @@ pub(crate) fn key_count(schema: &Schema, def: &IndexDef) -> usize
     def.on().len() + schema.key_columns().len()
 }
 
-/// The columns of the key of an index, the first ones.
+/// The key columns of an index, which come first.
 pub(crate) fn key_columns<'a>(
     schema: &Schema,
     def: &IndexDef,

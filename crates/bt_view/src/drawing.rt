@@ -1,4 +1,4 @@
-//! How values are drawn in the image of a tree.
+//! How values are written in the image of a tree.
 ghost use Rattle.std.specs.Prelude.{◌≡◌, ◌≤◌, ◌++◌, ◌∷◌, [], IfOk, List, OnOk, flat_map, get_or, length, map, ℕ};
 ghost use Rattle.bt_value.specs.declared.value.Value.TheVariants as value;
 ghost use Rattle.bt_view.specs.Images as spec;
@@ -8,19 +8,19 @@ use bt_row::{Change, Column, Op, Row, write_row};
 use bt_value::{MOST_VALUE_BYTES, Text, Value};
 use std::alloc::{AllocError, Global};
 
-/// How the values of a tree are drawn, each behind the key of its line.
+/// How the values of a tree are written in their lines, each after its key.
 pub(crate) trait Drawing<V: Merge> {
-    /// What stands behind the key of a value, with its space.
+    /// The text after the key of a value, with the space before it.
     ghost value_text: { Self → V → List ℕ };
 
-    /// What stands behind the key of an upsert, with its space.
+    /// The text after the key of an upsert, with the space before it.
     ghost delta_text: { Self → V.Delta → List ℕ };
 
-    /// Adds what stands behind the key of a value.
+    /// Appends the text after the key of a value.
     fn write_value(&self, out: &mut Vec<u8>, value: &V) -> Result<(), AllocError>
         ensures { OnOk result (out.new.items ≡ out.old.items ++ value_text self.now value.now) };
 
-    /// Adds what stands behind the key of an upsert.
+    /// Appends the text after the key of an upsert.
     fn write_delta(
         &self,
         alloc: Global,
@@ -30,7 +30,7 @@ pub(crate) trait Drawing<V: Merge> {
         ensures { OnOk result (out.new.items ≡ out.old.items ++ delta_text self.now delta.now) };
 }
 
-// Adds the record of values behind a space.
+// Appends a space and the record of values.
 fn write_row_text(out: &mut Vec<u8>, values: &Row) -> Result<(), AllocError>
     ensures { OnOk result (out.new.items ≡ out.old.items ++ spec.row_text values.now) }
 {
@@ -38,7 +38,7 @@ fn write_row_text(out: &mut Vec<u8>, values: &Row) -> Result<(), AllocError>
     write_row(out, values)
 }
 
-// A copy of the name of the column at a place, or the empty text where there is none.
+// A copy of the name of the column at a place, or the empty text if there is none.
 fn name_at(alloc: Global, columns: &[Column], place: usize) -> Result<Text, AllocError>
     ensures { IfOk result (λ name. name ≡ get_or (map (λ c. c.name) columns.now) place []) }
 {
@@ -48,7 +48,7 @@ fn name_at(alloc: Global, columns: &[Column], place: usize) -> Result<Text, Allo
     }
 }
 
-// Adds the values of an operation: its word, the name of its column, its argument.
+// Appends the values of an operation: its word, the name of its column, its argument.
 fn push_op(
     alloc: Global,
     values: &mut Vec<Value>,
@@ -78,7 +78,7 @@ fn push_op(
     Ok(())
 }
 
-// Adds an operation on one of these columns as values.
+// Appends an operation on one of these columns as values.
 fn add_op(
     alloc: Global,
     values: &mut Vec<Value>,
@@ -103,7 +103,7 @@ fn values_of_ops(alloc: Global, columns: &[Column], ops: &[Op]) -> Result<Vec<Va
     Ok(values)
 }
 
-/// How rows with these columns are drawn.
+/// How rows with these columns are written.
 #[derive(Drop)]
 pub(crate) struct RowDrawing<'a> {
     pub(crate) columns: &'a [Column],
@@ -131,7 +131,7 @@ impl<'a> Drawing<Row> for RowDrawing<'a> {
     }
 }
 
-// Adds the included columns behind a space, where there are any.
+// Appends a space and the included columns, if there are any.
 fn write_entry(out: &mut Vec<u8>, entry: &Entry) -> Result<(), AllocError>
     ensures { OnOk result (out.new.items ≡ out.old.items ++ spec.entry_text entry.now) }
 {
@@ -142,7 +142,7 @@ fn write_entry(out: &mut Vec<u8>, entry: &Entry) -> Result<(), AllocError>
     write_row_text(out, values)
 }
 
-/// How index values are drawn.
+/// How index values are written.
 #[derive(Drop)]
 pub(crate) struct EntryDrawing;
 

@@ -11,7 +11,7 @@ use bt_value::Kind;
 use std::alloc::{AllocError, Global};
 use std::marker::Model;
 
-/// Entries of an index that are shown as rows, by the kinds of the columns of the index's key.
+/// Entries of an index that are shown as rows; the kinds are those of the key columns of the index.
 #[derive(Drop)]
 pub(crate) struct EntryRows<'a, S: Visitor<Row>> {
     pub(crate) kinds: &'a [Kind],
@@ -27,7 +27,7 @@ impl<'a, S: Visitor<Row>> Model for EntryRows<'a, S> {
     ghost view = { λ r. (r.kinds.now, r.visitor) };
 }
 
-/// The row of an entry, where its key is a code of values of these kinds.
+/// The row of an entry, if its key is a code of values of these kinds.
 pub(crate) fn row_of_entry(
     alloc: Global,
     kinds: &[Kind],
@@ -50,7 +50,7 @@ pub(crate) fn row_of_entry(
 impl<'a, S: Visitor<Row>> Visitor<Entry> for EntryRows<'a, S> {
     ghost visited = { after_entry S.visited };
 
-    // A visitor takes any key. That each key of an index is such a code, so that no entry is passed over, is proved of the whole walk.
+    // A visitor accepts any key. It is proved for the whole walk that each key of an index is such a code, so no entry is skipped.
     fn visit(&mut self, alloc: Global, key: &Key, entry: &Entry) -> Result<(), AllocError> {
         match row_of_entry(alloc, self.kinds, key.as_slice(), entry)? {
             Some(row) => self.visitor.visit(alloc, key, &row),

@@ -20,11 +20,11 @@ use std::mem::replace;
 /// The rows of one group.
 #[derive(Drop)]
 pub struct Sum {
-    /// What they have in the columns by which they are grouped.
+    /// Their values in the columns that they are grouped by.
     pub group: Row,
-    /// How many they are.
+    /// The number of rows.
     pub count: u64,
-    /// The sum of a column. No sum of so many numbers of 64 bits leaves the range.
+    /// The sum of a column. It cannot overflow, since `count` numbers of 64 bits have a sum within the range.
     pub total: i128,
 }
 
@@ -37,7 +37,7 @@ fn number_of(value: ValueRef<'_>) -> i64
     }
 }
 
-/// The number at a place of a row; 0 where there is none.
+/// The number at a place of a row; 0 if there is none.
 pub(crate) fn number_in(row: &Row, place: usize) -> i64
     ensures { result ≡ spec.number_in row.now place }
 {
@@ -59,7 +59,7 @@ fn group_of(alloc: Global, columns: usize, place: usize, row: &Row) -> Result<Su
     })
 }
 
-// Counts more rows to a group, with their total, and answers whether it could: not where it has then more than are counted.
+// Counts more rows to a group, with their total, and returns whether that was possible: it is not if the group would have more rows than can be counted.
 fn count_rows(sum: &mut Sum, count: u64, total: i128) -> bool
     requires own { IsBounded sum.old.count sum.old.total }
     requires more { IsBounded count total }
@@ -75,7 +75,7 @@ fn count_rows(sum: &mut Sum, count: u64, total: i128) -> bool
     true
 }
 
-// Adds a row behind groups, to the last of them where it is of that, and answers whether it could.
+// Adds a row after groups, to the last group if it belongs there, and returns whether that was possible.
 fn add_row(
     alloc: Global,
     groups: &mut Vec<Sum>,
@@ -119,7 +119,7 @@ fn count_in_last(groups: &mut Vec<Sum>, number: i64) -> bool
     true
 }
 
-// Adds groups behind others, the first of them to the last of the others where they are the same, and answers whether it could.
+// Adds groups after others, and returns whether that was possible. If the first of them and the last of the others are the same group, they become one.
 fn add_groups(groups: &mut Vec<Sum>, behind: Vec<Sum>) -> Result<bool, AllocError>
     requires groups { AreBounded groups.old.items }
     requires behind { AreBounded behind.items }
@@ -148,8 +148,8 @@ fn add_groups(groups: &mut Vec<Sum>, behind: Vec<Sum>) -> Result<bool, AllocErro
     Ok(true)
 }
 
-/// Rows that are grouped as they come, by the first columns, with the sum of the column at a place. A contract sees the columns, the place, and the groups, that
-/// of the last row at the end, or nothing once a group has more rows than are counted.
+/// Rows that are grouped one by one by their first columns, with the sum of the column at a place. A contract sees the columns, the place, and the groups; the
+/// group of the last row is at the end. There are no groups once one has more rows than can be counted.
 #[derive(Drop)]
 pub(crate) struct Grouping {
     columns: usize,
@@ -170,7 +170,7 @@ impl Model for Grouping {
 }
 
 impl Grouping {
-    /// No row.
+    /// Without rows.
     pub(crate) fn new(alloc: Global, columns: usize, place: usize) -> Self
         ensures { result ≡ (columns, place, Some []) }
     {
@@ -206,7 +206,7 @@ impl Grouping {
         self.is_over = !count_in_last(&mut self.groups, number);
     }
 
-    /// The groups, or `TooMany` where one has too many rows.
+    /// The groups, or `TooMany` if one has too many rows.
     pub(crate) fn finish(self) -> Result<Sequence<Sum>, Refusal>
         ensures { Answers (or_refused Refusal.TooMany self.2) result }
     {
@@ -263,8 +263,8 @@ impl ForkVisitor<Row> for Grouping {
     ghost as_one = { λ g rows behind. groups_as_one g rows behind };
 }
 
-/// The place of a column that is summed, where one of its name was found. `NoSuchColumn` where a group is not that of at least one and at most all key
-/// columns, or where none was found, `NotInt` where it is not int. Takes no memory.
+/// The place of a column that is summed, if one of its name was found. `NoSuchColumn` if none was found, or if a group has no columns or more than the key,
+/// `NotInt` if the column is not int. Allocates nothing.
 pub(crate) fn summed_place(
     found: Option<(usize, Kind)>,
     keys: usize,

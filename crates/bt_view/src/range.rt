@@ -11,7 +11,7 @@ use bt_rowtype::{RecordReader, both_read};
 use bt_value::Refusal;
 use std::alloc::Global;
 
-/// The keys at or past `from` and before `to`. A bound that is absent does not limit.
+/// The keys at or after `from` and before `to`. A bound that is absent does not limit the range.
 #[derive(Drop)]
 pub struct KeyRange {
     pub from: Option<Key>,
@@ -28,7 +28,7 @@ impl KeyRange {
     }
 }
 
-// The key that a bound spells, where there is one.
+// The key that a bound encodes, if there is a bound.
 fn read_bound(
     alloc: Global,
     columns: &[Column],
@@ -46,8 +46,8 @@ fn read_bound(
     Ok(Some(encode_row(alloc, &values, values.len())?))
 }
 
-/// The range between two bounds of these key columns, each of which spells at least one of the first of them. Of their refusals, `BadField` and
-/// `BadLength` with item 1 for `from` and 2 for `to`, the least is answered. Where there is no bound no memory is asked for.
+/// The range between two bounds. Each of them encodes at least one of the first of these key columns. If they are refused, with `BadField` or `BadLength` and
+/// item 1 for `from` and 2 for `to`, the smallest refusal is returned. If there is no bound, nothing is allocated.
 pub(crate) fn read_range(
     alloc: Global,
     columns: &[Column],

@@ -1,4 +1,4 @@
-//! What is shown of a table: which rows, by a crew or alone.
+//! Which rows of a table are shown, and showing them, by a crew or by the caller alone.
 ghost use Rattle.std.specs.Prelude.{◌≡◌, ◌≢◌, ◌≤◌, IfErr, IfOk, IsErrOf, None, Ok, fold, take};
 ghost use Rattle.std.specs.Option.{option_copied};
 ghost use Rattle.bt_value.specs.Answers.{Answers};
@@ -33,15 +33,15 @@ use std::alloc::{AllocError, Global};
 use std::sync::Wait;
 use std::thread::Threads;
 
-/// The rows of a range that are to be shown.
+/// The rows of a range that are shown.
 #[derive(Drop)]
 pub(crate) enum Shown<'a> {
-    /// Those of the table.
+    /// Rows of the table.
     Rows {
         tree: &'a Tree<Row>,
         range: KeyRange,
     },
-    /// Those of an index, by the kinds of the columns of its key.
+    /// Rows of an index; the kinds are those of its key columns.
     Entries {
         tree: &'a Tree<Entry>,
         kinds: Vec<Kind>,
@@ -49,14 +49,14 @@ pub(crate) enum Shown<'a> {
     },
 }
 
-/// The rows of a range that are to be summed, and what groups them.
+/// The rows of a range that are summed, and their grouping.
 #[derive(Drop)]
 pub(crate) struct Summed<'a> {
     pub(crate) shown: Shown<'a>,
     pub(crate) groups: Grouping,
 }
 
-/// Shows the rows, by the caller.
+/// Shows the rows, without workers.
 pub(crate) fn show_alone<S: Visitor<Row>>(
     alloc: Global,
     shown: Shown<'_>,
@@ -111,7 +111,7 @@ pub(crate) fn show<S: ForkVisitor<Row> + Send, G: Gate + Sync, T: Threads + Wait
     }
 }
 
-/// The groups of the rows, by the caller.
+/// The groups of the rows, without workers.
 pub(crate) fn sum_alone(alloc: Global, summed: Summed<'_>) -> Result<Grouping, AllocError>
     ensures { IfOk result (λ groups. groups ≡ fold after_row summed.entry.groups (rows_shown summed.entry.shown)) }
 {
@@ -148,7 +148,7 @@ pub(crate) fn sum<G: Gate + Sync, T: Threads + Wait + Sync>(
     }
 }
 
-// The range between two bounds of an index. Where there is none no memory is asked for.
+// The range between two bounds of an index. If there is no bound, nothing is allocated.
 fn read_index_range(
     alloc: Global,
     schema: &Schema,
@@ -174,7 +174,7 @@ fn read_index_range(
     )
 }
 
-// The range between two bounds of an index, which has rows to show where it covers all.
+// The range between two bounds of an index, which has rows to show only if it covers all.
 fn index_range(
     alloc: Global,
     schema: &Schema,
@@ -221,7 +221,7 @@ fn entries_in<'a>(
     }
 }
 
-// What a scan of an index shows.
+// The rows that a scan of an index shows.
 fn scan_index<'a>(
     alloc: Global,
     schema: &Schema,
@@ -237,11 +237,11 @@ fn scan_index<'a>(
     Ok(entries_in(alloc, schema, index, range)?)
 }
 
-/// What a scan of the tree of a name shows: the rows at or past the key that `from` spells and before the one that `to` spells. A bound is a record of at least
-/// one of the first columns of the tree's key; one that is absent does not limit.
+/// The rows that a scan of the tree of this name shows: those at or after the key that `from` encodes and before the one that `to` encodes. A bound is a record
+/// of at least one of the first columns of the tree's key; one that is absent does not limit the range.
 ///
-/// Refused with the first that applies: `Failed`, `NoSuchTree`, the least of `BadField` and `BadLength` with item 1 for `from` and 2 for `to`, `Building`.
-/// `Failed` and `NoSuchTree`, and where there is no bound `Building`, come before memory is asked for.
+/// Refused with the first that applies: `Failed`, `NoSuchTree`, the smallest of `BadField` and `BadLength` with item 1 for `from` and 2 for `to`, `Building`.
+/// `Failed` and `NoSuchTree`, and also `Building` if there is no bound, come before anything is allocated.
 pub(crate) fn rows_to_show<'a>(
     alloc: Global,
     table: &'a Table,
@@ -262,7 +262,7 @@ pub(crate) fn rows_to_show<'a>(
     }
 }
 
-// The place of the column of a name that is summed among those of the rows of an index, grouped by so many of the first. Takes no memory.
+// The place of the summed column of this name among those of the rows of an index, grouped by the first `grouping` columns. Allocates nothing.
 fn index_place(
     schema: &Schema,
     def: &IndexDef,
@@ -276,7 +276,7 @@ fn index_place(
     summed_place(found, key_count(schema, def), grouping)
 }
 
-// What sums of the rows of an index show.
+// The rows of an index that are summed.
 fn sum_index<'a>(
     alloc: Global,
     schema: &Schema,
@@ -306,10 +306,11 @@ fn sum_index<'a>(
     })
 }
 
-/// What sums of the tree of a name show: the rows that `rows_to_show` has, to be grouped by so many of the first columns, with the sum of the column of a name.
+/// The rows of the tree of this name that are summed: those of `rows_to_show`, grouped by the first `grouping` columns, with the sum of the column of this
+/// name.
 ///
-/// Refused as `rows_to_show` is, and after that with `NoSuchColumn` where the columns of a group are none or more than those of the key, or the column of the name is
-/// not there, and `NotInt` where it is not int. Where there is no bound all of these come before memory is asked for.
+/// Refused like `rows_to_show`, and after that with `NoSuchColumn` if a group has no columns or more than the key, or if there is no column of this name, and
+/// with `NotInt` if it is not int. If there is no bound, all of these come before anything is allocated.
 pub(crate) fn rows_to_sum<'a>(
     alloc: Global,
     table: &'a Table,

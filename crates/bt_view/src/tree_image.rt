@@ -13,7 +13,7 @@ use bt_value::{Text, write_number};
 use itoa::Buffer;
 use std::alloc::{AllocError, Global};
 
-// The indent of what is one level deeper.
+// The indent one level deeper.
 fn deeper(alloc: Global, indent: &[u8]) -> Result<Vec<u8>, AllocError>
     ensures { IfOk result (λ below. below.items ≡ spec.deeper indent.now) }
 {
@@ -22,7 +22,7 @@ fn deeper(alloc: Global, indent: &[u8]) -> Result<Vec<u8>, AllocError>
     Ok(below)
 }
 
-// Adds the start of a line: its mark behind an indent, and a key.
+// Appends the start of a line: an indent, a mark and a key.
 fn write_key(out: &mut Vec<u8>, indent: &[u8], mark: u8, key: &Key) -> Result<(), AllocError>
     ensures { OnOk result (out.new.items ≡ out.old.items ++ spec.key_start indent.now (mark ∷ []) key.now) }
 {
@@ -31,7 +31,7 @@ fn write_key(out: &mut Vec<u8>, indent: &[u8], mark: u8, key: &Key) -> Result<()
     key.write_hex(out)
 }
 
-// Adds a line with a mark and a key, and nothing behind the key.
+// Appends a line with a mark and a key, and nothing after the key.
 fn write_key_line(out: &mut Vec<u8>, indent: &[u8], mark: u8, key: &Key) -> Result<(), AllocError>
     ensures { OnOk result (out.new.items ≡ out.old.items ++ spec.key_line indent.now (mark ∷ []) key.now []) }
 {
@@ -40,7 +40,7 @@ fn write_key_line(out: &mut Vec<u8>, indent: &[u8], mark: u8, key: &Key) -> Resu
     Ok(())
 }
 
-// Adds a line with a mark, a key and a value.
+// Appends a line with a mark, a key and a value.
 fn write_value_line<V: Merge, D: Drawing<V>>(
     out: &mut Vec<u8>,
     drawing: &D,
@@ -57,7 +57,7 @@ fn write_value_line<V: Merge, D: Drawing<V>>(
     Ok(())
 }
 
-// Adds the line of a message that is pending.
+// Appends the line of a message that is pending.
 fn write_message_line<V: Merge, D: Drawing<V>>(
     alloc: Global,
     out: &mut Vec<u8>,
@@ -80,7 +80,7 @@ fn write_message_line<V: Merge, D: Drawing<V>>(
     }
 }
 
-// Adds the first line of a leaf.
+// Appends the first line of a leaf.
 fn write_leaf_line(out: &mut Vec<u8>, indent: &[u8], rows: usize) -> Result<(), AllocError>
     ensures { OnOk result (out.new.items ≡ out.old.items ++ spec.leaf_line indent.now rows) }
 {
@@ -91,7 +91,7 @@ fn write_leaf_line(out: &mut Vec<u8>, indent: &[u8], rows: usize) -> Result<(), 
     Ok(())
 }
 
-// Adds the first line of an inner node.
+// Appends the first line of an inner node.
 fn write_inner_line(
     out: &mut Vec<u8>,
     indent: &[u8],
@@ -109,7 +109,7 @@ fn write_inner_line(
     Ok(())
 }
 
-// Adds the first line of an image.
+// Appends the first line of an image.
 fn write_first_line(out: &mut Vec<u8>, name: &Text, height: u64) -> Result<(), AllocError>
     ensures { OnOk result (out.new.items ≡ out.old.items ++ spec.first_line name.now height) }
 {
@@ -121,7 +121,7 @@ fn write_first_line(out: &mut Vec<u8>, name: &Text, height: u64) -> Result<(), A
     Ok(())
 }
 
-// Adds the lines of the rows of a leaf.
+// Appends the lines of the rows of a leaf.
 fn write_rows<V: Merge, D: Drawing<V>>(
     out: &mut Vec<u8>,
     drawing: &D,
@@ -137,7 +137,7 @@ fn write_rows<V: Merge, D: Drawing<V>>(
     Ok(())
 }
 
-// Adds the lines of the messages of an inner node.
+// Appends the lines of the messages of an inner node.
 fn write_messages<V: Merge, D: Drawing<V>>(
     alloc: Global,
     out: &mut Vec<u8>,
@@ -153,7 +153,7 @@ fn write_messages<V: Merge, D: Drawing<V>>(
     Ok(())
 }
 
-// Adds the lines of a node that speak of no other one; all but the first behind the deeper indent.
+// Appends the lines of a node without those of its children; all but the first have the deeper indent.
 fn write_own_lines<V: Merge, D: Drawing<V>>(
     alloc: Global,
     out: &mut Vec<u8>,
@@ -173,7 +173,7 @@ fn write_own_lines<V: Merge, D: Drawing<V>>(
     }
 }
 
-// Adds the line of the pivot before a child, but not before the first.
+// Appends the line of the pivot before a child, except before the first.
 fn write_pivot<V: Merge>(
     out: &mut Vec<u8>,
     indent: &[u8],
@@ -189,7 +189,7 @@ fn write_pivot<V: Merge>(
     write_key_line(out, indent, b'|', walk.pivot(place))
 }
 
-// Adds the lines of a node and of those below it.
+// Appends the lines of a node and of those below it.
 fn write_node<V: Merge, D: Drawing<V>>(
     alloc: Global,
     out: &mut Vec<u8>,
@@ -210,7 +210,7 @@ fn write_node<V: Merge, D: Drawing<V>>(
     Ok(())
 }
 
-// The height of a node, held at the greatest number.
+// The height of a node, at most the largest `u64`.
 fn height<V: Merge>(walk: &Walk<V>) -> u64
     ensures { result ≡ min (trees.height walk.now) (2 ^ 64 - 1) }
 {

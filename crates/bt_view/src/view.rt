@@ -22,11 +22,12 @@ use std::alloc::Global;
 use std::sync::Wait;
 use std::thread::Threads;
 
-/// Shows a visitor the rows of the tree of a name in a range, by a crew: those at or past the key that `from` spells and before the one that `to` spells, by rising
-/// key, each with its key. A bound is a record of at least one of the first columns of the tree's key; one that is absent does not limit.
+/// Shows a visitor the rows of the tree of this name in a range, by a crew. These are the rows at or after the key that `from` encodes and before the one that
+/// `to` encodes, in ascending order of their keys; each is shown with its key. A bound is a record of at least one of the first columns of the tree's key; one
+/// that is absent does not limit the range.
 ///
-/// Refused with the first that applies: `Failed`, `NoSuchTree`, the least of `BadField` and `BadLength` with item 1 for `from` and 2 for `to`, `Building`.
-/// `Failed` and `NoSuchTree`, and where there is no bound `Building`, come before memory is asked for. Only the subtrees that meet the range are entered.
+/// Refused with the first that applies: `Failed`, `NoSuchTree`, the smallest of `BadField` and `BadLength` with item 1 for `from` and 2 for `to`, `Building`.
+/// `Failed` and `NoSuchTree`, and also `Building` if there is no bound, come before anything is allocated. Only subtrees that overlap the range are read.
 pub fn scan<S: ForkVisitor<Row> + Send, G: Gate + Sync, T: Threads + Wait + Sync>(
     rt: &T,
     alloc: Global,
@@ -45,7 +46,7 @@ pub fn scan<S: ForkVisitor<Row> + Send, G: Gate + Sync, T: Threads + Wait + Sync
     Ok(show(rt, alloc, shown, visitor, crew)?)
 }
 
-/// The same by the caller alone.
+/// The same, by the caller without workers.
 pub fn scan_alone<S: Visitor<Row>>(
     alloc: Global,
     table: &Table,
@@ -62,11 +63,11 @@ pub fn scan_alone<S: Visitor<Row>>(
     Ok(show_alone(alloc, shown, visitor)?)
 }
 
-/// The groups of the rows that `scan` shows, by so many of the first columns, with the sum of the column of a name, in order, by a crew.
+/// The groups of the rows that `scan` shows, in order, by a crew. The rows are grouped by their first `grouping` columns, with the sum of the column of this
+/// name.
 ///
-/// Refused as `scan` is, and after that with `NoSuchColumn` where the columns of a group are none or more than those of the key, or the column of the name is not
-/// there, `NotInt` where it is not int, and `TooMany` where a group has more than 2^64 - 1 rows. Where there is no bound all but the last come before memory is
-/// asked for.
+/// Refused like `scan`, and after that with `NoSuchColumn` if a group has no columns or more than the key, or if there is no column of this name, with `NotInt`
+/// if it is not int, and with `TooMany` if a group has more than 2^64 - 1 rows. If there is no bound, all but the last come before anything is allocated.
 pub fn sums<G: Gate + Sync, T: Threads + Wait + Sync>(
     rt: &T,
     alloc: Global,
@@ -86,7 +87,7 @@ pub fn sums<G: Gate + Sync, T: Threads + Wait + Sync>(
     sum(rt, alloc, summed, crew)?.finish()
 }
 
-/// The same by the caller alone.
+/// The same, by the caller without workers.
 pub fn sums_alone(
     alloc: Global,
     table: &Table,
@@ -104,7 +105,7 @@ pub fn sums_alone(
     sum_alone(alloc, summed)?.finish()
 }
 
-/// The image of the tree of a name: its nodes with their rows, pivots and messages. `Failed`, `NoSuchTree`, both before memory is asked for.
+/// The image of the tree of this name: its nodes with their rows, pivots and messages. `Failed` and `NoSuchTree` come before anything is allocated.
 pub fn image(alloc: Global, table: &Table, name: &Text) -> Result<Vec<u8>, Refusal>
     ensures done { IfOk result (λ text. images.image table.now name.now ≡ Ok text.items) }
     ensures refused { IfErr result (λ refusal. refusal ≢ Refusal.OutOfMemory → images.image table.now name.now ≡ Err refusal) }

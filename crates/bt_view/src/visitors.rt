@@ -1,4 +1,4 @@
-//! Visitors that are ready for a scan: the rows that it shows, kept, and the text of their records.
+//! Visitors for a scan: one keeps the rows that are shown, one writes them as records.
 ghost use Rattle.std.specs.Prelude.{◌≡◌, ◌++◌, ◌∷◌, []};
 ghost use Rattle.bt_view.specs.Lists.{lists_as_one};
 ghost use Rattle.bt_view.specs.RecordTexts.{record_line};
@@ -9,7 +9,7 @@ use bt_row::{Row, copy_row, write_row};
 use std::alloc::{AllocError, Global};
 use std::marker::Model;
 
-/// Copies of the rows that come, without their keys. A contract sees the list of them.
+/// Copies of the rows that are shown, without their keys. A contract sees the list of them.
 #[derive(Drop)]
 pub struct RowList {
     rows: Vec<Row>,
@@ -25,7 +25,7 @@ impl Model for RowList {
 }
 
 impl RowList {
-    /// No row. Takes no memory.
+    /// No rows. Allocates nothing.
     pub fn new(alloc: Global) -> Self
         ensures { result ≡ [] }
     {
@@ -34,14 +34,14 @@ impl RowList {
         }
     }
 
-    /// The rows that came, in order.
+    /// The rows that were shown, in order.
     pub fn as_slice(&self) -> &[Row]
         ensures { result.now ≡ self.now }
     {
         self.rows.as_slice()
     }
 
-    /// The rows that came, in order, to be kept.
+    /// The rows that were shown, in order, as a vector.
     pub fn into_rows(self) -> Vec<Row>
         ensures { result.items ≡ self }
     {
@@ -76,8 +76,8 @@ impl ForkVisitor<Row> for RowList {
     ghost as_one = { λ list rows behind. lists_as_one (λ row. row.1 ∷ []) list rows behind };
 }
 
-/// The records of the rows that come, as [`write_row`] writes them, each with a line feed behind it: a CSV text without a header. A text in a row may hold
-/// line breaks of its own, between quotes. A contract sees the bytes.
+/// The records of the rows that are shown, as [`write_row`] writes them, each followed by a line feed: a CSV text without a header. A text in a row may contain
+/// line breaks, between quotes. A contract sees the bytes.
 #[derive(Drop)]
 pub struct RecordText {
     text: Vec<u8>,
@@ -92,7 +92,7 @@ impl Model for RecordText {
 }
 
 impl RecordText {
-    /// No record. Takes no memory.
+    /// No records. Allocates nothing.
     pub fn new(alloc: Global) -> Self
         ensures { result ≡ [] }
     {
@@ -108,7 +108,7 @@ impl RecordText {
         self.text.as_slice()
     }
 
-    /// The text, to be kept.
+    /// The text as a vector.
     pub fn into_bytes(self) -> Vec<u8>
         ensures { result.items ≡ self }
     {

@@ -1,4 +1,4 @@
--- What is made of rows without their keys is made of the rows alone.
+-- A scan that ignores keys has the same result for rows with their keys as for the rows alone.
 use Rattle.std.proofs.Common.{◌≡◌, ℕ, List, Option, Result, Ok, Err, ap, fold, map, refl, sym}
 use Rattle.std.proofs.lemmas.List.Folds.{fold-map}
 use Rattle.bt_value.specs.declared.refusal.Refusal.{Refusal}

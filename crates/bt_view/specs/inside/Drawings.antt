@@ -6,15 +6,15 @@ use Rattle.bt_node.specs.Trees.{Siblings, Tree, height}
 use Rattle.bt_node.specs.Walks.{children_of, is_leaf, messages_of, rows_of}
 use Rattle.bt_view.specs.Images.{inner_line, leaf_line, leaf_row_line, message_line, node_text, pivot_line}
 
--- the line of the pivot before a child at a place, but not before the first
+-- the line of the pivot before a child at a place, except before the first
 abbrev pub pivot_text : {X : Type 0} → List ℕ → ℕ → Option (Key × X) → List ℕ
 pivot_text indent place None = []
 pivot_text indent zero (Some child) = []
 pivot_text indent (suc place) (Some child) = pivot_line indent child.0
 
--- by what stands behind the key of a value, and behind that of an upsert
+-- for the text after the key of a value, and after that of an upsert
 module _ {V D : Type 0} (value_text : V → List ℕ) (delta_text : D → List ℕ) where
-  -- the lines of a node that speak of no other one
+  -- the lines of a node without those of its children
   abbrev pub own_text : List ℕ → List ℕ → Tree V (Message V D) → List ℕ
   own_text indent below t =
       if is_leaf t then leaf_line indent (length (rows_of t)) ++ flat_map (leaf_row_line value_text below) (rows_of t)

@@ -1,4 +1,4 @@
--- Entries of an index as rows, as a walk of its tree meets them.
+-- Entries of an index as rows, in the order of a walk of its tree.
 use Rattle.std.specs.List.{filter_map}
 use Rattle.std.specs.Prelude.{◌++◌, List, map, take, Option, Some, None, option_map}
 use Rattle.bt_row.specs.Schemas.{Schema}
@@ -13,7 +13,7 @@ use Rattle.bt_view.specs.Ranges.{index_schema}
 abbrev pub index_kinds : Schema → Definition → List Kind
 index_kinds schema def = map (λ c. c.kind) (take (index_schema schema def).keys (index_schema schema def).columns)
 
--- the row of an entry whose key is the code of values of these kinds: these values, and then the included ones
+-- the row of an entry whose key is the code of values of these kinds: these values, followed by the included ones
 abbrev pub row_of_entry : List Kind → Key × List Value → Option (List Value)
 row_of_entry kinds entry = option_map (λ values. values ++ entry.1) (decoded kinds entry.0)
 
@@ -21,12 +21,12 @@ row_of_entry kinds entry = option_map (λ values. values ++ entry.1) (decoded ki
 abbrev pub pair_of_entry : List Kind → Key × List Value → Option (Key × List Value)
 pair_of_entry kinds entry = option_map (λ row. (entry.0, row)) (row_of_entry kinds entry)
 
--- what is made of a row, if there is one
+-- a visitor of rows after a row, if there is one
 abbrev pub with_pair : {S : Type 0} → (S → Key × List Value → S) → S → Option (Key × List Value) → S
 with_pair visited visitor None = visitor
 with_pair visited visitor (Some row) = visited visitor row
 
--- what a visitor of rows makes of an entry
+-- a visitor of rows after an entry
 abbrev pub and_entry : {S : Type 0} → (S → Key × List Value → S) → List Kind → S → Key × List Value → S
 and_entry visited kinds visitor entry = with_pair visited visitor (pair_of_entry kinds entry)
 

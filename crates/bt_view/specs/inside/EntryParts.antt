@@ -1,4 +1,4 @@
--- Entries in two parts are entries in one, where rows are.
+-- If a visitor gets the same from rows in two parts as in one, it does so from the entries that show these rows.
 use Rattle.std.proofs.Common.{◌≡◌, ◌∙◌, List, [], ◌∷◌, ◌++◌, Option, Some, None, refl, sym, ap, fold}
 use Rattle.std.proofs.lemmas.List.Elements.{filter_map-append}
 use Rattle.std.specs.List.{cons_option}

@@ -14,7 +14,7 @@ use Rattle.bt_view.specs.declared.groups.Sum.{Sum}
 
 -- ---- joining groups
 
--- what is nothing stays nothing
+-- no groups stay no groups
 none_behind : (a : Groups) → joined_groups a None ≡ None
 none_behind None = refl
 none_behind (Some groups) = refl
@@ -36,7 +36,7 @@ groups_unit (Some groups) = none_then groups
 abbrev before_one : Bool → Sum → Sum → List Sum → Groups
 before_one same s t us = if same then option_map (λ both. both ∷ us) (with_more s t.count t.total) else Some (s ∷ t ∷ us)
 
--- a group with the rows of one, and of it and another one
+-- a group with the rows of one, and of that one and another
 abbrev pair : Sum → Sum → Sum
 pair s t = record s { count = s.count + t.count; total = s.total +ℤ t.total }
 

@@ -8,7 +8,7 @@ use Rattle.bt_keycode.specs.Keys.{Key, is_before}
 use Rattle.bt_view.specs.Groups.{most_rows, number_in}
 use Rattle.bt_view.specs.declared.groups.Sum.{Sum}
 
--- the total of so many numbers of 64 bits
+-- the total of `count` numbers of 64 bits
 pub record IsBounded (count : ℕ) (total : ℤ) : Type 0 where
   pub least : neg_ℤ (pos (9223372036854775808 * count)) ≤ℤ total
   pub most : total ≤ℤ pos (9223372036854775808 * count)
@@ -22,16 +22,16 @@ AreBounded (sum ∷ sums) = IsBounded sum.count sum.total × AreBounded sums
 abbrev pub group_of : ℕ → ℕ → List Value → Sum
 group_of columns place row = record { group = take columns row; count = 1; total = number_in row place }
 
--- a group with so many more rows that have this total, where they are not too many
+-- a group with more rows that have this total, if they are not too many
 abbrev pub with_more : Sum → ℕ → ℤ → Option Sum
 with_more sum count total = if nat_le (sum.count + count) most_rows then Some (record sum { count = sum.count + count; total = sum.total +ℤ total }) else None
 
--- groups, or nothing, once one has more rows than are counted
+-- groups, or none once one has more rows than can be counted
 abbrev pub Groups : Type 0
 Groups = Option (List Sum)
 
--- Rows are gone through by rising key, so that those of a group come one after the other. The last of groups and the first of those behind become one where
--- they are the same.
+-- Rows are visited in ascending order of their keys, so that those of a group come one after the other. The last of the groups and the first of the following
+-- ones become one group if they are the same.
 abbrev pub groups_then : List Sum → List Sum → Groups
 groups_then [] behind = Some behind
 groups_then (last ∷ []) [] = Some (last ∷ [])
@@ -48,7 +48,7 @@ joined_groups (Some groups) (Some behind) = groups_then groups behind
 abbrev pub grouped : ℕ → ℕ → Groups → List Value → Groups
 grouped columns place groups row = joined_groups groups (Some (group_of columns place row ∷ []))
 
--- the same with the columns and the place by which they are grouped, of rows by their keys
+-- the same with the columns and the place that they are grouped by, for rows with their keys
 abbrev pub after_row : ℕ × ℕ × Groups → Key × List Value → ℕ × ℕ × Groups
 after_row g row = (g.0, g.1, grouped g.0 g.1 g.2 row.1)
 

@@ -1,4 +1,4 @@
--- What comes before rows are shown.
+-- The results before rows are shown.
 use Rattle.std.specs.Prelude.{◌≡◌, ◌≢◌, List, fold, Result, Ok, Err}
 use Rattle.bt_value.specs.Results.{or_refused}
 use Rattle.bt_value.specs.declared.refusal.Refusal.{Refusal}
@@ -19,12 +19,12 @@ abbrev pub rows_shown : Shown → Rows (List Value)
 rows_shown (shown.Rows tree range) = between range.from range.to (holds row_effect tree.now.1)
 rows_shown (shown.Entries tree kinds range) = rows_of_entries kinds.items (between range.from range.to (holds entry_effect tree.now.1))
 
--- what is shown is this answer, or memory was wanting
+-- the rows that are shown are those of this answer, or memory ran out
 abbrev pub AnswersRows : Result (Rows (List Value)) Refusal → Result Shown Refusal → Type 0
 AnswersRows answer (Ok shown) = answer ≡ Ok (rows_shown shown)
 AnswersRows answer (Err refusal) = refusal ≢ OutOfMemory → answer ≡ Err refusal
 
--- the groups of what is shown are this answer, or memory was wanting
+-- the groups of the rows that are shown are those of this answer, or memory ran out
 abbrev pub AnswersSums : Result (List Sum) Refusal → Result Summed Refusal → Type 0
 AnswersSums answer (Ok summed) = answer ≡ or_refused TooMany (fold after_row summed.groups (rows_shown summed.shown)).2
 AnswersSums answer (Err refusal) = refusal ≢ OutOfMemory → answer ≡ Err refusal

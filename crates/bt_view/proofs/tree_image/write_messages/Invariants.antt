@@ -4,7 +4,7 @@ use Rattle.bt_node.specs.Walks.{messages_of}
 use Rattle.bt_view.specs.Images.{message_line}
 use Rattle.bt_view.proofs.tree_image.write_messages.Given as goal
 
--- the lines so far, and then those of the messages that are left
+-- the lines so far, followed by those of the messages that are left
 abbrev pub invariant-loop-key : goal.invariant-loop-key
 invariant-loop-key g l =
     let line = message_line (g.D.Drawing.value_text l.drawing) (g.D.Drawing.delta_text l.drawing) l.indent in
