@@ -1,4 +1,4 @@
--- What stands behind the front of a key, and the last of groups. Serves the groups of an index.
+-- What follows the front of a key, and the last of groups. Serves the groups of an index.
 use Rattle.std.proofs.Common.{◌≡◌, ◌∙◌, ◌≤◌, ℕ, Bool, true, false, not, IfSome, ℤ, List, [], ◌∷◌, ◌++◌, Option, Some, None, append_assoc, drop, length, map, option_map, if◌then◌else◌, refl, sym, ap, subst, take}
 use Rattle.std.proofs.lemmas.List.{get_or-append_right, length-map, length-take-le, map-append, take-append-drop, take-append-le, take-map, take_at}
 use Rattle.std.proofs.lemmas.Option.{none-some}
@@ -37,12 +37,12 @@ first_code n kinds key values is = record {
   code = refl;
 }
 
--- the values that there are, or these
+-- these values, or others if there are none
 abbrev or_values : List Value → Option (List Value) → List Value
 or_values values None = values
 or_values values (Some found) = found
 
--- the row of an entry is the values of its key, and then the included ones
+-- the row of an entry is the values of its key, followed by the included ones
 pub row_values : (kinds : List Kind) (key : Key) (included row : List Value) → row_of_entry kinds (key, included) ≡ Some row → (values : List Value) × (IsCodeOf kinds key values × (row ≡ values ++ included))
 row_values kinds key included row = of_read (decoded kinds key) refl
   where
@@ -54,7 +54,7 @@ module _ (kinds : List Kind) (g : ℕ × ℕ × Groups) (front : Key) (values : 
   as_many : length values ≡ g.0
   as_many = sym (length-map values kind_of) ∙ ap length is.code.of_kinds ∙ length-take-le g.0 kinds is.few
 
-  -- the row of an entry whose key begins with a front, by that of what stands behind
+  -- the row of an entry whose key begins with a front, by the row of what follows the front
   pub row_behind : (key rest : Key) (included others : List Value) → key ≡ front ++ rest → row_of_entry (drop g.0 kinds) (rest, included) ≡ Some others → row_of_entry kinds (key, included) ≡ Some (values ++ others)
   row_behind key rest included others begins shows =
       let read = row_values (drop g.0 kinds) rest included others shows in
@@ -63,11 +63,11 @@ module _ (kinds : List Kind) (g : ℕ × ℕ × Groups) (front : Key) (values : 
       ap (option_map (λ all. all ++ included)) (code_decoded kinds key (values ++ read.0) whole)
       ∙ ap Some (append_assoc values read.0 included ∙ ap (λ row. values ++ row) (sym read.1.1))
 
-  -- that row is of the last group
+  -- that row belongs to the last group
   pub last_behind : (others : List Value) → IsLastOf (take g.0 (values ++ others)) g.2
   last_behind others = subst (λ vs. IsLastOf vs g.2) (sym (take_at values others g.0 as_many)) is.last
 
-  -- and its number stands behind the front
+  -- and its number comes after the front
   pub number_behind : (others : List Value) → number_in (values ++ others) g.1 ≡ number_in others (g.1 - g.0)
   number_behind others = ap number_of_value (get_or-append_right values others g.0 g.1 (value.Flag false) as_many is.behind)
 
@@ -90,12 +90,12 @@ last_then (s ∷ []) own = by_test (same_values s.group own.group) refl
     by_test false test = (s ∷ [], own, (refl, refl))
 last_then (s ∷ r ∷ sums) own = in_front s own.group (groups_then (r ∷ sums) (own ∷ [])) (last_then (r ∷ sums) own)
 
--- a row that was added is of the last group
+-- a row that was added belongs to the last group
 pub last_grouped : (columns place : ℕ) (groups : Groups) (row : List Value) → IsLastOf (take columns row) (grouped columns place groups row)
 last_grouped columns place None row = tt
 last_grouped columns place (Some sums) row = last_then sums (group_of columns place row)
 
--- the last of a list, or this where there is none
+-- the last of a list, or this one if the list is empty
 abbrev last_or : Sum → List Sum → Sum
 last_or sum [] = sum
 last_or sum (s ∷ sums) = last_or s sums
@@ -104,16 +104,16 @@ last_or-append : (d : Sum) (before : List Sum) (last : Sum) → last_or d (befor
 last_or-append d [] last = refl
 last_or-append d (s ∷ before) last = last_or-append s before last
 
--- a list has one last
+-- a list has only one last item
 pub same_last : (sums before : List Sum) (last : Sum) (values : List Value) → sums ≡ before ++ last ∷ [] → IsLastOf values (Some sums) → last.group ≡ values
 same_last sums before last values begin is =
     ap (λ (s : Sum). s.group) (sym (last_or-append last before last) ∙ ap (last_or last) (sym begin ∙ is.2.0) ∙ last_or-append last is.0 is.1) ∙ is.2.1
 
--- the values of the last of groups are these alone
+-- only these are the values of the last of groups
 one_last : (sums : List Sum) (values others : List Value) → IsLastOf values (Some sums) → IsLastOf others (Some sums) → values ≡ others
 one_last sums values others is also = sym is.2.1 ∙ same_last sums is.0 is.1 others is.2.0 also
 
--- a front stays that of the last group, where a row is added to it
+-- a front is still that of the last group after a row is added to that group
 pub kept_front : (kinds : List Kind) (g : ℕ × ℕ × Groups) (row : List Value) (front : Option Key) → IsLastOf (take g.0 row) g.2 → IsFrontWhereKept kinds g front → IsFrontWhereKept kinds (g.0, g.1, grouped g.0 g.1 g.2 row) front
 kept_front kinds g row None last is = tt
 kept_front kinds g row (Some front) last is = by_groups g.2 last is.1.last
@@ -134,7 +134,7 @@ new_front kinds g key included row (Some front) shows few behind code =
     let own : IsCodeOf (take g.0 kinds) (code_of (take g.0 row)) (take g.0 row) = subst (λ vs. IsCodeOf (take g.0 kinds) (code_of vs) vs) (sym first) (first_code g.0 kinds key read.0 read.1.0) in
     (take g.0 row, record { few = few; behind = behind; code = subst (λ bytes. IsCodeOf (take g.0 kinds) bytes (take g.0 row)) (sym code) own; last = last_grouped g.0 g.1 g.2 row })
 
--- groups to whose last a row is counted are groups with that row
+-- groups with a row counted to the last of them are the groups with that row
 module _ (columns place : ℕ) (sums after : List Sum) (number : ℤ) (fits : Bool)
     (counts : (values : List Value) → IsLastOf values (Some sums) → groups_then sums (record { group = values; count = 1; total = number } ∷ []) ≡ (if fits then Some after else None)) where
   answers : (fits : Bool) → ◌≡◌ {A = Groups} (if not fits then None else Some after) (if fits then Some after else None)

@@ -103,7 +103,7 @@ fn add_row(
     Ok(true)
 }
 
-// Counts one more row to the last of groups, with its number, and answers whether it could.
+// Counts one more row to the last of groups, with its number, and returns whether that was possible.
 fn count_in_last(groups: &mut Vec<Sum>, number: i64) -> bool
     requires { AreBounded groups.old.items }
     ensures groups { (values : List value) → IsLastOf values (Some groups.old.items) → groups_then groups.old.items (record { group = values; count = 1; total = number } ∷ []) ≡ (if result then Some groups.new.items else None) }
@@ -182,7 +182,7 @@ impl Grouping {
         }
     }
 
-    /// How many columns a group has.
+    /// The number of columns of a group.
     pub(crate) fn columns(&self) -> usize
         ensures { result ≡ self.now.0 }
     {
@@ -196,7 +196,7 @@ impl Grouping {
         self.place
     }
 
-    /// Adds a row to the last group, of which it is, by the number that it has at the place.
+    /// Counts a row to the last group, which it belongs to, with its number at the place.
     pub(crate) fn add_to_last(&mut self, number: i64)
         ensures { (row : List value) → IsLastOf (take self.old.0 row) self.old.2 → spec.number_in row self.old.1 ≡ number → self.new ≡ (self.old.0, self.old.1, grouped self.old.0 self.old.1 self.old.2 row) }
     {
