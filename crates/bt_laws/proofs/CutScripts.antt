@@ -132,11 +132,11 @@ open_refused : (place : Place) → list_all is_err (commands_from place []) ≡ 
 unfolding commands_from
 open_refused place = ending_refused place
 
--- what stands before other answers is the first of all
+-- what precedes other answers is the first part of all
 first_of : (answers others : List Answer) → take (length answers) (answers ++ others) ≡ answers
 first_of answers others = take-append_seam answers others
 
--- the commands of the lines that both have, and those of the one line more
+-- the commands of the lines that both have, and those of one more line
 first_commands : (part whole done others rest : List (List ℕ)) → length rest ≤ 1 → part ≡ done ++ rest → whole ≡ done ++ others → AreFirstAndOneMore (commands_from Outside part) (commands_from Outside whole)
 first_commands part whole done others rest one part_is whole_is =
     let both = ended Outside done in

@@ -1,4 +1,4 @@
--- Each flush is large, so flushes are few.
+-- Each flush is large, so there are few flushes.
 use Rattle.std.proofs.Common.{ℕ, zero, suc, ◌≡◌, ◌∙◌, ◌+◌, ◌*◌, ◌-◌, ◌<◌, ◌≤◌, ◌⊎◌, inl, inr, Bool, true, false, cond, not, nat_eq, List, [], ◌∷◌, ◌++◌, length, map, take, drop, ap, sym, subst, refl, arith, le_refl, Option, None, Some}
 use Rattle.std.proofs.lemmas.Bool.{cases_lt, cond-false, cond-true, eqb-false, eqb-true, le-leb, lt-leb}
 use Rattle.std.proofs.Math.Nat.{mul-le-mul_left, mul-le-mul_right}
@@ -51,7 +51,7 @@ module _ {X : Type 0} (weight : X → ℕ) where
   heavy-few [] = omega arith
   heavy-few (x ∷ xs) = elim (nat_eq (weight x) 0) as (λ b. cond b 0 1 + heavy xs ≤ suc (length xs)) [ true ↦ omega (arith, heavy-few xs) | false ↦ omega (arith, heavy-few xs) ]
 
-  -- all together are no more than as many times the heaviest
+  -- the total is at most the number of items with a weight times the largest weight
   total-heavy : (xs : List X) (m : ℕ) → most (map weight xs) ≤ m → total (map weight xs) ≤ heavy xs * m
   unfolding heavy one_if_heavy
   total-heavy [] m l = omega arith
@@ -61,7 +61,7 @@ module _ {X : Type 0} (weight : X → ℕ) where
       by_weight true light rest = let none : weight x ≡ 0 = eqb-true (weight x) 0 light in omega (arith, none, rest)
       by_weight false some rest = let own : weight x ≤ m = omega (arith, l) in omega (arith, own, rest)
 
-  -- where they are over capacity, the heaviest has its part of it
+  -- if the items are over capacity, the heaviest has its share of it
   share : (xs : List X) (k capacity : ℕ) → heavy xs ≤ k → capacity < total (map weight xs) → capacity < k * most (map weight xs)
   share xs k capacity few over =
       let all = total-heavy xs (most (map weight xs)) (le_refl (most (map weight xs))) in
@@ -103,7 +103,7 @@ module _ {X : Type 0} (weight : X → ℕ) (parts : X → List X) where
       by_first false other rest = later m (place_of m (map weight xs)) x xs (rest (omega (arith, from, eqb-false (weight x) m other)))
 
   module _ (light : (x : X) → AllLight weight (parts x)) where
-    -- after the heaviest is replaced fewer have a weight
+    -- after the heaviest is replaced, fewer items have a weight
     fewer : (m i : ℕ) (xs : List X) (t : IsTaken m i xs) → heavy weight (opened_at weight parts i xs) ≤ heavy weight xs
     fewer m i xs t =
         let before = ap (heavy weight) t.whole ∙ heavy-append weight t.first (t.item ∷ t.others) in
@@ -130,7 +130,7 @@ module _ {X : Type 0} (weight : X → ℕ) (parts : X → List X) where
       | inr fits ↦ subst (AllByRecursion (λ x. capacity < k * weight x)) (sym (cond-true _ _ _ (le-leb (total (map weight xs)) capacity fits))) tt
     ]
 
--- ---- what flushes cost
+-- ---- the cost of flushes
 
 step_sum : (fanout m pot e count capacity after : ℕ) → suc capacity ≤ fanout * m → count * suc capacity + fanout * after ≤ fanout * (pot + m * e)
     → suc count * suc capacity + fanout * after ≤ fanout * (m * suc e + pot)
@@ -147,7 +147,7 @@ module _ {V M : Type 0} (meaning : Meaning V M) (shape : Shape) where
   abbrev w : Child V M → ℕ
   w = pending_load meaning.weigh shape
 
-  -- how far messages in buffers may go, with a bound on the height of the node
+  -- the levels that messages in buffers may still move down, with a bound on the height of the node
   abbrev mutual
     pot : ℕ → Tree V M → ℕ
     pot h (leaf rows) = 0
@@ -158,7 +158,7 @@ module _ {V M : Type 0} (meaning : Meaning V M) (shape : Shape) where
     pots h none = 0
     pots h (node k t ns) = pot h t + pots h ns
 
-  -- of siblings, and of children with what is pending for them
+  -- the same for siblings, and for children with what is pending for them
   abbrev all_pot : ℕ → Siblings V M → ℕ
   all_pot h [] = 0
   all_pot h (x ∷ xs) = pot h x.1 + all_pot h xs
@@ -224,7 +224,7 @@ module _ {V M : Type 0} (meaning : Meaning V M) (shape : Shape) where
 
   -- ---- the loop over children
 
-  -- the flushes below a node, each as large as it is at least, are paid for by how far the messages may go
+  -- the flushes below a node, each of at least its size, are paid for by the levels that messages may still move down
   Pays : ℕ → Type 0
   Pays e = (t : Tree V M) (packet : Messages M) → IsSized meaning.weigh shape t → height t ≤ suc e →
       flush_count_at meaning shape (suc e) t packet * suc shape.buffer + shape.fanout * all_pot (suc e) (flush_at meaning Absorb (suc e) shape t packet) ≤ shape.fanout * (pot (suc e) t + room packet * e)
@@ -417,7 +417,7 @@ module _ {V M : Type 0} (meaning : Meaning V M) (shape : Shape) where
     pots_more h k none l = omega arith
     pots_more h k (node j t ns) l = omega (arith, pot_more h k t l, pots_more h k ns l)
 
-  -- siblings that are no higher than this
+  -- siblings that are at most this high
   AreLow : ℕ → Siblings V M → Type 0
   AreLow h [] = Unit {0}
   AreLow h (x ∷ xs) = (height x.1 ≤ h) × AreLow h xs
@@ -466,7 +466,7 @@ module _ {V M : Type 0} (meaning : Meaning V M) (shape : Shape) where
       low-pivot_first (suc h) [] (map gathered (deal shape.fanout cs))
       (low-groups h (deal shape.fanout cs) (subst (λ (ds : List (Child V M)). AreLow h (without ds)) (sym (joined-deal shape.fanout cs)) (subst (AreLow h) (sym (without-none xs)) low)))
 
-  -- the one node above siblings has no more ahead than they have
+  -- the single node above siblings has no more levels ahead than they have
   crown_pot : (levels h : ℕ) (xs : Siblings V M) → AreLow h xs → pot (height (crown_within levels shape xs)) (crown_within levels shape xs) ≤ all_pot h xs
   unfolding AreLow
   crown_pot levels h [] low = omega arith
@@ -477,7 +477,7 @@ module _ {V M : Type 0} (meaning : Meaning V M) (shape : Shape) where
       let above = crown_pot levels (suc h) (grouped shape (none_pending all)) (low-grouped h all low) in
       omega (arith, above, grouped_pot h (none_pending all), child_pot-none h all)
 
-  -- siblings that lie with so many levels below them are no higher
+  -- siblings with this many levels below them are at most that high
   siblings-low : (levels : ℕ) (low high : Option Key) (xs : Siblings V M) → SiblingsLie levels low high xs → AreSized meaning.weigh shape (nodes xs) → AreLow (suc levels) xs
   unfolding AreLow
   siblings-low levels low high [] lie sized = tt
@@ -516,7 +516,7 @@ module _ {V M : Type 0} (meaning : Meaning V M) (shape : Shape) where
       run_sum (flush_count meaning shape t packet) (flush_counts meaning shape next packets) shape.buffer shape.fanout (pot (height next) next) (pot (height t) t) (room packet * (height t - 1)) (levels_ahead meaning shape next packets)
       (sink_paid t packet has) (run_paid next packets (sunk-has_shape meaning shape t has packet))
 
-  -- where all leaves are equally deep, the bound is the number of levels
+  -- if all leaves are at the same depth, the bound is the number of levels
   mutual
     pot_is : (levels : ℕ) (low high : Option Key) (t : Tree V M) → Lies levels low high t → IsSized meaning.weigh shape t → pot (suc levels) t ≡ levels_pending meaning shape t
     pot_is zero low high (leaf rows) lies sized = refl
@@ -538,7 +538,7 @@ module _ {V M : Type 0} (meaning : Meaning V M) (shape : Shape) where
       let start : pot (height t) t ≡ levels_pending meaning shape t = ap (λ h. pot h t) high ∙ pot_is has.levels None None t has.fits.lies has.fits.sized in
       subst (λ n. flush_counts meaning shape t packets * suc shape.buffer ≤ shape.fanout * (n + levels_ahead meaning shape t packets)) start (run_paid t packets has)
 
-  -- ---- a tree grows no lower
+  -- ---- a tree does not get lower
 
   -- siblings that are at least this high
   AreTall : ℕ → Siblings V M → Type 0
@@ -566,7 +566,7 @@ module _ {V M : Type 0} (meaning : Meaning V M) (shape : Shape) where
   some_group [] c cs is = absurd cc
   some_group (g ∷ gs) c cs is = omega arith
 
-  -- the one node above siblings is no lower than they
+  -- the single node above siblings is at least as high as they are
   crown_tall : (levels h : ℕ) → 0 < shape.fanout → (xs : Siblings V M) → 1 ≤ length xs → AreTall h xs → h ≤ height (crown_within levels shape xs)
   unfolding AreTall
   crown_tall levels h fan [] some tall = absurd (omega (arith, some))

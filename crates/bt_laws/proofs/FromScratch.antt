@@ -24,7 +24,7 @@ use Rattle.bt_laws.specs.CanonicalForms.{AreOfOneDefinition, HaveSameRows, all_r
 
 -- ---- trees that are found by their names
 
--- an index is found from a place on in no earlier one
+-- an index that is found from a place on is at that place or later
 found_past : (place : ℕ) (name : List ℕ) (indexes : List Index) (found : ℕ × Index) → index_named_from place name indexes ≡ Some found → place ≤ found.0
 found_past place name [] found is = absurd cc
 found_past place name (index ∷ indexes) found is = by_name (is_name_of name index) (λ later. found_past (suc place) name indexes found later) is
@@ -57,12 +57,12 @@ found_after (suc k) place name (index ∷ indexes) found new same at is =
     by_name true named after here = let first : place ≡ found.0 = cc in absurd (omega (arith, at, first))
     by_name false other after later = ap (λ b. if b then Some (place, index) else index_named_from (suc place) name (set indexes k new)) other ∙ after later
 
--- a tree of a name is that of the rows
+-- the tree of a name is that of the rows
 record IsOfRows (table : PlainTable) (name : List ℕ) (tree : NamedTree) : Type 0 where
   primary : is_primary name ≡ true
   is : tree ≡ Primary table
 
--- or that of an index
+-- or it is that of an index
 record IsOfIndex (table : PlainTable) (name : List ℕ) (tree : NamedTree) : Type 0 where
   other : is_primary name ≡ false
   found : ℕ × Index
@@ -82,7 +82,7 @@ which table name tree is = by_name (is_primary name) refl is
 
 -- ---- rebuilt trees
 
--- the tree of a complete index, rebuilt, is packed of what its definition selects
+-- the tree of a complete index, rebuilt, is packed from what its definition selects
 rebuilt_entries : (schema : Schema) (shape : Shape) (rows : Rows (List Value)) (index : Index) → IsSoundIndex schema shape rows index → is_complete index ≡ true →
     rebuilt entry_effect index.tree.0 index.tree.1 ≡ packed index.tree.0 (select (entry_of index.def) rows)
 rebuilt_entries schema shape rows index sound complete = ap (packed index.tree.0) (holds_selection schema shape rows index sound complete)

@@ -30,7 +30,7 @@ use Rattle.bt_laws.specs.StoredTables.{HasOnlyBytes}
 use Rattle.bt_view.specs.Images.{children_text, deeper, first_line, image_text, inner_line, key_line, leaf_line, leaf_row_line, message_line, node_text, others_text, pivot_line, row_text}
 use Rattle.bt_laws.proofs.ValueTexts.{own, values_of_texts}
 
--- ---- texts that are read in one way
+-- ---- texts that can be read in only one way
 
 -- what follows the same text
 cancelled : (text first second : List ℕ) → text ++ first ≡ text ++ second → first ≡ second

@@ -23,7 +23,7 @@ module _ {V M : Type 0} (weigh : Key × M → ℕ) (shape : Shape) where
     pub high : height t ≡ suc levels
     pub wide : 2 ^ levels ≤ leaf_count t
 
-  -- nodes side by side, each with this many levels below it
+  -- sibling nodes, each with this many levels below it
   pub record AreWide (levels : ℕ) (ns : Nodes V M) : Type 0 where
     pub high : 1 ≤ length (children ns) → height_below ns ≡ suc levels
     pub wide : length (children ns) * 2 ^ levels ≤ leaves_below ns

@@ -1,4 +1,4 @@
--- The rows of a dump are those that it was made of.
+-- The rows of a dump are the rows that were dumped.
 use Rattle.std.proofs.Common.{ℕ, zero, suc, ◌≡◌, ◌∙◌, ◌+◌, ◌≤◌, ◌==◌, ◌&&◌, ◌++◌, Bool, true, false, List, [], ◌∷◌, length, map, None, Result, Ok, Err, ap, sym, subst, refl, arith, append_assoc, append-nil, length-append, if◌then◌else◌, codes, T, eq-eqb}
 use Rattle.std.proofs.lemmas.List.{length-map}
 use Rattle.std.specs.Cmp.Lexicographic.{pointwise}
@@ -78,7 +78,7 @@ unfolding rows_text
 lines_long [] = omega arith
 lines_long (row ∷ rows) = omega (arith, length-append (row_text default_writer row) (rows_text rows), line_long row, lines_long rows)
 
--- all records are read, where as many may be
+-- all records are read, if that many may be
 read_all : (n : ℕ) (rows : List (List (List ℕ))) → length rows ≤ n → records_from default_config n state.StartRecord (rows_text rows) ≡ map read_back rows
 unfolding records_from rows_text
 read_all zero [] few = refl
@@ -131,7 +131,7 @@ row_read columns item row of bytes =
     ap (λ t. if t then or_refused (BadField item) (values_of columns (map text_of row)) else Err (BadLength item)) long
     ∙ ap (or_refused (BadField item)) (values_of_texts columns row of.fits of.in_range bytes)
 
--- each was read
+-- each row was read
 abbrev found : List (List Value) → List (Result (List Value) Refusal)
 found rows = map (λ row. Ok row) rows
 
@@ -195,7 +195,7 @@ bytes_of (r ∷ rows) bytes = (bytes.0, bytes_of rows bytes.1)
 
 -- ---- the table that loads the dump
 
--- what is seen of a table by a scan of all its rows
+-- what a scan of all rows of a table shows
 scanned : (table : PlainTable) (rows : List (List Value)) → AreShown table rows → map (λ r. r.1) table.rows ≡ rows
 scanned table rows is =
     let all : Ok (map (λ r. r.1) (between None None table.rows)) ≡ Ok rows = is in

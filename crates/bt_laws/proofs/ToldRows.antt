@@ -52,7 +52,7 @@ rows_image table stored = rebuilt_from_scratch table stored.sound (codes "primar
 one_text : (first second : List ℕ) (read : Result (List ℕ) Refusal) → read ≡ Ok first → read ≡ Ok second → first ≡ second
 one_text first second read one two = cc
 
--- rows of a table in the tree that is packed of them
+-- the rows of a table in the tree that is packed from them
 module _ (table : PlainTable) (stored : IsStored table) where
   abbrev tree : RowTree
   tree = packed table.shape table.rows

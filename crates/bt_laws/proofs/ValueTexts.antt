@@ -1,4 +1,4 @@
--- A value is what its text spells.
+-- The text of a value is read as that value.
 use Rattle.std.proofs.Common.{ℕ, suc, ◌≡◌, ◌∙◌, ◌+◌, ◌-◌, ◌*◌, ◌/◌, ◌%◌, ◌^◌, ◌<◌, ◌≤◌, ◌==◌, ◌&&◌, Bool, true, false, List, [], ◌∷◌, length, get_or, nat_le, nat_lt, Option, Some, None, ap, subst, refl, arith, inl, inr, rules, ℤ, pos, negsuc, neg_ℤ, if◌then◌else◌, w64}
 use Rattle.std.proofs.lemmas.Bool.{cases_lt, le-leb, lt-leb}
 use Rattle.std.proofs.lemmas.Bool.Decides.{nat_tests}
@@ -108,7 +108,7 @@ both : (a b : Bool) → (a && b) ≡ true → (a ≡ true) × (b ≡ true)
 both true b e = (refl, e)
 both false b e = absurd cc
 
--- a row is what its texts spell
+-- the texts of a row are read as that row
 pub values_of_texts : (columns : List Column) (row : List Value) → fit_columns columns row ≡ true → AreInRange row → AllByRecursion HasOnlyBytes row → values_of columns (map text_of row) ≡ Some row
 values_of_texts [] [] fits range bytes = refl
 values_of_texts [] (v ∷ vs) fits range bytes = absurd cc

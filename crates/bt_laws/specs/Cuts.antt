@@ -5,7 +5,7 @@ use Rattle.bt_script.specs.Commands.{Answer}
 use Rattle.bt_shell.specs.Runs.{after_commands}
 use Rattle.bt_shell.specs.Steps.{State}
 
--- the first of the commands of the whole, `count` of them, and after them at most one other
+-- the first of the commands of the whole, `count` of them, followed by at most one other
 pub record AreFirstAndOneMore (part whole : List Answer) : Type 0 where
   pub count : ℕ
   pub within : count ≤ length whole
@@ -13,7 +13,7 @@ pub record AreFirstAndOneMore (part whole : List Answer) : Type 0 where
   pub one : length more ≤ 1
   pub are : part ≡ take count whole ++ more
 
--- The same, and the other one, if there is one, is refused. So the part leaves what the first commands of the whole leave, of each table.
+-- The same, and the other one, if there is one, is refused. So the part changes any table as the first commands of the whole do.
 pub record AreFirstAndOneRefused (part whole : List Answer) : Type 0 where
   pub first : AreFirstAndOneMore part whole
   pub refused : list_all is_err first.more ≡ true

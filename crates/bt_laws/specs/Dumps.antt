@@ -17,7 +17,7 @@ use Rattle.bt_laws.specs.CanonicalForms.{AreOfOneDefinition, image_after, is_of_
 abbrev pub header_line : List Column → List ℕ
 header_line columns = record_text (map (λ c. c.name) columns) ++ codes "\n"
 
--- the dump of rows with these columns: the header, and then the line of each row
+-- the dump of rows with these columns: the header, followed by the line of each row
 abbrev pub dump_of : List Column → List (List Value) → List ℕ
 dump_of columns rows = header_line columns ++ flat_map record_line rows
 
@@ -27,7 +27,7 @@ AreShown table rows = scan (Intact table) (codes "primary") None None ≡ Ok row
 
 -- ---- two tables
 
--- the header does not begin with a byte order mark, which a load would drop; no name of the language does
+-- the header does not begin with a byte order mark, which a load would drop; no column name of the language does
 abbrev pub HasPlainHeader : PlainTable → Type 0
 HasPlainHeader table = has_mark (header_line table.schema.columns) ≡ false
 
@@ -36,14 +36,14 @@ pub record IsReadyFor (table other : PlainTable) : Type 0 where
   pub schema : other.schema ≡ table.schema
   pub allowed : load_refusals other.indexes other.tree ≡ []
 
--- The other table loads the dump, and has the rows of the first one then.
+-- The other table loads the dump, and then has the rows of the first one.
 abbrev pub LoadsRowsOf : PlainTable → PlainTable → Type 0
 LoadsRowsOf table other =
     (rows : List (List Value)) →
     AreShown table rows →
     step (Intact other) (Load (dump_of table.schema.columns rows)) ≡ Ok (Intact (with_rows other table.rows), Loaded (length table.rows))
 
--- Its trees have the images then that the trees of the first one have once they are rebuilt.
+-- Then its trees have the images that the trees of the first one have after they are rebuilt.
 abbrev pub LoadsImagesOf : PlainTable → PlainTable → Type 0
 LoadsImagesOf table other =
     (rows : List (List Value)) (name : List ℕ) (tree loaded : NamedTree) →

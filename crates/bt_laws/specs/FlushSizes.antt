@@ -1,4 +1,4 @@
--- How much goes down with a flush, and how many flushes packets lead to.
+-- How much a flush moves down, and how many flushes packets lead to.
 use Rattle.std.specs.Prelude.{ℕ, zero, suc, ◌+◌, ◌*◌, ◌-◌, ◌<◌, ◌≤◌, List, [], ◌∷◌, length, map}
 use Rattle.std.specs.List.{AllByRecursion}
 use Rattle.bt_node.specs.Flushes.{Child, Flush, flush_at, flushed, loads, pending_load, shared, sunk}
@@ -11,12 +11,12 @@ use Rattle.bt_node.specs.declared.form.mode.Mode.TheVariants.{Absorb}
 module _ {V M : Type 0} (meaning : Meaning V M) (shape : Shape) where
   -- ---- one node
 
-  -- the children that are flushed, in turn: the fullest, while more is pending than the buffer has room for
+  -- the children that are flushed, one after the other: the fullest, as long as more is pending than the buffer can hold
   abbrev pub flushed_children : Flush V M → List (Child V M) → List (Child V M)
   flushed_children flush cs =
       opened_items (pending_load meaning.weigh shape) (flushed flush) shape.buffer (total (loads meaning.weigh shape cs)) cs
 
-  -- Each of them takes down more than the room of the buffer divided by the number of children.
+  -- Each flush moves down more than the capacity of the buffer divided by the number of children.
   abbrev pub FlushesAreLarge : Flush V M → List (Child V M) → Type 0
   FlushesAreLarge flush cs =
       AllByRecursion (λ c. shape.buffer < length cs * pending_load meaning.weigh shape c) (flushed_children flush cs)
@@ -31,7 +31,7 @@ module _ {V M : Type 0} (meaning : Meaning V M) (shape : Shape) where
       total (map (λ c. suc (flush_count_at high c.tree c.pending))
       (flushed_children (flush_at meaning Absorb high shape) (shared (children ns) (with_messages packet buffer))))
 
-  -- how many are when a packet comes into a tree
+  -- how many children are flushed when a packet comes into a tree
   abbrev pub flush_count : Tree V M → Messages M → ℕ
   flush_count t packet = flush_count_at (height t) t packet
 
@@ -40,22 +40,22 @@ module _ {V M : Type 0} (meaning : Meaning V M) (shape : Shape) where
   sunk_all t [] = t
   sunk_all t (packet ∷ packets) = sunk_all (sunk meaning shape t packet) packets
 
-  -- how many children are flushed
+  -- how many children are flushed for all packets
   abbrev pub flush_counts : Tree V M → List (Messages M) → ℕ
   flush_counts t [] = 0
   flush_counts t (packet ∷ packets) = flush_count t packet + flush_counts (sunk meaning shape t packet) packets
 
-  -- the room that the messages of all packets take
+  -- the load of the messages of all packets
   abbrev pub arrived : List (Messages M) → ℕ
   arrived packets = total (map (load meaning.weigh shape.measure) packets)
 
-  -- the room that packets take, each times the levels below the root of the tree that it comes into
+  -- the load of each packet times the levels below the root of the tree that it comes into, summed over all packets
   abbrev pub levels_ahead : Tree V M → List (Messages M) → ℕ
   levels_ahead t [] = 0
   levels_ahead t (packet ∷ packets) =
       load meaning.weigh shape.measure packet * (height t - 1) + levels_ahead (sunk meaning shape t packet) packets
 
-  -- the room that the messages take that are pending at first, each times the levels below its node: 0, if none are
+  -- the load of the messages that are pending at first, each times the levels below its node: 0, if none are
   abbrev mutual
     pub levels_pending : Tree V M → ℕ
     levels_pending (leaf rows) = 0
@@ -65,12 +65,12 @@ module _ {V M : Type 0} (meaning : Meaning V M) (shape : Shape) where
     levels_pending_below none = 0
     levels_pending_below (node k t ns) = levels_pending t + levels_pending_below ns
 
-  -- The flushes, times the room of a buffer and one, are at most the fanout times the levels that the messages have below them.
+  -- The number of flushes times (buffer + 1) is at most the fanout times the levels that the messages have below them, each weighted with its load.
   abbrev pub FlushesAreFew : Tree V M → List (Messages M) → Type 0
   FlushesAreFew t packets =
       flush_counts t packets * suc shape.buffer ≤ shape.fanout * (levels_pending t + levels_ahead t packets)
 
-  -- So they are at most the fanout times all that came, times the levels below the root at the end.
+  -- So it is at most the fanout times the load of all messages that came, times the levels below the root at the end.
   abbrev pub FlushesAreFewInAll : Tree V M → List (Messages M) → Type 0
   FlushesAreFewInAll t packets =
       flush_counts t packets * suc shape.buffer ≤ shape.fanout * (levels_pending t + arrived packets * (height (sunk_all t packets) - 1))

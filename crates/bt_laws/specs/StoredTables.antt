@@ -13,7 +13,7 @@ abbrev pub HasOnlyBytes : Value → Type 0
 HasOnlyBytes (value.Bytes bytes) = AllByRecursion (λ b. b < 256) bytes
 HasOnlyBytes other = Unit {0}
 
--- What is true of each table of a program between two calls, if it is not lost. The types of its parts say the last three.
+-- What is true of each table of a program between two calls, if it is not lost. The types of its parts state the last three.
 pub record IsStored (table : PlainTable) : Type 0 where
   -- its trees hold its rows and entries, and its rows are of its columns
   pub sound : IsSoundTable table

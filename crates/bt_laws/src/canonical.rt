@@ -1,14 +1,14 @@
-//! Trees that are rebuilt, and what their images depend on.
+//! Rebuilt trees, and what their images depend on.
 ghost use Rattle.std.specs.Prelude.{List, ℕ};
 ghost use Rattle.bt_table.specs.Standing.{IsSoundTable};
 ghost use Rattle.bt_table.specs.Tables.{PlainTable};
 ghost use Rattle.bt_laws.specs.CanonicalForms.{HaveSameRows, ImagesTellRows, IsLoadedOnceRebuilt, LoadsFromScratch, RebuildAlike, RebuildsFromScratch};
 ghost use Rattle.bt_laws.specs.StoredTables.{IsStored};
 
-/// The image of a tree that was rebuilt depends on the columns, the shape and the rows of the table alone, and of an index on its definition. That of a table
-/// that has loaded a text does too. And the image of a rebuilt tree of rows tells the rows.
+/// The image of a rebuilt tree depends only on the columns, the shape and the rows of the table, and that of an index also on its definition. The same is true
+/// of the image of a tree in a table that has loaded a text. And the image of a rebuilt tree of rows determines the rows.
 ///
-/// Each table that is not lost is sound (`IsSoundTable`), so what was done to it before, in which order and by whom, is not seen.
+/// Each table that is not lost is sound (`IsSoundTable`). So earlier calls on it, their order and the number of workers make no difference to these images.
 pub fn canonical_form()
     ensures rebuilt { (table : PlainTable) (name : List ℕ) → IsSoundTable table → RebuildsFromScratch table name }
     ensures loaded { (table : PlainTable) (text name : List ℕ) → IsSoundTable table → LoadsFromScratch table text name }

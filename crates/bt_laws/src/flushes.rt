@@ -1,4 +1,4 @@
-//! How large flushes are, and how many there are.
+//! The size of flushes, and their number.
 ghost use Rattle.std.specs.Prelude.{List};
 ghost use Rattle.bt_messages.specs.Meanings.{meaning_of};
 ghost use Rattle.bt_messages.specs.Weights.{weigh_of};
@@ -11,10 +11,10 @@ ghost use Rattle.bt_laws.specs.FlushSizes.{FlushesAreFew, FlushesAreFewInAll, Fl
 
 use bt_messages::Merge;
 
-/// Each flush of a child is large, so packets lead to few flushes (Bender et al., ";login:" 40(5), 2015): the flushes times the buffer and one, divided by the
-/// fanout, are at most the messages that came times the levels below the root.
+/// Each flush of a child is large, so packets lead to few flushes (Bender et al., ";login:" 40(5), 2015). The number of flushes times
+/// (buffer + 1), divided by the fanout, is at most the number of messages that came times the levels below the root.
 ///
-/// The clauses speak of load, so they hold for both measures of a buffer: the load of messages is their number, or what they weigh.
+/// The clauses are about load, so they are true of both measures of a buffer: the load of messages is their number, or their weight.
 pub fn flush_sizes<V: Merge>()
     ensures large { (shape : Shape) (flush : Flush V (Message V V.Delta)) (children : List (Child V (Message V V.Delta))) → FlushesAreLarge (meaning_of V.terms) shape flush children }
     ensures few { (shape : Shape) (tree : Tree V (Message V V.Delta)) (packets : List (Messages (Message V V.Delta))) → HasShape (weigh_of V.terms) shape tree → FlushesAreFew (meaning_of V.terms) shape tree packets }

@@ -7,11 +7,11 @@ ghost use Rattle.bt_laws.specs.Heights.{HasFewLevels, HasManyLeaves};
 
 use bt_messages::Merge;
 
-/// A tree that fits its shape, as each `Tree` does, has few levels for its number of leaves: each inner node has two children or more, and all leaves are
-/// equally deep.
+/// A tree that fits its shape, as each `Tree` does, has few levels for its number of leaves: each inner node has two or more children, and all leaves are at
+/// the same depth.
 ///
-/// A leaf takes two bytes of memory at least, so there are fewer than 2^63 of them in the 2^64 bytes that addresses of 64 bits reach. A tree has at most
-/// 63 levels then.
+/// A leaf takes at least two bytes of memory, so there are fewer than 2^63 leaves in the 2^64 bytes of a 64-bit address space. Such a tree has at most 63
+/// levels.
 pub fn tree_height<V: Merge>()
     ensures leaves { (shape : Shape) (tree : Tree V (Message V V.Delta)) → HasShape (weigh_of V.terms) shape tree → HasManyLeaves tree }
     ensures levels { (shape : Shape) (tree : Tree V (Message V V.Delta)) → HasShape (weigh_of V.terms) shape tree → HasFewLevels tree }
