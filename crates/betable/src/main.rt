@@ -1,4 +1,4 @@
-//! Runs a script of table commands, of a file or of standard input.
+//! Runs a script of table commands from a file or from standard input.
 #![tactic(auto)]
 
 use bt_shell::{Counted, ProgramFault, RunFault, program, read_words};
@@ -11,7 +11,7 @@ use std::sync::Wait;
 use std::thread::Threads;
 use std::{env, io};
 
-// The words of the command line, the program's name first. A word that is no UTF-8 makes it faulty.
+// The words of the command line; the first is the program's name. A word that is not UTF-8 is a fault.
 fn words_of<R: Env + AllocGlobal>(rt: &R) -> Result<Texts, ProgramFault> {
     let given = match env::args(rt) {
         Ok(given) => given,
@@ -27,7 +27,7 @@ fn words_of<R: Env + AllocGlobal>(rt: &R) -> Result<Texts, ProgramFault> {
     Ok(words)
 }
 
-// Whether the words name no file, so that the script is the standard input.
+// Whether the words name no file, so that the script is read from standard input.
 fn names_no_file(alloc: Global, words: &Texts) -> bool {
     match read_words(alloc, words) {
         Ok(said) => said.script.is_none(),
@@ -35,8 +35,8 @@ fn names_no_file(alloc: Global, words: &Texts) -> bool {
     }
 }
 
-// Passes the words and the streams on. Replies leave through a buffer. At a terminal, who started the program is told what
-// it waits for; an error of that stream is let go.
+// Passes the words and the streams on. Replies are written through a buffer. If the input is a terminal, a line reports what the program waits for; an error of
+// that stream is ignored.
 fn run<R, I, E>(rt: &R, input: I, errors: &mut Counted<E>) -> Result<u8, ProgramFault>
 where
     R: Env + Files + AllocGlobal + Print + Threads + Wait + Sync,
