@@ -11,7 +11,7 @@ use Rattle.std.specs.contracts.impls.GlobalAllocator.TheImpl.{ghosts}
 use Rattle.bt_c.specs.contracts.session.Session.{the_row}
 use Rattle.bt_c.specs.declared.session.Session.{Session}
 
--- where no session lies nothing is owned, and else what a box of the session owns
+-- nothing is owned if there is no session, and otherwise what a box of the session owns
 abbrev pub owned : Ptr → Global → Option Session → Fml
 owned at heap None = ftrue
 owned at heap (Some session) = box_owns (ghosts.dealloc_token heap) the_row at session

@@ -8,21 +8,21 @@ use Rattle.bt_c.specs.declared.session.Session.{Session}
 use Rattle.bt_c.specs.declared.status.Status.{Status}
 use Rattle.bt_c.specs.declared.status.Status.TheVariants.{AlreadyOpen, Done, NotOpen, OutOfMemory, ReplyCut}
 
--- the session, where the handle is open
+-- the session, if the handle is open
 abbrev pub session_of : Handle → Option Session
 session_of handle = handle.slot.value
 
--- a handle is open before and after a call, and this is so of its sessions
+-- a handle is open before and after a call, and this fact is true of its sessions
 abbrev pub StaysOpen : Handle → Handle → (Session → Session → Type 0) → Type 0
 StaysOpen old new Fact = MatchOption (session_of old) ⊥ (λ before. MatchOption (session_of new) ⊥ (Fact before))
 
--- whether a table was lost for want of memory
+-- whether a table was lost because memory ran out
 abbrev pub is_lost : State → Bool
 is_lost None = false
 is_lost (Some Lost) = true
 is_lost (Some (Intact table)) = false
 
--- how C spells the end of a call
+-- the code in C for the result of a call
 abbrev pub code_of : Status → ℕ
 code_of Done = 0
 code_of OutOfMemory = 1

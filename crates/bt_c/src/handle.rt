@@ -1,4 +1,4 @@
-//! What C keeps between calls.
+//! The handle of a session, which C keeps between calls.
 ghost use Rattle.std.specs.Prelude.{◌≡◌, None, Some, is_some, option_map};
 
 use crate::session::Session;
@@ -6,7 +6,7 @@ use crate::slot::Slot;
 use std::alloc::Global;
 use std::mem;
 
-/// A session, where it is open. C begins with zeros, and passes the struct on as it is.
+/// A session, if it is open. C begins with zeros, and passes the struct unchanged.
 #[repr(C)]
 #[derive(Drop)]
 pub struct Handle {
@@ -43,7 +43,7 @@ impl Handle {
         self.is_open
     }
 
-    /// Takes the session out, where it is open, and leaves the handle closed.
+    /// Takes the session out, if it is open, and leaves the handle closed.
     pub fn take(&mut self, heap: Global) -> Option<Box<Session>>
         ensures session { option_map (λ b. b.value) result ≡ self.old.slot.value }
         ensures closed { self.new.slot.value ≡ None }

@@ -1,7 +1,7 @@
-//! A table for programs in C and other languages: a session is opened, sent script after script, asked for the replies, and closed.
+//! A table for programs in C and other languages: you open a session, run script after script in it, copy the replies, and close it.
 //!
-//! C begins with a handle of zeros, and passes it by its address to one call at a time. A handle that has no session is answered so, by each call. What
-//! else C owes stands in `include/betable.h`, which has the calls and the codes of [`Status`] by name.
+//! C begins with a handle of zeros, and passes its address to one call at a time. Each call detects a handle without a session.
+//! `include/betable.h` has the other obligations of C, the calls, and the codes of [`Status`] by name.
 //!
 //! ```text
 //! betable_session session = {0};
@@ -55,11 +55,11 @@ pub extern "C" fn betable_open(alloc: Global, handle: &mut Handle) -> u32
 
 /// Carries out the commands of a script on the session's table. Their replies are kept until the next run.
 ///
-/// `Done`: each command has its reply, and the table is what they leave. `OutOfMemory`: the whole replies of the first n commands are there, and the table is the
-/// one after these n commands, the one after n + 1 of them, or lost. `ReplyCut`: a request for memory was refused for the list of replies; the table is the one
-/// after n + 1 commands, and the whole replies of the first n are there with the first bytes of the next one, if any.
+/// `Done`: each command has its reply, and the table is the one that they leave. `OutOfMemory`: the whole replies to the first n commands are kept, and the
+/// table is the one after n commands, the one after n + 1, or lost. `ReplyCut`: an allocation for the list of replies failed; the table is the one after n + 1
+/// commands, and the whole replies to the first n are kept with the first bytes of the next one, if any.
 ///
-/// A lost table stays lost, and each command on it but `table` is refused as `Failed`.
+/// A lost table stays lost, and each command on it except `table` is refused as `Failed`.
 #[unsafe(no_mangle)]
 pub extern "C" fn betable_run(alloc: Global, handle: &mut Handle, script: &[u8]) -> u32
     ensures closed { session_of handle.old ≡ None → (result ≡ code_of status.NotOpen) × (session_of handle.new ≡ None) }
@@ -72,14 +72,14 @@ pub extern "C" fn betable_run(alloc: Global, handle: &mut Handle, script: &[u8])
     ensures cut { result ≡ code_of status.ReplyCut → StaysOpen handle.old handle.new (λ old new. StopsWithinReply (λ bytes. new.text.items ≡ bytes) old.table new.table script.now) }
     ensures uncounted { result ≢ code_of status.Done → IfSome (session_of handle.new) (λ session. session.refused ≡ 0) }
 
-    // A lost table stays lost, and each command on it but `table` is refused as Failed.
+    // A lost table stays lost, and each command on it except `table` is refused as Failed.
     ensures lost { is_some (session_of handle.old) ≡ true → StaysOpen handle.old handle.new (λ old new. old.table ≡ Some Lost → (new.table ≡ Some Lost) × (replies old.table (commands script.now) ≡ flat_map lost_reply (commands script.now))) }
 
-    // Whatever the result is, the table is sound unless it is lost, and so each complete index holds exactly the entries that its definition selects from the rows.
+    // After any result the table is sound unless it is lost, and so each complete index holds exactly the entries that its definition selects from the rows.
     ensures sound { IfSome (session_of handle.new) (λ session. IfSome session.table IsSoundUnlessLost) }
     ensures complete { IfSome (session_of handle.new) (λ session. IfSome session.table CompleteIndexesHold) }
 
-    // This script after any that ends between two commands is the rest of one script.
+    // This script, after any script that ends between two commands, is the rest of one script.
     ensures one_run { (first : List ℕ) (before : State) → EndsBetweenCommands first → AreOneRun before first script.now }
 {
     let Some(mut session) = handle.take(alloc) else {
@@ -96,7 +96,7 @@ pub extern "C" fn betable_run(alloc: Global, handle: &mut Handle, script: &[u8])
     }
 }
 
-/// How many bytes the replies to the last script have: none, where there is no session.
+/// The number of bytes of the replies to the last script: none, if there is no session.
 #[unsafe(no_mangle)]
 pub extern "C" fn betable_replies_length(alloc: Global, handle: &mut Handle) -> usize
     ensures count { MatchOption (session_of handle.old) (result ≡ 0) (λ session. result ≡ length session.text.items) }
@@ -110,7 +110,7 @@ pub extern "C" fn betable_replies_length(alloc: Global, handle: &mut Handle) -> 
     count
 }
 
-/// Copies the bytes of the replies to the last script from a place on, as many as there are and as there is room for, and answers how many.
+/// Copies the bytes of the replies to the last script from a place on, as many as there are and as fit, and returns their number.
 #[unsafe(no_mangle)]
 pub extern "C" fn betable_copy_replies(
     alloc: Global,
@@ -131,7 +131,7 @@ pub extern "C" fn betable_copy_replies(
     count
 }
 
-/// How many commands of the last script were refused. After a script that was not carried out to its end it is 0.
+/// The number of commands of the last script that were refused. After a script that was not carried out to its end it is 0.
 #[unsafe(no_mangle)]
 pub extern "C" fn betable_refused_count(alloc: Global, handle: &mut Handle) -> usize
     ensures count { MatchOption (session_of handle.old) (result ≡ 0) (λ session. result ≡ session.refused) }
@@ -145,7 +145,7 @@ pub extern "C" fn betable_refused_count(alloc: Global, handle: &mut Handle) -> u
     count
 }
 
-/// Whether the table was lost for want of memory: then each command on it is refused.
+/// Whether the table was lost because memory ran out: then each command on it is refused.
 #[unsafe(no_mangle)]
 pub extern "C" fn betable_is_lost(alloc: Global, handle: &mut Handle) -> bool
     ensures lost { MatchOption (session_of handle.old) (result ≡ false) (λ session. result ≡ is_lost session.table) }
@@ -159,7 +159,7 @@ pub extern "C" fn betable_is_lost(alloc: Global, handle: &mut Handle) -> bool
     is_lost
 }
 
-/// Closes the session, and gives its memory back. The handle has none afterwards.
+/// Closes the session and frees its memory. The handle has no session afterwards.
 #[unsafe(no_mangle)]
 pub extern "C" fn betable_close(alloc: Global, handle: &mut Handle) -> u32
     ensures closed { session_of handle.new ≡ None }

@@ -1,4 +1,4 @@
-//! A table that lives between calls, and the replies that are still to be taken.
+//! A table that lives between calls, and the replies that can be copied.
 ghost use Rattle.std.specs.Prelude.{◌≡◌, ◌-◌, ◌++◌, [], IfOk, IfSome, IsErrOf, OnErr, OnOk, None, Some, drop, flat_map, length, min, take};
 ghost use Rattle.bt_script.specs.Commands.{commands};
 ghost use Rattle.bt_shell.specs.Faults.{StopsBetweenReplies, StopsWithinReply, lost_reply};
@@ -13,7 +13,7 @@ use bt_table::{Alone, Table};
 use std::alloc::Global;
 use std::mem;
 
-/// The table, where there is one, and of the script that was last carried out the replies and how many of its commands were refused.
+/// The table, if there is one; the replies to the last script, and the number of its commands that were refused.
 #[derive(Drop)]
 pub struct Session {
     pub table: Option<Table>,
@@ -21,7 +21,7 @@ pub struct Session {
     pub refused: usize,
 }
 
-// Carries out the commands of a script on a table, puts their replies after a text, and returns how many were refused.
+// Carries out the commands of a script on a table, appends their replies to a text, and returns the number of refused commands.
 fn run_into(
     alloc: Global,
     script: &[u8],
@@ -57,7 +57,7 @@ impl Session {
         }
     }
 
-    /// Carries out the commands of a script. Their replies take the place of those that were there.
+    /// Carries out the commands of a script. Their replies replace the previous ones.
     pub fn run(&mut self, alloc: Global, script: &[u8]) -> Result<(), RunFault>
         ensures written { OnOk result (self.new.text.items ≡ replies self.old.table (commands script.now)) }
         ensures state { OnOk result (self.new.table ≡ after_commands self.old.table (commands script.now)) }
@@ -76,7 +76,7 @@ impl Session {
         Ok(())
     }
 
-    /// Whether the table was lost for want of memory.
+    /// Whether the table was lost because memory ran out.
     pub fn is_lost(&self) -> bool
         ensures { result ≡ is_lost self.now.table }
     {
@@ -86,7 +86,7 @@ impl Session {
         }
     }
 
-    /// Copies the bytes of the replies from a place on, as many as there are and as there is room for.
+    /// Copies the bytes of the replies from a place on, as many as there are and as fit.
     pub fn copy(&self, from: usize, out: &mut [u8]) -> usize
         ensures bytes { take result out.new ≡ take result (drop from self.now.text.items) }
         ensures rest { drop result out.new ≡ drop result out.old }

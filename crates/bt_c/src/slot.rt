@@ -11,7 +11,7 @@ use std::alloc::Global;
 use std::marker::Model;
 use std::ptr::null_mut;
 
-/// The address of a session, where one is there.
+/// The address of a session, if there is one.
 #[repr(C)]
 #[derive(Drop)]
 pub struct Slot {

@@ -1,15 +1,15 @@
-//! How a call ended.
+//! The result of a call.
 ghost use Rattle.std.specs.Prelude.{◌≡◌};
 ghost use Rattle.bt_c.specs.Sessions.{code_of};
 
-/// How a call ended. C has the codes by name in `include/betable.h`.
+/// The result of a call. C has the codes by name in `include/betable.h`.
 #[derive(Clone, Copy, Debug, Drop)]
 pub enum Status {
-    /// All that was asked is done.
+    /// The call did all that was asked.
     Done,
-    /// A request for memory was refused. Of a run the replies to the commands before that one are there.
+    /// An allocation failed. After a run, the replies to the commands before that are kept.
     OutOfMemory,
-    /// A request for memory was refused while a reply was kept: its command is carried out, and the reply is not whole.
+    /// An allocation failed while a reply was stored: its command is carried out, and the reply is not whole.
     ReplyCut,
     /// The handle has no session.
     NotOpen,
@@ -18,7 +18,7 @@ pub enum Status {
 }
 
 impl Status {
-    /// How C spells it.
+    /// The code in C.
     pub fn code(self) -> u32
         ensures { result ≡ code_of self }
     {

@@ -35,7 +35,7 @@ use Rattle.bt_c.specs.contracts.slot.Slot.into_parts.Key.{name as #self}
 use Rattle.bt_c.proofs.slot.Slot.into_parts.Statement as stated
 use Rattle.bt_c.proofs.slot.Slot.into_parts.Code as code
 
--- the value, where one is there
+-- the value, if there is one
 some_of : (o : Option Session) → is_some o ≡ true → (x : Session) × (o ≡ Some x)
 some_of None there = absurd (true≢false (sym there))
 some_of (Some x) there = (x, refl)
