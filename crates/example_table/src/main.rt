@@ -1,4 +1,4 @@
-//! A crate of one's own on the library: it runs a script that stands in memory, and prints the replies.
+//! Your own crate on the library: it runs a script from memory, and prints the replies.
 #![tactic(auto)]
 
 use anyhow::Result;
@@ -15,7 +15,7 @@ scan primary
 go
 ";
 
-// The replies to a script, which is run on the caller's thread. `Crew::new(4, 2, 64, NoGate)` in place of `Alone` is a crew of four workers.
+// The replies to a script that runs on the caller's thread. To use a crew of four workers, write `Crew::new(4, 2, 64, NoGate)` in place of `Alone`.
 fn replies<R: AllocGlobal>(rt: &R, script: &[u8]) -> Result<Vec<u8>, RunFault> {
     let alloc = rt.alloc();
     let mut reader = Counted::new(script);
