@@ -1,4 +1,4 @@
-//! A service on the library: it counts hits of pages by batches of upserts, builds an index of them in steps between the batches, and reads both trees.
+//! A service on the library: it counts hits of pages with batches of upserts, builds an index of them in steps between the batches, and reads both trees.
 #![tactic(auto)]
 
 use anyhow::Result;
@@ -15,14 +15,14 @@ use std::sync::Wait;
 use std::thread::Threads;
 use thiserror::Error;
 
-// Hits of pages in the order in which they came, each as the record of its key: a page and a day.
+// Hits of pages in the order of their arrival, each as the record of its key: a page and a day.
 const FIRST: &[&str] = &["home,1", "shop,1", "home,1", "about,2"];
 
 const SECOND: &[&str] = &["shop,1", "home,1", "home,2", "shop,1"];
 
 const THIRD: &[&str] = &["about,2", "docs,3"];
 
-/// Why the service gives up.
+/// Why the service stops.
 #[derive(Debug, Drop, Error)]
 enum Fault {
     #[error("refused {} {}", .0.number(), .0.name())]
@@ -33,7 +33,7 @@ enum Fault {
     Memory(#[from(alloc)] AllocError),
 }
 
-/// A table of hits with an index, and who works on it.
+/// A table of hits with an index, and the crew that works on it.
 #[derive(Drop)]
 struct Service {
     alloc: Global,
@@ -43,7 +43,7 @@ struct Service {
     index: Text,
 }
 
-// An empty table, whose key is a page and a day.
+// An empty table; its key is a page and a day.
 fn new_table(alloc: Global) -> Result<Table, Fault> {
     let mut columns = Columns::new(alloc);
     for (name, kind) in [
@@ -84,7 +84,7 @@ impl Service {
         })
     }
 
-    // Applies one batch, in which each event adds one to the hits of its key.
+    // Applies one batch; each event in it adds one to the hits of its key.
     fn count<R: Threads + Wait + Sync>(&mut self, rt: &R, events: &[&str]) -> Result<(), Fault> {
         let alloc = self.alloc;
         let mut lines = Vec::new(alloc);
@@ -111,7 +111,7 @@ impl Service {
         Ok(())
     }
 
-    // One step of building: reads the next two rows, where a service would take thousands, and says whether the index is complete.
+    // One step of building: reads the next two rows (a real service would read thousands), and returns whether the index is complete.
     fn build_more<R: Threads + Wait + Sync>(&mut self, rt: &R) -> Result<bool, Fault> {
         let (index, crew) = (&self.index, &self.crew);
         let reply = self.table.build_step(rt, self.alloc, index, 2, crew)?;
@@ -126,7 +126,7 @@ impl Service {
         }
     }
 
-    // The records of the index from so many hits on: the hits, the page and the day.
+    // The records of the index with at least `from` hits: the hits, the page and the day.
     fn busiest<R: Threads + Wait + Sync>(&self, rt: &R, from: &str) -> Result<RecordText, Fault> {
         let (alloc, table, index, crew) = (self.alloc, &self.table, &self.index, &self.crew);
         let from = record(from)?;
