@@ -1,4 +1,4 @@
--- What the tests of indexes are about: rows of two ints, an id, which is the key, and a quantity.
+-- The rows of the tests of indexes: two ints, an id, which is the key, and a quantity.
 use Rattle.std.specs.Prelude.{ℤ, pos, List, [], ◌∷◌}
 use Rattle.bt_value.specs.declared.value.Kind.{Kind}
 use Rattle.bt_value.specs.declared.value.Kind.TheVariants as kind

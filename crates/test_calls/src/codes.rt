@@ -12,7 +12,7 @@ fn hex_of(alloc: Global, key: &Key) -> Result<Vec<u8>, AllocError> {
     Ok(out)
 }
 
-// The values of the fields of a line, of these kinds.
+// The values of the fields of a line; they have these kinds.
 fn values_of(alloc: Global, kinds: &[Kind], line: &str) -> Result<Vec<Value>, Refusal> {
     let fields = fields(alloc, line)?;
     let mut values = Vec::new(alloc);
@@ -25,7 +25,7 @@ fn values_of(alloc: Global, kinds: &[Kind], line: &str) -> Result<Vec<Value>, Re
     Ok(values)
 }
 
-// The code of the fields of a line, of these kinds.
+// The code of the fields of a line of these kinds.
 fn code_of(alloc: Global, kinds: &[Kind], line: &str) -> Result<Vec<u8>, Refusal> {
     let values = values_of(alloc, kinds, line)?;
     let code = encode(alloc, values.as_slice())?;
@@ -55,7 +55,7 @@ fn codes_of_values(rt: HostRuntime) {
     }
 }
 
-// The length of the code of the fields of a line, of these kinds.
+// The length of the code of the fields of a line of these kinds.
 fn length_of(alloc: Global, kinds: &[Kind], line: &str) -> Result<u64, Refusal> {
     let values = values_of(alloc, kinds, line)?;
     Ok(code_len(values.as_slice()))
@@ -73,7 +73,7 @@ fn lengths_of_codes(rt: HostRuntime) {
     }
 }
 
-// The code of the first of the fields of a line, of these kinds.
+// The code of the first fields of a line of these kinds.
 fn prefix_of(alloc: Global, kinds: &[Kind], line: &str) -> Result<Vec<u8>, Refusal> {
     let values = values_of(alloc, kinds, line)?;
     let count = values.len().min(1);
@@ -86,7 +86,7 @@ fn codes_of_first_values(rt: HostRuntime) {
     assert!(rt; is_text(code, "610001"));
 }
 
-// The values of a code, or that it is none.
+// The values of a code, or that the bytes are no code.
 fn decoded_text(alloc: Global, kinds: &[Kind], code: &[u8]) -> Result<Vec<u8>, AllocError> {
     match decode(alloc, kinds, code) {
         Ok(values) => row_text(alloc, Ok(values)),

@@ -1,6 +1,6 @@
-//! Secondary indexes: definitions, entries, what a batch does to rows, and what that and a step of building send to an index.
+//! Secondary indexes: definitions, entries, how a batch changes rows, and what a batch and a step of building send to an index.
 //!
-//! The rows are of two ints, an id, which is the key, and a quantity.
+//! The rows have two ints: an id, which is the key, and a quantity.
 ghost use Rattle.std.specs.Prelude.{◌≡◌, ◌++◌, ◌∷◌, [], IfOk};
 ghost use Rattle.std.specs.List.{All};
 ghost use Rattle.bt_messages.specs.Effects.{rows_after};
@@ -53,7 +53,7 @@ fn words(alloc: Global, line: &str) -> Result<Texts, AllocError> {
     Ok(words)
 }
 
-// The definition of an index on columns that includes others.
+// The definition of an index on some columns that includes others.
 fn index(
     alloc: Global,
     on: &str,
@@ -86,7 +86,7 @@ pub(crate) fn key(alloc: Global, id: i64) -> Result<Key, AllocError>
     encode(alloc, slice::from_ref(&Value::Int(id)))
 }
 
-// The batch with a put of a row behind it.
+// The batch followed by a put of a row.
 fn with_put(
     alloc: Global,
     batch: Vec<(Key, Message<Row>)>,
@@ -100,7 +100,7 @@ fn with_put(
     Ok(new)
 }
 
-// The batch with a del of an id behind it.
+// The batch followed by a del of an id.
 fn with_del(
     alloc: Global,
     batch: Vec<(Key, Message<Row>)>,
@@ -146,7 +146,7 @@ fn batch(alloc: Global) -> Result<Vec<(Key, Message<Row>)>, AllocError>
     with_put(alloc, three, 4, 40)
 }
 
-// What the batch does to the three rows.
+// The effects of the batch on the three rows.
 fn batch_effects(alloc: Global) -> Result<Vec<Effect>, Refusal>
     ensures { IfOk result (λ effects. (def : Definition) → SuitsKinds def spec.kinds → def.keys ≡ 1 → All (SuitsEffect def) effects.items) }
 {
@@ -158,7 +158,7 @@ fn batch_effects(alloc: Global) -> Result<Vec<Effect>, Refusal>
     Ok(found?)
 }
 
-// Adds a sign and a row, or the sign alone.
+// Appends a sign and a row, or the sign alone.
 fn add_row(out: &mut Vec<u8>, sign: &[u8], row: &Option<Row>) -> Result<(), AllocError> {
     out.extend_from_slice(sign)?;
     match row {
@@ -167,7 +167,7 @@ fn add_row(out: &mut Vec<u8>, sign: &[u8], row: &Option<Row>) -> Result<(), Allo
     }
 }
 
-// Adds an effect: its key, the row before and the row after, with a space behind.
+// Appends an effect: its key, the row before and the row after, and a space.
 fn add_effect(out: &mut Vec<u8>, effect: &Effect) -> Result<(), AllocError> {
     effect.key.write_hex(out)?;
     add_row(out, b" -", &effect.before)?;
@@ -198,14 +198,14 @@ fn effects_of_a_batch(rt: HostRuntime) {
     );
 }
 
-// Adds a sign and a key, with a space behind.
+// Appends a sign, a key and a space.
 fn add_key(out: &mut Vec<u8>, sign: &[u8], key: &Key) -> Result<(), AllocError> {
     out.extend_from_slice(sign)?;
     key.write_hex(out)?;
     out.extend_from_slice(b" ")
 }
 
-// The same, and the values that the index includes, with a space behind.
+// Appends the same with the values that the index includes, and a space.
 fn add_entry(out: &mut Vec<u8>, sign: &[u8], key: &Key, values: &Row) -> Result<(), AllocError> {
     add_key(out, sign, key)?;
     if values.len() > 0 {
@@ -257,7 +257,7 @@ fn packets_of_a_whole_index(rt: HostRuntime) {
     );
 }
 
-// What the batch sends to an index on the quantities that covers the ids up to one.
+// What the batch sends to an index on the quantities that covers the ids up to this one.
 fn sent_up_to(alloc: Global, id: i64) -> Result<Vec<u8>, Refusal> {
     sent_text(alloc, "qty", "", &Cover::UpTo(key(alloc, id)?))
 }
@@ -273,7 +273,7 @@ fn packets_of_a_building_index(rt: HostRuntime) {
     assert!(rt; is_text(sent_text(rt.alloc(), "qty", "", &Cover::Nothing), ""));
 }
 
-// Whether the ids up to one cover an id.
+// Whether a cover up to one id covers another.
 fn is_covered(alloc: Global, last: i64, id: i64) -> Result<bool, AllocError> {
     let cover = Cover::UpTo(key(alloc, last)?);
     Ok(covers(&cover, &key(alloc, id)?))
@@ -302,7 +302,7 @@ fn filtered(alloc: Global) -> Result<IndexDef, Refusal>
     index(alloc, "qty", "id", Some(&filter))
 }
 
-// The entry in it of a row with a quantity.
+// The entry in that index of a row with a quantity.
 fn filtered_entry(alloc: Global, quantity: i64) -> Result<Option<(Key, Entry)>, Refusal> {
     let row = row(alloc, 3, quantity)?;
     let def = filtered(alloc)?;
@@ -311,7 +311,7 @@ fn filtered_entry(alloc: Global, quantity: i64) -> Result<Option<(Key, Entry)>, 
     Ok(found?)
 }
 
-// The key of that entry and its value, nothing where there is none.
+// The key of that entry and its value, or nothing if there is no entry.
 fn entry_text(alloc: Global, quantity: i64) -> Result<Vec<u8>, Refusal> {
     let mut out = Vec::new(alloc);
     if let Some((key, entry)) = filtered_entry(alloc, quantity)? {

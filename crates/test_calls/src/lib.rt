@@ -1,7 +1,7 @@
-//! Tests of calls by themselves. Each public call of the crates of rows and trees that can want memory answers, where there is
-//! memory, what was worked out by hand. Nothing stands on this crate.
+//! Tests of single calls. Each public call of the crates of rows and trees that can run out of memory is called once with enough memory,
+//! and returns what was worked out by hand. No crate depends on this one.
 //!
-//! What a script can show is a script of the program `test_scripts`.
+//! What a script can show is tested by a script of the program `test_scripts`.
 #![tactic(auto)]
 
 #[cfg(test)]

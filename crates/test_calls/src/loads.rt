@@ -6,7 +6,7 @@ use bt_rowtype::{Refusal, Row, write_row};
 use std::alloc::{AllocError, Global};
 use std::thread::Threads;
 
-// The records of rows that follow their keys, in this order.
+// The records of rows with their keys, in this order.
 fn pairs_text(alloc: Global, pairs: Vec<(Key, Row)>) -> Result<Vec<u8>, AllocError> {
     let mut out = Vec::new(alloc);
     for (_key, row) in pairs {
@@ -16,7 +16,7 @@ fn pairs_text(alloc: Global, pairs: Vec<(Key, Row)>) -> Result<Vec<u8>, AllocErr
     Ok(out)
 }
 
-// The rows of a text of shops by rising key.
+// The rows of a text of shops in ascending order of their keys.
 fn loaded<T: Threads + Sync>(
     rt: &T,
     alloc: Global,

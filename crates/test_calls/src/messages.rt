@@ -1,4 +1,4 @@
-//! Packets, buffers and what messages make of values.
+//! Packets, buffers and the effects of messages on values.
 use crate::samples::{Sample, Sent, buffer_text, is_text, key, message, packet, packet_text};
 use bt_keycode::Key;
 use bt_messages::{Bins, Buffer, Entry, effect};
@@ -55,7 +55,7 @@ fn newer_messages_come_after_older_ones(rt: HostRuntime) {
     assert!(rt; is_text(filled_text::<Entry>(rt.alloc()), expected));
 }
 
-// Takes the messages of a range out of a buffer, and adds them with a bar behind.
+// Takes the messages of a range out of a buffer, and appends them and a bar.
 fn add_taken(
     alloc: Global,
     out: &mut Vec<u8>,
@@ -68,7 +68,7 @@ fn add_taken(
     out.extend_from_slice(b"|")
 }
 
-// The messages taken out between the second and the first of two keys, between the first and the second, at and past the first, and then what is left.
+// The messages taken out between the second and the first of two keys, between the first and the second, at and after the first, and then what is left.
 fn taken_text(
     alloc: Global,
     buffer: &mut Buffer<Row>,
@@ -114,7 +114,7 @@ fn divided<V: Sample>(alloc: Global) -> Result<Bins<V>, AllocError> {
     Ok(bins)
 }
 
-// Adds the number of messages of each bin and of all of them, with a bar behind.
+// Appends the number of messages of each bin and of all of them, and a bar.
 fn add_counts<V: Sample>(
     alloc: Global,
     out: &mut Vec<u8>,
@@ -128,7 +128,7 @@ fn add_counts<V: Sample>(
     out.extend_from_slice(total.as_bytes())
 }
 
-// Takes the messages of the second bin, and adds them with a bar behind.
+// Takes the messages of the second bin, and appends them and a bar.
 fn add_second<V: Sample>(
     alloc: Global,
     out: &mut Vec<u8>,
@@ -159,7 +159,7 @@ fn a_bin_is_taken(rt: HostRuntime) {
     assert!(rt; is_text(taken_bin_text::<Entry>(rt.alloc()), expected));
 }
 
-// The counts of bins when the second one is taken and spread over two, of those from the fourth on, and of the others.
+// The counts of bins after the second one is taken and spread over two, of those from the fourth on, and of the others.
 fn divided_bins_text(alloc: Global) -> Result<Vec<u8>, AllocError> {
     let mut out = Vec::new(alloc);
     let mut bins = divided::<Row>(alloc)?;
@@ -188,7 +188,7 @@ fn an_empty_bin_is_spread(rt: HostRuntime) {
     );
 }
 
-// Adds the number of a value, or a bar where there is none.
+// Appends the number of a value, or a bar if there is none.
 fn add_number<V: Sample>(
     alloc: Global,
     out: &mut Vec<u8>,
@@ -203,7 +203,7 @@ fn add_number<V: Sample>(
     }
 }
 
-// What a message makes of a value, and what a copy of it makes of that.
+// A value after a message, and after the same message again.
 fn effects_text<V: Sample>(
     alloc: Global,
     out: &mut Vec<u8>,
@@ -217,7 +217,7 @@ fn effects_text<V: Sample>(
     add_number(alloc, out, &twice)
 }
 
-// What a put, a del and an upsert, each of them twice, make of no value and of a seven.
+// No value and a seven after a put, a del and an upsert, each of them applied twice.
 fn all_effects<V: Sample>(alloc: Global) -> Result<Vec<u8>, AllocError> {
     let mut out = Vec::new(alloc);
     for sent in [Sent::Put(2), Sent::Del, Sent::Ups(5)] {

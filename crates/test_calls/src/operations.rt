@@ -7,7 +7,7 @@ use bt_rowtype::{
 use std::alloc::{AllocError, Global};
 use std::slice;
 
-// Adds a word, a place and a value, with a bar behind.
+// Appends a word, a place and a value, and a bar.
 fn add_words(
     alloc: Global,
     out: &mut Vec<u8>,
@@ -21,7 +21,7 @@ fn add_words(
     out.extend_from_slice(b"|")
 }
 
-// Adds an operation: `set 1 x|` or `add 1 5|`.
+// Appends an operation: `set 1 x|` or `add 1 5|`.
 fn add_op(alloc: Global, out: &mut Vec<u8>, op: &Op) -> Result<(), AllocError> {
     let argument = op.argument().to_value(alloc)?;
     add_words(alloc, out, op.word(), op.place(), &argument)
@@ -83,7 +83,7 @@ fn upsert_of(alloc: Global, line: &str) -> Result<Vec<u8>, Refusal> {
     Ok(upsert_text(alloc, read_upsert(alloc, &schema, 4, &fields))?)
 }
 
-// The same, read of the line by a reader.
+// The same, read from the line by a reader.
 fn upsert_of_line(alloc: Global, line: &str) -> Result<Vec<u8>, Refusal> {
     let schema = shops(alloc)?;
     let mut reader = RecordReader::new(alloc);
@@ -104,7 +104,7 @@ fn upserts_are_read(rt: HostRuntime) {
     }
 }
 
-// What an upsert does to the row of its key, which has none.
+// The change of an upsert for the row of its key, which does not exist.
 fn change(alloc: Global, schema: &Schema, upsert: Upsert) -> Result<Change, AllocError> {
     let Upsert { key, ops } = upsert;
     match default_row(alloc, schema, key) {
@@ -116,14 +116,14 @@ fn change(alloc: Global, schema: &Schema, upsert: Upsert) -> Result<Change, Allo
     }
 }
 
-// What the upsert of a line of these columns does.
+// The change of the upsert in a line of these columns.
 fn change_in(alloc: Global, schema: &Schema, line: &str) -> Result<Change, Refusal> {
     let fields = fields(alloc, line)?;
     let upsert = read_upsert(alloc, schema, 1, &fields)?;
     Ok(change(alloc, schema, upsert)?)
 }
 
-// What the upsert of a line of the shops does.
+// The change of the upsert in a line of the shops.
 fn change_of(alloc: Global, line: &str) -> Result<Change, Refusal> {
     let schema = shops(alloc)?;
     let change = change_in(alloc, &schema, line);
@@ -131,7 +131,7 @@ fn change_of(alloc: Global, line: &str) -> Result<Change, Refusal> {
     change
 }
 
-// The row of a key that had none after a change.
+// The row that a change gives to a key without a row.
 fn changed(alloc: Global, change: &Change) -> Result<Row, AllocError> {
     let row = copy_row(alloc, change.base())?;
     match change.ops(alloc) {
@@ -143,7 +143,7 @@ fn changed(alloc: Global, change: &Change) -> Result<Row, AllocError> {
     }
 }
 
-// The row of a key that had none after the upsert of a line.
+// The row that the upsert of a line gives to a key without a row.
 fn row_after(alloc: Global, line: &str) -> Result<Vec<u8>, Refusal> {
     let change = change_of(alloc, line)?;
     let row = changed(alloc, &change);
@@ -163,7 +163,7 @@ fn operations_change_the_default_row(rt: HostRuntime) {
     }
 }
 
-// A copy of what the upsert of a line does.
+// A copy of the change of the upsert in a line.
 fn copied(alloc: Global, line: &str) -> Result<Change, Refusal> {
     let change = change_of(alloc, line)?;
     let copy = copy_change(alloc, &change);
@@ -171,7 +171,7 @@ fn copied(alloc: Global, line: &str) -> Result<Change, Refusal> {
     Ok(copy?)
 }
 
-// An upsert of the row that a change makes of none, with its operations.
+// An upsert of the row that a change creates, with its operations.
 fn upsert_like(alloc: Global, change: &Change) -> Result<Upsert, AllocError> {
     let key = copy_row(alloc, change.base())?;
     match change.ops(alloc) {
@@ -205,7 +205,7 @@ fn changes_are_copied(rt: HostRuntime) {
     );
 }
 
-// The row to begin with and the operations of the upsert of a line, read at once by a reader, or why there are none.
+// The default row and the operations of the upsert of a line, read at once by a reader, or why there are none.
 fn change_of_line(alloc: Global, line: &str) -> Result<Vec<u8>, Refusal> {
     let schema = shops(alloc)?;
     let mut reader = RecordReader::new(alloc);
@@ -237,7 +237,7 @@ fn changes_are_read(rt: HostRuntime) {
     }
 }
 
-// How an addition to a column is checked.
+// The result of checking an addition to a column.
 fn addition_checked(alloc: Global, place: usize) -> Result<(), Refusal> {
     let mut ops = Ops::new(alloc);
     ops.push(Op::Add(place, 1))?;

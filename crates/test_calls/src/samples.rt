@@ -1,4 +1,4 @@
-//! What tests are made of, and the texts by which they compare answers.
+//! Sample values for tests, and texts of results for comparing them.
 use bt_keycode::Key;
 use bt_messages::{Buffer, Entry, Merge, Message, Messages, Packet};
 use bt_rowtype::{
@@ -7,7 +7,7 @@ use bt_rowtype::{
 };
 use std::alloc::{AllocError, Global};
 
-/// Whether there is an answer, and it is this text.
+/// Whether there is a result, and it is this text.
 pub(crate) fn is_text<E: Drop>(answer: Result<Vec<u8>, E>, text: &str) -> bool {
     match answer {
         Ok(answer) => answer.as_slice() == text.as_bytes(),
@@ -15,7 +15,7 @@ pub(crate) fn is_text<E: Drop>(answer: Result<Vec<u8>, E>, text: &str) -> bool {
     }
 }
 
-/// A text, or the empty one in place of one that is too long.
+/// A text, or the empty one if it is too long.
 pub(crate) fn short_text(alloc: Global, text: &str) -> Result<Text, AllocError> {
     if text.len() > MOST_VALUE_BYTES {
         return Ok(Text::empty());
@@ -38,7 +38,7 @@ pub(crate) fn shops(alloc: Global) -> Result<Schema, Refusal> {
     Schema::new(columns, 1)
 }
 
-/// The fields of a line, and none of a line that is no record.
+/// The fields of a line, and none if the line is not a record.
 pub(crate) fn fields(alloc: Global, line: &str) -> Result<Fields, AllocError> {
     match read_record(alloc, line.as_bytes())? {
         Some(fields) => Ok(fields),
@@ -65,13 +65,13 @@ pub(crate) fn row_text(alloc: Global, read: Result<Row, Refusal>) -> Result<Vec<
     }
 }
 
-/// Values of a tree, each of which stands for a number.
+/// Values of a tree, each of which represents a number.
 pub(crate) trait Sample: Merge {
     fn of(alloc: Global, number: u32) -> Result<Self, AllocError>;
 
     fn delta(alloc: Global, number: u32) -> Result<Self::Delta, AllocError>;
 
-    /// The number that the value stands for.
+    /// The number that the value represents.
     fn number(&self) -> i64;
 
     /// The number that an upsert carries.
@@ -132,7 +132,7 @@ impl Sample for Entry {
     }
 }
 
-/// What is sent to a key, with the number of its value or of its upsert.
+/// A message to a key, with the number of its value or of its upsert.
 #[derive(Clone, Copy)]
 pub(crate) enum Sent {
     Put(u32),
@@ -145,7 +145,7 @@ pub(crate) fn key(alloc: Global, letters: &str) -> Result<Key, AllocError> {
     Key::from_bytes(alloc, letters.as_bytes())
 }
 
-/// The message that is sent.
+/// The message.
 pub(crate) fn message<V: Sample>(alloc: Global, sent: Sent) -> Result<Message<V>, AllocError> {
     match sent {
         Sent::Put(number) => Ok(Message::Put(V::of(alloc, number)?)),
@@ -167,7 +167,7 @@ pub(crate) fn packet<V: Sample>(
     Packet::from_batch(alloc, messages)
 }
 
-// Adds a sign, a key and a number, with a space behind.
+// Appends a sign, a key, a number and a space.
 fn add_item(
     alloc: Global,
     out: &mut Vec<u8>,
@@ -181,7 +181,7 @@ fn add_item(
     out.extend_from_slice(text.as_bytes())
 }
 
-/// Adds a message: `+a1 ` of a put, `-a0 ` of a del, `~a1 ` of an upsert.
+/// Appends a message: `+a1 ` for a put, `-a0 ` for a del, `~a1 ` for an upsert.
 pub(crate) fn add_message<V: Sample>(
     alloc: Global,
     out: &mut Vec<u8>,
@@ -207,7 +207,7 @@ pub(crate) fn packet_text<V: Sample>(
     Ok(out)
 }
 
-/// The messages that are gone through, in order.
+/// The messages of an iterator, in order.
 pub(crate) fn messages_text<V: Sample>(
     alloc: Global,
     messages: Messages<'_, V>,
@@ -227,7 +227,7 @@ pub(crate) fn buffer_text<V: Sample>(
     messages_text(alloc, buffer.iter())
 }
 
-/// Adds a value and its key: `a1 `.
+/// Appends a value and its key: `a1 `.
 pub(crate) fn add_value<V: Sample>(
     alloc: Global,
     out: &mut Vec<u8>,

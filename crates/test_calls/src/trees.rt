@@ -45,7 +45,7 @@ fn rows_text<V: Sample>(alloc: Global, tree: &Tree<V>) -> Result<Vec<u8>, AllocE
     values_text(alloc, rows.as_slice())
 }
 
-// Adds the messages of a node.
+// Appends the messages of a node.
 fn add_messages<V: Sample>(
     alloc: Global,
     out: &mut Vec<u8>,
@@ -57,7 +57,7 @@ fn add_messages<V: Sample>(
     Ok(())
 }
 
-// Adds the values of a leaf.
+// Appends the values of a leaf.
 fn add_leaf<V: Sample>(
     alloc: Global,
     out: &mut Vec<u8>,
@@ -70,7 +70,7 @@ fn add_leaf<V: Sample>(
     Ok(())
 }
 
-// The messages of the root, and its children, a bar before each and its pivot before that, with the values of a leaf.
+// The messages of the root, and its children, each after its pivot and a bar, with the values of a leaf.
 fn root_text<V: Sample>(alloc: Global, tree: &Tree<V>) -> Result<Vec<u8>, AllocError> {
     let mut out = Vec::new(alloc);
     let root = tree.walk();
@@ -85,7 +85,7 @@ fn root_text<V: Sample>(alloc: Global, tree: &Tree<V>) -> Result<Vec<u8>, AllocE
     Ok(out)
 }
 
-// The tree of four puts after two upserts of one key and a put to another: three messages, as many as may wait.
+// The tree of four puts after two upserts of one key and a put to another: three messages, the most that may be pending.
 fn pending<V: Sample>(alloc: Global) -> Result<Tree<V>, Refusal> {
     let batch = [
         ("a", Sent::Ups(15)),
@@ -95,7 +95,7 @@ fn pending<V: Sample>(alloc: Global) -> Result<Tree<V>, Refusal> {
     Ok(after(alloc, four_puts(alloc)?, &batch)?)
 }
 
-// A tree as it stands, and what it holds.
+// A tree as it is, and its contents.
 fn tree_text<V: Sample>(alloc: Global, tree: &Tree<V>) -> Result<Vec<u8>, AllocError> {
     let mut out = root_text(alloc, tree)?;
     out.extend_from_slice(b": ")?;
@@ -104,7 +104,7 @@ fn tree_text<V: Sample>(alloc: Global, tree: &Tree<V>) -> Result<Vec<u8>, AllocE
     Ok(out)
 }
 
-// The same of a tree that is gone then.
+// The same of a tree that is dropped then.
 fn text_of<V: Sample>(alloc: Global, tree: Tree<V>) -> Result<Vec<u8>, AllocError> {
     let text = tree_text(alloc, &tree);
     drop(tree);
@@ -164,7 +164,7 @@ fn siblings_are_crowned(rt: HostRuntime) {
     );
 }
 
-// Adds the messages of an inner node, its pivots and the number of its children.
+// Appends the messages of an inner node, its pivots and the number of its children.
 fn add_inner<V: Sample>(
     alloc: Global,
     out: &mut Vec<u8>,
@@ -182,7 +182,7 @@ fn add_inner<V: Sample>(
     out.extend_from_slice(count.as_bytes())
 }
 
-// Adds what a node is made of.
+// Appends the parts of a node.
 fn add_parts<V: Sample>(alloc: Global, out: &mut Vec<u8>, node: Node<V>) -> Result<(), AllocError> {
     match node.apart() {
         Parts::Leaf(_leaf) => out.extend_from_slice(b"leaf "),
@@ -190,7 +190,7 @@ fn add_parts<V: Sample>(alloc: Global, out: &mut Vec<u8>, node: Node<V>) -> Resu
     }
 }
 
-// What the parts of a root are dealt into: of a leaf, no node.
+// The nodes that the parts of a root are divided into; a leaf gives no node.
 fn regrouped<V: Sample>(alloc: Global, tree: Tree<V>) -> Result<Vec<Node<V>>, AllocError> {
     let (shape, root) = tree.apart();
     match root.apart() {
@@ -202,7 +202,7 @@ fn regrouped<V: Sample>(alloc: Global, tree: Tree<V>) -> Result<Vec<Node<V>>, Al
     }
 }
 
-// The parts of the nodes that the parts of a root are dealt into.
+// The parts of the nodes that the parts of a root are divided into.
 fn regrouped_text(alloc: Global) -> Result<Vec<u8>, Refusal> {
     let mut out = Vec::new(alloc);
     for node in regrouped(alloc, pending::<Entry>(alloc)?)? {
@@ -216,7 +216,7 @@ fn the_parts_of_a_root_give_that_root(rt: HostRuntime) {
     assert!(rt; is_text(regrouped_text(rt.alloc()), "~a15 ~a5 +d0 c 2 "));
 }
 
-// The rows of a tree, packed into a tree of their own.
+// The rows of a tree, packed into a new tree.
 fn packed(alloc: Global, tree: Tree<Row>) -> Result<Tree<Row>, AllocError> {
     let shape = tree.shape();
     let rows = tree.rows(alloc);
@@ -239,7 +239,7 @@ fn rows_are_packed(rt: HostRuntime) {
     );
 }
 
-// A tree of three levels, with messages pending in its root and below: two children, the second from the fifth put on.
+// A tree of three levels, with messages pending in its root and below. It has two children; the second one begins at the fifth put.
 fn two_children<V: Sample>(alloc: Global) -> Result<Tree<V>, Refusal> {
     let four = [
         ("c", Sent::Put(10)),
@@ -264,7 +264,7 @@ fn two_children<V: Sample>(alloc: Global) -> Result<Tree<V>, Refusal> {
     Ok(after(alloc, tree, &split)?)
 }
 
-// What a portion holds between its bounds, and once more the value at a key that it owns.
+// The contents of a portion between its bounds, and again the value at a key that it owns.
 fn add_portion<V: Sample>(
     alloc: Global,
     out: &mut Vec<u8>,
@@ -318,7 +318,7 @@ fn portions_of_a_tree(rt: HostRuntime) {
     }
 }
 
-// The room of the buffers of a shape that is counted in bytes.
+// The capacity of the buffers of a shape that is measured in bytes.
 fn room_of(bytes: u32) -> Result<usize, Refusal> {
     Ok(Shape::weighed(4, bytes, 2)?.buffer())
 }

@@ -7,7 +7,7 @@ use bt_rowtype::{
 use std::alloc::{AllocError, Global};
 use std::slice;
 
-// What a field of a kind is read as.
+// The value that a field of a kind is read as.
 fn field_text(alloc: Global, kind: Kind, field: &str) -> Result<Vec<u8>, AllocError> {
     match read_field(alloc, kind, field.as_bytes()) {
         Ok(value) => row_text(alloc, Ok(Row::from_values(alloc, slice::from_ref(&value))?)),
@@ -66,7 +66,7 @@ fn keys_are_read(rt: HostRuntime) {
     }
 }
 
-// The row of a line of the shops, once it is checked.
+// The row of a line of the shops, after it is checked.
 fn checked_row(alloc: Global, line: &str) -> Result<Row, Refusal> {
     let schema = shops(alloc)?;
     let fields = fields(alloc, line)?;
@@ -92,7 +92,7 @@ fn rows_are_checked_and_copied(rt: HostRuntime) {
     assert!(rt; is_text(copy_of(rt.alloc(), line), line));
 }
 
-// A row of so many zeros.
+// A row of `count` zeros.
 fn zeros(alloc: Global, count: u32) -> Result<Row, AllocError> {
     let mut values = Vec::new(alloc);
     for _ in 0..count {
@@ -101,7 +101,7 @@ fn zeros(alloc: Global, count: u32) -> Result<Row, AllocError> {
     Row::from_values(alloc, values.as_slice())
 }
 
-// How a row of so many zeros is checked, the fourth message of a batch.
+// The result of checking a row of `count` zeros, the fourth message of a batch.
 fn zeros_checked(alloc: Global, count: u32) -> Result<(), Refusal> {
     shops(alloc)?.check_row(4, &zeros(alloc, count)?)
 }
@@ -112,7 +112,7 @@ fn rows_of_other_schemas(rt: HostRuntime) {
     assert!(rt; matches!(zeros_checked(rt.alloc(), 4), Err(Refusal::BadField(4))));
 }
 
-// The fields of a line between bars, or nothing of what is no record.
+// The fields of a line between bars, or nothing if it is not a record.
 fn record_text(alloc: Global, line: &[u8]) -> Result<Vec<u8>, AllocError> {
     let mut out = Vec::new(alloc);
     if let Some(fields) = read_record(alloc, line)? {
@@ -132,7 +132,7 @@ fn records_are_read(rt: HostRuntime) {
     }
 }
 
-// The record of the texts between bars, behind a word.
+// A word, followed by the record of the texts between bars.
 fn texts_record(alloc: Global, texts: &str) -> Result<Vec<u8>, AllocError> {
     let mut values = Vec::new(alloc);
     for text in texts.split('|') {

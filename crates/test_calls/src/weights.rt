@@ -1,6 +1,6 @@
-//! Weights: of messages to rows and to index values, and of the bins that got them.
+//! Weights: of messages to rows and to index values, and of the bins that have them.
 //!
-//! The rows are of two ints, an id, which is the key, and a quantity.
+//! The rows have two ints: an id, which is the key, and a quantity.
 use crate::indexes::{key, row};
 use crate::samples::is_text;
 use bt_keycode::{Key, encode};
@@ -8,16 +8,16 @@ use bt_messages::{Bins, Entry, Measure, Merge, Message, Packet};
 use bt_rowtype::{Change, Op, Ops, Row, Value};
 use std::alloc::{AllocError, Global};
 
-/// So many bytes are the most that a message weighs.
+/// The largest weight of a message, in bytes.
 const MOST: usize = 16_777_215;
 
-// Adds a weight, with a space behind.
+// Appends a weight and a space.
 fn add_weight(alloc: Global, out: &mut Vec<u8>, weight: u128) -> Result<(), AllocError> {
     let text = format!(in alloc; "{weight} ")?;
     out.extend_from_slice(text.as_bytes())
 }
 
-// What messages weigh with their keys.
+// The weights of messages with their keys.
 fn weights_text<V: Merge>(
     alloc: Global,
     messages: &[(Key, Message<V>)],
@@ -29,7 +29,7 @@ fn weights_text<V: Merge>(
     Ok(out)
 }
 
-// What adds to the quantity of an id.
+// The change that adds to the quantity of an id.
 fn addition(alloc: Global, id: i64, number: i64) -> Result<Change, AllocError> {
     let mut ops = Ops::new(alloc);
     ops.push(Op::Add(1, number))?;
@@ -81,7 +81,7 @@ fn messages_to_entries_are_weighed(rt: HostRuntime) {
     assert!(rt; is_text(entry_weights(rt.alloc()), "33 33 17 17 "));
 }
 
-// The weight of a del of a key of so many bytes.
+// The weight of a del of a key of `length` bytes.
 fn del_weight(alloc: Global, length: usize) -> Result<u64, AllocError> {
     let bytes = vec![in alloc; 7u8; length]?;
     let key = Key::from_bytes(alloc, bytes.as_slice())?;
@@ -95,7 +95,7 @@ fn no_message_weighs_more_than_the_most(rt: HostRuntime) {
     }
 }
 
-// Bins divided at the id 2 that got the four messages, measured in this way.
+// Bins divided at the id 2 with the four messages, measured in this way.
 fn divided(alloc: Global, measure: Measure) -> Result<Bins<Row>, AllocError> {
     let pivots = [key(alloc, 2)?];
     let mut bins = Bins::new(alloc, 2)?;
@@ -106,7 +106,7 @@ fn divided(alloc: Global, measure: Measure) -> Result<Bins<Row>, AllocError> {
     Ok(bins)
 }
 
-// Adds the weight of each bin, with a bar behind.
+// Appends the weight of each bin, and a bar.
 fn add_weights(alloc: Global, out: &mut Vec<u8>, bins: &Bins<Row>) -> Result<(), AllocError> {
     for child in 0..bins.len() {
         add_weight(alloc, out, bins.weight(child))?;
@@ -114,7 +114,7 @@ fn add_weights(alloc: Global, out: &mut Vec<u8>, bins: &Bins<Row>) -> Result<(),
     out.extend_from_slice(b"|")
 }
 
-// The weights of bins, and those when the first of them was taken.
+// The weights of bins, and those after the first of them was taken.
 fn bin_weights(alloc: Global, measure: Measure) -> Result<Vec<u8>, AllocError> {
     let mut out = Vec::new(alloc);
     let mut bins = divided(alloc, measure)?;
