@@ -1,4 +1,4 @@
--- What becomes of the jobs of a cut stands at their places, in whatever order they are run.
+-- The results of the jobs of a cut are at their places, in any order in which the jobs are run.
 use Rattle.std.proofs.Common.{◌≡◌, ℕ, append-nil, append_assoc, T, Bool, true, false, List, [], ◌∷◌, ◌++◌, map, reverse, inl, inr, refl, ap, subst, sym, ◌∙◌}
 use Rattle.std.proofs.lemmas.Bool.{and_parts, cond-false, cond-true}
 use Rattle.std.proofs.lemmas.List.{map-append, reverse-append}
@@ -43,7 +43,7 @@ each-reverse : {X : Type 0} (P : X → Type 0) (xs : List X) → Each P xs → E
 each-reverse P [] u = tt
 each-reverse P (x ∷ xs) u = subst (Each P) (sym (reverse-append (x ∷ []) xs)) (each-append P (reverse xs) (x ∷ []) (each-reverse P xs u.1) (u.0, tt))
 
--- what holds of each job, in both orders
+-- what is true of each job, in both orders
 each-turned : {X : Type 0} (P : X → Type 0) (xs ys : List X) → AreTurned xs ys → Each P xs → Each P ys
 each-turned P xs ys (inl e) u = subst (Each P) (sym e) u
 each-turned P xs ys (inr e) u = subst (Each P) (sym e) (each-reverse P xs u)
@@ -87,7 +87,7 @@ module _ {V M : Type 0} where
   abbrev Rise : List (Job V M) → Type 0
   Rise jobs = T (is_sorted node_place_cmp (by_place jobs))
 
-  -- of jobs at rising places no two tie
+  -- no two of the jobs at rising places are at the same place
   one-job : (jobs : List (Job V M)) → Rise jobs → (a b : Job V M) → Among a jobs → Among b jobs → node_place_cmp a.place b.place ≡ Equal → a ≡ b
   one-job [] r a b m n tie = absurd m
   one-job (j ∷ js) r a b (inl e) (inl f) tie = e ∙ sym f
@@ -100,7 +100,7 @@ module _ {V M : Type 0} where
   one-job (j ∷ js) r a b (inr m) (inr n) tie = one-job js (t_true _ (and_parts _ _ (true_t _ r)).1) a b m n tie
 
   module _ (meaning : Meaning V M) (shape : Shape) (jobs : List (Job V M)) (rise : Rise jobs) where
-    -- what stands at the place of a job is what becomes of it
+    -- the piece at the place of a job is the result of the job
     stands : (js : List (Job V M)) → Each (λ j. Among j jobs) js → (job : Job V M) → Among job jobs → Answers meaning shape (outcomes meaning shape js) job
     stands [] are job m xs e = absurd (none-some xs e)
     stands (j ∷ js) are job m xs e = go (stands js are.1 job m xs) (eq_by_cmp node_place_cmp job.place j.place) refl
@@ -120,7 +120,7 @@ module _ {V M : Type 0} where
         All-from_recursion _ jobs
         (each-weaken (λ j. Among j jobs) (Answers meaning shape (outcomes meaning shape js)) (stands js are) jobs (among-themselves jobs))
 
-  -- a piece that stands first at a place stays first there
+  -- the first piece at a place remains the first one there
   find-more : (p : Place) (ps more : Pieces V M) (xs : Siblings V M) → find node_place_cmp p ps ≡ Some xs → find node_place_cmp p (ps ++ more) ≡ Some xs
   find-more p [] more xs e = absurd (none-some xs e)
   find-more p (q ∷ ps) more xs e = go (find-more p ps more xs) (eq_by_cmp node_place_cmp p q.0) refl
@@ -151,7 +151,7 @@ module _ {V D : Type 0} (meaning : Meaning V (Message V D)) (shape : Shape) wher
   left-more (job ∷ jobs) pieces left more (inl e, u) = (inl e, left-more jobs pieces left more u)
   left-more (job ∷ jobs) pieces left more (inr m, u) = (inr (among-append (node_place job.place) left more m), left-more jobs pieces left more u)
 
-  -- one job more was run, or was not
+  -- one more job was run, or was not
   run-next : (jobs : List (code.Job V D)) (job : code.Job V D) (pieces : Pieces V (Message V D)) (left : List Place) → AreRun meaning shape jobs pieces left →
       find node_place_cmp (node_place job.place) pieces ≡ None → AreRun meaning shape (jobs ++ job ∷ []) (pieces ++ (node_place job.place, outcome meaning shape (job_of job)) ∷ []) left
   run-next jobs job pieces left u free =
@@ -162,7 +162,7 @@ module _ {V D : Type 0} (meaning : Meaning V (Message V D)) (shape : Shape) wher
   left-next jobs job pieces left u =
       each-append _ jobs (job ∷ []) (left-more jobs pieces left _ u) (inr (among-last (node_place job.place) left), tt)
 
-  -- the next job of those that come is run, or its place is left
+  -- the next one of the jobs to come is run, or its place is left
   module _ (jobs coming rest : List (code.Job V D)) (job : code.Job V D) (came : rest ≡ job ∷ coming) (items : List (code_place.Place × Siblings V (Message V D))) where
     before-next : (left : List Place) → AreRunBefore meaning shape jobs rest (pieces_of items) left → AreRunBefore meaning shape jobs (job ∷ coming) (pieces_of items) left
     before-next left = subst (λ js. AreRunBefore meaning shape jobs js (pieces_of items) left) came
@@ -189,7 +189,7 @@ module _ {V D : Type 0} (meaning : Meaning V (Message V D)) (shape : Shape) wher
   pub run-all : (jobs : List (code.Job V D)) (pieces : Pieces V (Message V D)) (left : List Place) → AreRunBefore meaning shape jobs [] pieces left → AreRun meaning shape jobs pieces left
   run-all jobs pieces left u = subst (λ js. AreRun meaning shape js pieces left) (sym (u.1 ∙ append-nil u.0)) u.2
 
-  -- where no piece stands at the places that are left
+  -- if there is no piece at the places that are left
   pub run-odd : (jobs : List (code.Job V D)) (pieces : Pieces V (Message V D)) (left : List Place) → AreRun meaning shape jobs pieces left → Each (λ p. find node_place_cmp p pieces ≡ None) left → AreOdd meaning shape jobs pieces
   run-odd [] pieces left u free = tt
   run-odd (job ∷ jobs) pieces left (inl e, u) free = ((λ xs found. sym (same_Some (outcome meaning shape (job_of job)) xs (sym e ∙ found))), run-odd jobs pieces left u free)
@@ -211,14 +211,14 @@ module _ {V D : Type 0} (meaning : Meaning V (Message V D)) (shape : Shape) (roo
   fillable : (pieces found : Pieces V (Message V D)) → pieces ≡ found → All (Answers meaning shape found) c.jobs → IsFillable meaning.weigh shape c.holed pieces
   fillable pieces found is all = cut-fillable meaning shape roomy c stand rise pieces (subst (λ ps. All (Answers meaning shape ps) c.jobs) (sym is) all)
 
-  -- what becomes of them in either order can fill the cut
+  -- the results of the jobs in either order can fill the cut
   pub turned-fillable : (js : List (code.Job V D)) → AreTurned jobs js → (pieces : Pieces V (Message V D)) → pieces ≡ outcomes meaning shape (map job_of js) → IsFillable meaning.weigh shape c.holed pieces
   turned-fillable js turned pieces is =
       let here = each-map job_of (λ j. Among j c.jobs) jobs (subst (Each (λ j. Among j c.jobs)) (sym are) (among-themselves c.jobs)) in
       fillable pieces (outcomes meaning shape (map job_of js)) is
       (all-stand meaning shape c.jobs rise (map job_of js) (map-each job_of (λ j. Among j c.jobs) js (each-turned (λ j. Among (job_of j) c.jobs) jobs js turned here)))
 
-  -- and so can odd pieces, before they are looked at
+  -- and so can odd pieces, before they are checked
   pub odd-fillable : (pieces : Pieces V (Message V D)) → AreOdd meaning shape jobs pieces → IsFillable meaning.weigh shape c.holed pieces
   odd-fillable pieces odd =
       fillable pieces pieces refl (subst (All (Answers meaning shape pieces)) are (All-from_recursion _ (map job_of jobs) (map-each job_of (Answers meaning shape pieces) jobs odd)))
@@ -235,12 +235,12 @@ module _ {V D : Type 0} (meaning : Meaning V (Message V D)) (shape : Shape) (roo
   as-holed : (pieces : Pieces V (Message V D)) → IsFillable meaning.weigh tree.0 pieced.holed pieces → IsFillable meaning.weigh holed.0 holed.1 pieces
   as-holed pieces f = subst (λ h. IsFillable meaning.weigh h.0 h.1 pieces) (sym is.0) f
 
-  -- a cut can be filled by what becomes of its jobs, in either order
+  -- a cut can be filled by the results of its jobs, in either order
   pub cut-turned : (js : List (code.Job V D)) → AreTurned jobs js → (pieces : Pieces V (Message V D)) → pieces ≡ outcomes meaning shape (map job_of js) → IsFillable meaning.weigh holed.0 holed.1 pieces
   cut-turned js turned pieces are =
       as-holed pieces (turned-fillable meaning tree.0 (subst IsRoomy same roomy) pieced stand rise jobs is.1 js turned pieces (are ∙ ap (λ s. outcomes meaning s (map job_of js)) same))
 
-  -- and odd pieces may be looked at
+  -- and odd pieces may be checked
   pub cut-odd : (pieces : Pieces V (Message V D)) → AreOdd meaning shape jobs pieces → IsFillable meaning.weigh holed.0 holed.1 pieces
   cut-odd pieces odd =
       as-holed pieces (odd-fillable meaning tree.0 (subst IsRoomy same roomy) pieced stand rise jobs is.1 pieces (subst (λ s. AreOdd meaning s jobs pieces) same odd))

@@ -24,16 +24,16 @@ abbrev pub Among : {X : Type 0} → X → List X → Type 0
 Among x [] = ⊥
 Among x (y ∷ ys) = (x ≡ y) ⊎ Among x ys
 
--- the first piece at the place of each job is what becomes of the job, or the place is one of those that are left
+-- the first piece at the place of each job is the result of the job, or the place is one of those that are left
 abbrev pub AreRun : {V D : Type 0} → Meaning V (Message V D) → Shape → List (code.Job V D) → Pieces V (Message V D) → List Place → Type 0
 AreRun meaning shape jobs pieces left =
     Each (λ job. (find node_place_cmp (node_place job.place) pieces ≡ Some (outcome meaning shape (job_of job))) ⊎ Among (node_place job.place) left) jobs
 
--- so it is for the jobs before those that come
+-- the same for the jobs before those that are still to come
 abbrev pub AreRunBefore : {V D : Type 0} → Meaning V (Message V D) → Shape → List (code.Job V D) → List (code.Job V D) → Pieces V (Message V D) → List Place → Type 0
 AreRunBefore {V} {D} meaning shape jobs coming pieces left = (seen : List (code.Job V D)) × (jobs ≡ seen ++ coming) × AreRun meaning shape seen pieces left
 
--- the first piece at the place of each job, if there is one, is what becomes of the job
+-- the first piece at the place of each job, if there is one, is the result of the job
 abbrev pub AreOdd : {V D : Type 0} → Meaning V (Message V D) → Shape → List (code.Job V D) → Pieces V (Message V D) → Type 0
 AreOdd {V} {D} meaning shape jobs pieces =
     Each (λ job. (xs : Siblings V (Message V D)) → find node_place_cmp (node_place job.place) pieces ≡ Some xs → xs ≡ outcome meaning shape (job_of job)) jobs

@@ -7,7 +7,7 @@ use bt_rowtype::{Refusal, Row, Schema};
 use bt_script::{Capacity, Command, Items, Parsed, TableForm, parse_command};
 use std::alloc::Global;
 
-/// A table and what is sent to it.
+/// A table and its batches.
 #[derive(Drop)]
 pub(crate) struct Batches<'a> {
     schema: Schema,
@@ -15,7 +15,7 @@ pub(crate) struct Batches<'a> {
     batches: Vec<Items<'a>>,
 }
 
-// The shape of a table, where its numbers are within the limits.
+// The shape of a table, if its numbers are within the limits.
 fn shape_of(form: &TableForm) -> Option<Shape> {
     let shape = match form.buffer {
         Capacity::Messages(messages) => Shape::new(form.fanout, messages, form.leaf),
@@ -50,7 +50,7 @@ fn items_of(command: Command<'_>) -> Option<Items<'_>> {
     }
 }
 
-// The first table that a script creates, and the place behind its command.
+// The first table that a script creates, and the place after its command.
 fn first_table(alloc: Global, script: &[u8]) -> Result<((Schema, Shape), usize)> {
     let mut at = 0;
     for _ in 0..script.len() {
@@ -88,7 +88,7 @@ fn batches_from(alloc: Global, script: &[u8], start: usize) -> Result<Vec<Items<
 }
 
 impl<'a> Batches<'a> {
-    /// The first table of a script, and all batches behind it.
+    /// The first table of a script, and all batches after it.
     pub(crate) fn read(alloc: Global, script: &'a [u8]) -> Result<Self> {
         let (table, next) = first_table(alloc, script)?;
         match batches_from(alloc, script, next) {
@@ -111,12 +111,12 @@ impl<'a> Batches<'a> {
         self.shape
     }
 
-    /// What the lines of each batch spell.
+    /// The messages that the lines of each batch encode.
     pub(crate) fn items(&self) -> &[Items<'a>] {
         self.batches.as_slice()
     }
 
-    /// The packet of a batch, or none where one of its lines is refused.
+    /// The packet of a batch, or none if one of its lines is refused.
     pub(crate) fn packet(&self, alloc: Global, items: &Items<'a>) -> Result<Option<Packet<Row>>> {
         match read_packet_alone(alloc, &self.schema, items.as_slice()) {
             Ok(packet) => Ok(Some(packet)),

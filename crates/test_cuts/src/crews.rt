@@ -10,7 +10,7 @@ use std::alloc::{AllocError, Global};
 use std::sync::Wait;
 use std::thread::Threads;
 
-/// A crew of so many workers, which cuts every tree, however small its packet.
+/// A crew of `workers` workers that cuts every tree, even for a small packet.
 pub(crate) fn crew_of(workers: usize, cut: usize) -> Result<Crew<NoGate>> {
     match Crew::new(workers, cut, 1, NoGate) {
         Ok(crew) => Ok(crew),

@@ -1,8 +1,8 @@
-//! Replays the batches of scripts on trees that are taken apart. Each flush is cut into jobs, which are run one by one, in rising or in falling
-//! order, and what becomes of them is filled in; and each is run by crews. The tree is compared with that of the flush as a whole.
+//! Replays the batches of scripts on trees in pieces. Each flush is cut into jobs; these are run one by one, in ascending or descending order, and their
+//! results are filled in. Each flush is also run by crews. Every resulting tree is compared with the tree after the flush as a whole.
 //!
-//! The file `scripts` names the scripts, one a line, of which `table` and `batch` alone are looked at. Where words are given, they name the
-//! scripts; with the word `time` before them flushes are timed in place of that.
+//! The file `scripts` names the scripts, one a line; only their `table` and `batch` commands are used. If words are given, they name the scripts instead. With
+//! the word `time` before them, flushes are timed instead.
 #![tactic(auto)]
 
 mod batches;

@@ -15,8 +15,7 @@ use bt_node::{Shape, Siblings, Tree};
 use bt_plan::{Job, Mode, Place, cut};
 use std::alloc::{AllocError, Global};
 
-/// A piece at each of these children of the root of a tree: first what becomes of the job there, if there is one, and then
-/// leaves without rows.
+/// A piece at each of these children of the root of a tree: first the result of the job there, if there is one, and then leaves without rows.
 #[derive(Clone, Copy)]
 pub(crate) struct Odd {
     pub tree: u16,
@@ -37,7 +36,7 @@ fn one_leaf<V: Merge>(alloc: Global, shape: Shape) -> Result<Siblings<V>, AllocE
     Ok(Siblings::new(nodes, Vec::new(alloc)))
 }
 
-// Whether no piece stands at a place.
+// Whether there is no piece at a place.
 fn is_free<V: Merge>(pieces: &[(Place, Siblings<V>)], place: &Place) -> bool
     ensures { IsTrue result → find node_place_cmp (node_place place.now) (pieces_of pieces.now) ≡ None }
 {
@@ -49,7 +48,7 @@ fn is_free<V: Merge>(pieces: &[(Place, Siblings<V>)], place: &Place) -> bool
     true
 }
 
-// What becomes of the job at a place, and the places of the jobs that are not run.
+// The result of the job at a place, and the places of the jobs that are not run.
 fn run_at<V: Merge>(
     alloc: Global,
     shape: Shape,
@@ -73,7 +72,7 @@ fn run_at<V: Merge>(
     Ok((pieces, left))
 }
 
-// The odd pieces, or none where one of them stands at the place of a job that is not run.
+// The odd pieces, or none if one of them is at the place of a job that is not run.
 fn odd_pieces<V: Merge>(
     alloc: Global,
     shape: Shape,
@@ -99,7 +98,7 @@ fn odd_pieces<V: Merge>(
     Ok(Some(pieces))
 }
 
-/// What `fill` says of odd pieces, and the pieces as they come back; or none where there are no such pieces, or it takes them.
+/// The misfit that `fill` reports for odd pieces, and the pieces that it returns; or none if there are no such pieces, or if it accepts them.
 pub(crate) fn misfit_of<V: Merge>(
     alloc: Global,
     tree: Tree<V>,

@@ -1,4 +1,4 @@
-//! Flushes in pieces: a tree is cut, its jobs are run one by one, and what becomes of them is filled in.
+//! Flushes in pieces: a tree is cut, its jobs are run one by one, and their results are filled in.
 ghost use Rattle.std.specs.Prelude.{◌≡◌, ◌≤◌, IfOk, map, reverse};
 ghost use Rattle.bt_gather.specs.Views.{pieces_of};
 ghost use Rattle.bt_messages.specs.Meanings.{meaning_of};
@@ -13,14 +13,14 @@ use bt_node::{Shape, Siblings, Tree, crown};
 use bt_plan::{Job, Mode, Place, cut};
 use std::alloc::{AllocError, Global};
 
-/// In which order jobs are run.
+/// The order in which jobs are run.
 #[derive(Clone, Copy)]
 pub(crate) enum Turn {
     Rising,
     Falling,
 }
 
-/// What becomes of jobs, each at its place. They are run one by one.
+/// The results of jobs, each at its place. The jobs are run one by one.
 pub(crate) fn run_all<V: Merge>(
     alloc: Global,
     shape: Shape,

@@ -1,4 +1,4 @@
-//! Scripts replayed in every way that a flush can be divided.
+//! Replaying scripts in every way that a flush can be divided.
 ghost use Rattle.std.specs.Prelude.{◌≤◌};
 
 use crate::batches::Batches;
@@ -18,13 +18,13 @@ use std::alloc::Global;
 use std::sync::Wait;
 use std::thread::Threads;
 
-/// The most jobs that are named.
+/// The largest number of jobs that are named.
 const MOST_NAMED: usize = 4;
 
-/// The crews that take their turn have so many workers.
+/// The numbers of workers of the crews.
 const CREWS: [usize; 3] = [1, 2, 4];
 
-/// Pieces of the last batch, each of which is at fault.
+/// Pieces of the last batch, each with a different fault.
 const ODD: [Odd; 4] = [
     Odd {
         tree: 0,
@@ -44,16 +44,16 @@ const ODD: [Odd; 4] = [
     },
 ];
 
-/// By whom the jobs of a flush are run.
+/// Who runs the jobs of a flush.
 #[derive(Clone, Copy)]
 enum Way {
-    /// By the caller, one by one.
+    /// The caller, one by one.
     Alone(Turn),
-    /// By a crew of so many workers.
+    /// A crew of this many workers.
     Crew(usize),
 }
 
-// What is said of a flush in pieces that gives no tree.
+// The name of a fault of a flush in pieces that gives no tree.
 fn fault_text(fault: FillError<Row>) -> &'static str {
     let is_memory = matches!(fault, FillError::OutOfMemory);
     drop(fault);
@@ -111,7 +111,7 @@ fn same_height(alloc: Global, whole: &Tree<Row>, divided: &Tree<Row>) -> Result<
     Ok(height(divided))
 }
 
-// A tree after flushes as a whole, the tree after the same flushes in pieces, and the greatest height so far.
+// A tree after flushes as a whole, the tree after the same flushes in pieces, and the largest height so far.
 #[derive(Drop)]
 struct Compared {
     whole: Tree<Row>,
@@ -119,7 +119,7 @@ struct Compared {
     highest: u64,
 }
 
-// The same, with their height, where the trees are alike.
+// The same trees with their height, if they are equal.
 fn alike(alloc: Global, trees: Compared) -> Result<Compared> {
     let mut trees = trees;
     match same_height(alloc, &trees.whole, &trees.pieces) {
@@ -134,7 +134,7 @@ fn alike(alloc: Global, trees: Compared) -> Result<Compared> {
     }
 }
 
-// The packet of a batch, twice, or none where one of its lines is refused.
+// The packet of a batch, twice, or none if one of its lines is refused.
 fn two_packets(
     alloc: Global,
     table: &Batches<'_>,
@@ -149,7 +149,7 @@ fn two_packets(
     Ok(Some((packet, same)))
 }
 
-// Compares the trees after a packet, or drained.
+// Compares the trees after a packet, or after they are drained.
 fn after<R: AllocGlobal + Threads + Wait + Sync>(
     rt: &R,
     trees: Compared,
@@ -189,7 +189,7 @@ fn after<R: AllocGlobal + Threads + Wait + Sync>(
     }
 }
 
-// Compares the trees after a batch. One that is refused changes neither.
+// Compares the trees after a batch. A batch that is refused changes neither.
 fn after_batch<R: AllocGlobal + Threads + Wait + Sync>(
     rt: &R,
     table: &Batches<'_>,
@@ -210,7 +210,7 @@ fn after_batch<R: AllocGlobal + Threads + Wait + Sync>(
     }
 }
 
-// The greatest height of two trees that are drained.
+// The larger height of two trees that are drained.
 fn drained_height<R: AllocGlobal + Threads + Wait + Sync>(
     rt: &R,
     trees: Compared,
@@ -227,7 +227,7 @@ fn drained_height<R: AllocGlobal + Threads + Wait + Sync>(
     Ok(highest)
 }
 
-// Compares the trees after each batch of a script, and at last those that are drained. Gives the greatest height.
+// Compares the trees after each batch of a script, and at the end after they are drained. Returns the largest height.
 fn compare<R: AllocGlobal + Threads + Wait + Sync>(
     rt: &R,
     table: &Batches<'_>,
@@ -248,7 +248,7 @@ fn compare<R: AllocGlobal + Threads + Wait + Sync>(
     drained_height(rt, trees, depth, way)
 }
 
-// The tree before the last batch of a script, and the packet of that.
+// The tree before the last batch of a script, and the packet of that batch.
 fn before_last(alloc: Global, table: &Batches<'_>) -> Result<(Tree<Row>, Packet<Row>)> {
     let mut tree = Tree::empty(alloc, table.shape());
     let mut last = Packet::new(alloc);
@@ -269,7 +269,7 @@ fn path_text(alloc: Global, place: &Place) -> Result<String> {
     Ok(text)
 }
 
-// The jobs: each with the path to its node and the number of its messages, where they are few, and else how many they are.
+// If there are few jobs, each job with the path to its node and the number of its messages, and otherwise the number of jobs.
 fn jobs_text(alloc: Global, jobs: &[Job<Row>]) -> Result<String> {
     if jobs.len() > MOST_NAMED {
         return Ok(format!(in alloc; " {} jobs", jobs.len())?);
@@ -303,7 +303,7 @@ fn print_jobs<R: Print + AllocGlobal>(rt: &R, table: &Batches<'_>, depth: usize)
     Ok(())
 }
 
-// The number of a place's tree, and the path to it.
+// The number of the tree of a place, and the path to it.
 fn place_text(alloc: Global, place: &Place) -> Result<String> {
     let path = path_text(alloc, place)?;
     Ok(format!(in alloc; " {}{path}", place.tree)?)
@@ -326,7 +326,7 @@ fn pieces_text(alloc: Global, pieces: &[(Place, Siblings<Row>)]) -> Result<Strin
     Ok(text)
 }
 
-// Prints the places of odd pieces in the last batch, cut at depth 1, and what is said of them, if there are such pieces.
+// Prints the places of odd pieces in the last batch, cut at depth 1, and the misfit, if there are such pieces.
 fn print_misfit<R: Print + AllocGlobal>(rt: &R, table: &Batches<'_>, odd: Odd) -> Result<()> {
     let alloc = rt.alloc();
     let (tree, packet) = before_last(alloc, table)?;
@@ -340,7 +340,7 @@ fn print_misfit<R: Print + AllocGlobal>(rt: &R, table: &Batches<'_>, odd: Odd) -
     Ok(())
 }
 
-// Compares the trees after each batch of a script in all ways. Gives the greatest height.
+// Compares the trees after each batch of a script in all ways. Returns the largest height.
 fn compare_all<R: AllocGlobal + Threads + Wait + Sync>(
     rt: &R,
     table: &Batches<'_>,
@@ -375,7 +375,7 @@ fn replay_batches<R: Print + AllocGlobal + Threads + Wait + Sync>(
     Ok(())
 }
 
-/// Replays a script, cut at each depth, with the jobs in both orders and by crews, and refuses it where a tree differs.
+/// Replays a script, cut at each depth, with the jobs in both orders and by crews, and refuses it if a tree differs.
 pub(crate) fn replay<R: Print + AllocGlobal + Threads + Wait + Sync>(
     rt: &R,
     name: &str,

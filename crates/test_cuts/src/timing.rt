@@ -1,4 +1,4 @@
-//! How long the flushes of a script take, as a whole and in pieces.
+//! Timing the flushes of a script, as a whole and in pieces.
 ghost use Rattle.std.specs.Prelude.{◌≤◌};
 
 use crate::batches::Batches;
@@ -14,10 +14,10 @@ use std::alloc::Global;
 use std::rt::Clock;
 use std::time::{Duration, Instant};
 
-/// How often each way is timed.
+/// The number of times that each way is timed.
 const ROUNDS: usize = 9;
 
-// A tree after a flush: as a whole at depth 0, else in pieces.
+// A tree after a flush: as a whole at depth 0, otherwise in pieces.
 fn flushed(alloc: Global, tree: Tree<Row>, packet: Packet<Row>, depth: usize) -> Result<Tree<Row>>
     requires { depth ≤ DEEPEST_CUT }
 {
@@ -72,7 +72,7 @@ fn time_once<R: Clock + AllocGlobal>(rt: &R, table: &Batches<'_>, depth: usize) 
     Ok(time)
 }
 
-// The least time of all flushes of a script at each depth up to 3, of some rounds in each of which all depths take their turn.
+// The shortest time of all flushes of a script at each depth up to 3, of several rounds; each round times all depths.
 fn least_times<R: Clock + AllocGlobal>(rt: &R, table: &Batches<'_>) -> Result<[Duration; 4]> {
     let mut least = [Duration::MAX; 4];
     for _ in 0..ROUNDS {
@@ -83,7 +83,7 @@ fn least_times<R: Clock + AllocGlobal>(rt: &R, table: &Batches<'_>) -> Result<[D
     Ok(least)
 }
 
-/// Prints how long all flushes of a script take, as a whole, which is depth 0, and at each depth up to 3.
+/// Prints the time of all flushes of a script, as a whole, which is depth 0, and at each depth up to 3.
 pub(crate) fn time<R: Clock + Print + AllocGlobal>(rt: &R, script: &[u8]) -> Result<()> {
     let table = Batches::read(rt.alloc(), script)?;
     let least = least_times(rt, &table);

@@ -6,7 +6,7 @@ use Rattle.bt_plan.specs.Views.{job_of}
 use Rattle.test_cuts.specs.Turns.{AreInOrder}
 use Rattle.test_cuts.proofs.pieces.run_all.Given as goal
 
--- what became of the jobs so far, and then of those that are left
+-- the results of the jobs so far, followed by those of the jobs that are left
 abbrev pub invariant-loop-job : goal.invariant-loop-job
 invariant-loop-job g l = record {
   done : pieces_of l.pieces.items ++ outcomes (meaning_of g.V.Merge.terms) l.shape (map job_of l.job-iterator.rest.items) ≡ outcomes (meaning_of g.V.Merge.terms) l.fn.shape (map job_of l.fn.jobs.items);
