@@ -36,13 +36,13 @@ impl Work for Doubling {
     ghost one_value = { λ _ _ _ _ e f. e ∙ sym f };
 }
 
-// Asks for room for so many bytes, and counts its runs.
+// Allocates a number of bytes, and counts its runs.
 #[derive(Drop)]
 struct Asking {
     runs: AtomicU64,
 }
 
-// No system has so much.
+// No system has this much memory.
 const TOO_MUCH: usize = 1 << 62;
 
 impl Work for Asking {
@@ -67,14 +67,14 @@ impl Work for Asking {
     ghost one_value = { λ _ _ a b _ _. refl };
 }
 
-// What a job that is kept in `enter` waits for: that this job comes to `enter`, or to `leave`.
+// What a job that is kept in `enter` waits for: that this job enters, or that it leaves.
 #[derive(Drop)]
 enum Until {
     Entered(usize),
     Left(usize),
 }
 
-// Keeps one job in `enter`, and gives up after so many turns.
+// Keeps one job in `enter`, and gives up after `MOST_TURNS` attempts.
 #[derive(Drop)]
 struct Waits {
     kept: usize,
@@ -169,7 +169,7 @@ fn one_pass_over_three_jobs(rt: HostRuntime) -> Result<(), Fail> {
     Ok(())
 }
 
-// Whether two lists have the numbers 0, 1 and 2, each once, and 0 and 1 in different ones.
+// Whether two lists together have the numbers 0, 1 and 2, each once, with 0 and 1 in different lists.
 fn are_shared(taken: &[LinkedList<usize>]) -> bool {
     taken.len() == 2
         && taken[0].len() + taken[1].len() == 3
@@ -177,7 +177,7 @@ fn are_shared(taken: &[LinkedList<usize>]) -> bool {
         && taken[1].contains(&0) != taken[1].contains(&1)
 }
 
-// Both workers are at a job at the same time, and no lock is held meanwhile.
+// Both workers run a job at the same time, and no lock is held while they do.
 #[test]
 fn two_jobs_at_once(rt: HostRuntime) -> Result<(), Fail> {
     let alloc = rt.alloc();
@@ -193,8 +193,8 @@ fn two_jobs_at_once(rt: HostRuntime) -> Result<(), Fail> {
     Ok(())
 }
 
-// 5 jobs on two workers. Job 1 stays in `enter` until job 3 has left. Gives the number of the faulty job, and how often any
-// was run; None where the gate gave up.
+// Five jobs on two workers. Job 1 stays in `enter` until job 3 has left. Returns the number of the faulty job, and how often any job was run; None if the gate
+// gave up.
 fn faulty<R: Threads + Wait + Sync>(
     rt: &R,
     alloc: Global,

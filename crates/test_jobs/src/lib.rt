@@ -1,4 +1,4 @@
-//! Tests of jobs: the board by itself, and runs of jobs by crews. Nothing stands on this crate.
+//! Tests of jobs: the board by itself, and runs of jobs by crews. No crate depends on this one.
 #![tactic(auto)]
 
 #[cfg(test)]

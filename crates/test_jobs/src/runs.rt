@@ -1,11 +1,10 @@
-//! What a gate sees of a run.
+//! What a gate observes during a run.
 use bt_gang::{Crew, Gate, Work, run_jobs};
 use std::alloc::Global;
 use std::sync::atomic::{AtomicBool, AtomicUsize, Ordering};
 use std::test::Fail;
 
-// One worker's turns: the job whose number is at the gate, the job whose run is over, how many left the gate, and whether any
-// step came out of turn.
+// The steps of one worker: the job whose number is at the gate, the job whose run is over, how many jobs left the gate, and whether any step came out of order.
 #[derive(Drop)]
 struct Turns {
     at_gate: AtomicUsize,
