@@ -1,4 +1,4 @@
-//! The texts of answers, as the program that runs scripts prints them.
+//! The texts of results, as the program that runs scripts prints them.
 use bt_rowtype::{Refusal, Sequence, Text, write_number, write_row};
 use bt_script::Counted;
 use bt_shell::Lines;
@@ -6,7 +6,7 @@ use bt_table::{Reply, SentCount};
 use bt_view::Sum;
 use std::alloc::{AllocError, Global};
 
-/// What a call answers where it is not refused.
+/// The result of a call that is not refused.
 #[derive(Drop)]
 pub(crate) enum Answer {
     Reply(Reply),
@@ -114,7 +114,7 @@ pub(crate) fn refusal_text(alloc: Global, refusal: Refusal) -> Result<Vec<u8>, A
     ended_line(text)
 }
 
-/// The text of an answer, and its end of line.
+/// The text of a result, and its line end.
 pub(crate) fn answer_text(
     alloc: Global,
     answer: Result<Answer, Refusal>,

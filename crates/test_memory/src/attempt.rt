@@ -50,7 +50,7 @@ fn create_index(alloc: Global, table: &mut Table, form: IndexForm) -> Result<Rep
     table.create_index(alloc, name, def?)
 }
 
-// What a call answers whose answer is a reply.
+// The result of a call that returns a reply.
 fn change<R: AllocGlobal, C: ScriptWorkforce<R>>(
     rt: &R,
     crew: &C,
@@ -73,7 +73,7 @@ fn change<R: AllocGlobal, C: ScriptWorkforce<R>>(
     }
 }
 
-// What the call that a command asks for answers.
+// The result of the call that a command asks for.
 fn call<R: AllocGlobal, C: ScriptWorkforce<R>>(
     rt: &R,
     crew: &C,
@@ -94,7 +94,7 @@ fn call<R: AllocGlobal, C: ScriptWorkforce<R>>(
     }
 }
 
-/// A call: its name, what it answers, and the place behind its command.
+/// A call: its name, its result, and the place after its command.
 #[derive(Drop)]
 pub(crate) struct Attempt {
     pub(crate) name: &'static str,
@@ -102,8 +102,7 @@ pub(crate) struct Attempt {
     pub(crate) next: usize,
 }
 
-/// Makes the call that the command at a place of a script asks for, whose requests may be refused where `marked`. There is
-/// none behind the last command.
+/// Makes the call that the command at a place of a script asks for; if `marked`, its allocations may be refused. There is none after the last command.
 pub(crate) fn call_at<R: Print + AllocGlobal, C: ScriptWorkforce<R>>(
     rt: &R,
     crew: &C,

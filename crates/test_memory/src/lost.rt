@@ -44,7 +44,7 @@ fn fails_without_command(alloc: Global, table: &mut Table) -> Result<bool, Refus
     Ok(found && creates_none(alloc, table)?)
 }
 
-/// Makes each call of a script on a table that is lost, and refuses one that answers anything but `Failed`.
+/// Makes each call of a script on a table that is lost, and refuses any result except `Failed`.
 pub(crate) fn fail_all<R: Print + AllocGlobal, C: ScriptWorkforce<R>>(
     rt: &R,
     crew: &C,

@@ -1,11 +1,11 @@
-//! Takes the steps of a script on a table, where a library that is preloaded refuses requests for memory in the calls, and goes
-//! on with the table. A call that is out of memory is made again with all memory; then it answers what it answers without a
-//! refusal, or the table is lost, and each call on it is tried.
+//! Takes the steps of a script on a table while a preloaded library refuses allocations in the calls, and goes on with the table. A call
+//! that runs out of memory is made again with all memory. Either it returns what it returns without a refusal, or the table is lost, and
+//! each call on it is tried.
 //!
 //!     test_memory WORD ..
 //!
-//! A word is a number of workers, 1 or 2, by whom all steps are taken; `unaided` makes the calls that take no memory. The file
-//! `script` has the steps. Where no library is preloaded all memory is there.
+//! A word is the number of workers that take all steps, 1 or 2; `unaided` makes the calls that allocate nothing. The file `script` has the
+//! steps. If no library is preloaded, no allocation is refused.
 #![tactic(auto)]
 
 mod answers;
@@ -36,8 +36,7 @@ fn crew_of(workers: usize) -> Result<Crew<NoGate>> {
     }
 }
 
-// Takes all steps by so many workers. Before that they are rehearsed, since with a first thread the C library asks for memory
-// that it keeps.
+// Takes all steps with this many workers. They are rehearsed before that, because the C library allocates memory that it keeps when the first thread starts.
 fn run_by<R: Print + AllocGlobal + Threads + Wait + Sync>(
     rt: &R,
     script: &[u8],

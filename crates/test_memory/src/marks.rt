@@ -1,26 +1,26 @@
-//! Marks for a library that refuses requests for memory: a request of a size that no system grants tells it what to do.
+//! Marks for a library that refuses allocations: an allocation of a size that no system grants is a message to it.
 use anyhow::{Result, bail};
 use std::alloc::Global;
 use std::io;
 use std::io::Write;
 
-// No system grants so many bytes, or more.
+// No system grants this many bytes, or more.
 const NEVER_GRANTED: usize = 1 << 62;
 
-/// What is told.
+/// The messages.
 #[derive(Clone, Copy)]
 pub(crate) enum Mark {
-    /// From here on requests are counted, and may be refused.
+    /// From here on allocations are counted, and may be refused.
     Begin,
-    /// From here on no request is counted or refused.
+    /// From here on no allocation is counted or refused.
     End,
-    /// From here on every request is refused.
+    /// From here on every allocation is refused.
     RefuseAll,
-    /// The bytes in use are to be noted.
+    /// The library notes the number of bytes in use.
     Note,
 }
 
-// The request that tells it.
+// The size of the allocation that sends a message.
 fn size_of(mark: Mark) -> usize {
     match mark {
         Mark::Begin => NEVER_GRANTED,
@@ -30,10 +30,10 @@ fn size_of(mark: Mark) -> usize {
     }
 }
 
-/// Sets a mark.
+/// Sends a message.
 pub(crate) fn set_mark<R: Print + AllocGlobal>(rt: &R, mark: Mark) -> Result<()> {
     match Vec::<u8>::with_capacity(rt.alloc(), size_of(mark)) {
-        // No system comes here. A compiler may leave out a request whose memory is not used.
+        // No system gets here. A compiler may leave out an allocation whose memory is not used.
         Ok(mut granted) => {
             granted.push(b'\n')?;
             io::writer(rt).write_all(granted.as_slice())?;

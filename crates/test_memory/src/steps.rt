@@ -1,4 +1,4 @@
-//! The steps of a script on a table, each of them with requests refused and then again with all memory.
+//! The steps of a script on a table, each of them first with refused allocations and then again with all memory.
 use crate::answers::{Answer, answer_text};
 use crate::attempt::{Attempt, call_at};
 use crate::lost::fail_all;
@@ -14,7 +14,7 @@ use std::alloc::Global;
 use std::io;
 use std::io::Write;
 
-/// A script, and by whom its steps are taken. Nothing is printed or marked in a rehearsal.
+/// A script, and who takes its steps. Nothing is printed or marked in a rehearsal.
 #[derive(Clone, Copy)]
 pub(crate) struct Stage<'a, R, C> {
     pub(crate) rt: &'a R,
@@ -64,7 +64,7 @@ fn print_images<R: Print + AllocGlobal, C>(stage: &Stage<'_, R, C>, table: &Tabl
     Ok(())
 }
 
-// Notes the bytes in use.
+// Notes the number of bytes in use.
 fn note<R: Print + AllocGlobal, C>(stage: &Stage<'_, R, C>) -> Result<()> {
     if !stage.is_rehearsal {
         set_mark(stage.rt, Mark::Note)?;
@@ -72,7 +72,7 @@ fn note<R: Print + AllocGlobal, C>(stage: &Stage<'_, R, C>) -> Result<()> {
     Ok(())
 }
 
-// Makes a call again that was out of memory.
+// Makes a call again that ran out of memory.
 fn again<R: Print + AllocGlobal, C: ScriptWorkforce<R>>(
     stage: &Stage<'_, R, C>,
     table: &mut Table,
@@ -90,7 +90,7 @@ fn again<R: Print + AllocGlobal, C: ScriptWorkforce<R>>(
     call_at(rt, stage.crew, table, stage.script, at, false)
 }
 
-// Makes the call at a place, and again where it is out of memory.
+// Makes the call at a place, and makes it again if it runs out of memory.
 fn answered<R: Print + AllocGlobal, C: ScriptWorkforce<R>>(
     stage: &Stage<'_, R, C>,
     table: &mut Table,
@@ -114,7 +114,7 @@ fn answered<R: Print + AllocGlobal, C: ScriptWorkforce<R>>(
     Ok(Some(first))
 }
 
-// Takes the step at a place. Gives the place behind it, unless there is none or the table is lost.
+// Takes the step at a place. Returns the place after it, unless there is none or the table is lost.
 fn step<R: Print + AllocGlobal, C: ScriptWorkforce<R>>(
     stage: &Stage<'_, R, C>,
     table: &mut Table,
@@ -137,7 +137,7 @@ fn step<R: Print + AllocGlobal, C: ScriptWorkforce<R>>(
     Ok(Some(next))
 }
 
-// Takes the steps behind a place.
+// Takes the steps from a place on.
 fn take_steps<R: Print + AllocGlobal, C: ScriptWorkforce<R>>(
     stage: &Stage<'_, R, C>,
     table: &mut Table,
@@ -155,7 +155,7 @@ fn take_steps<R: Print + AllocGlobal, C: ScriptWorkforce<R>>(
     Ok(())
 }
 
-// What the table is that a script begins with, and the place behind its command.
+// The form of the table that a script begins with, and the place after its command.
 fn first_form(alloc: Global, script: &[u8]) -> Result<(TableForm, usize)> {
     match parse_command(alloc, script, 0)? {
         Parsed::Good { command, next } => match command {
@@ -166,7 +166,7 @@ fn first_form(alloc: Global, script: &[u8]) -> Result<(TableForm, usize)> {
     }
 }
 
-/// The table of a script when all steps are taken.
+/// The table of a script after all steps are taken.
 pub(crate) fn table_after<R: Print + AllocGlobal, C: ScriptWorkforce<R>>(
     stage: &Stage<'_, R, C>,
 ) -> Result<Table>
@@ -179,7 +179,7 @@ pub(crate) fn table_after<R: Print + AllocGlobal, C: ScriptWorkforce<R>>(
     Ok(table)
 }
 
-/// Takes all steps of a script, and notes the bytes in use before and behind them.
+/// Takes all steps of a script, and notes the number of bytes in use before and after them.
 pub(crate) fn go_through<R: Print + AllocGlobal, C: ScriptWorkforce<R>>(
     stage: &Stage<'_, R, C>,
 ) -> Result<()>

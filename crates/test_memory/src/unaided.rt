@@ -1,4 +1,4 @@
-//! Calls that take no memory: while every request is refused, each answers what it answers otherwise.
+//! Calls that allocate nothing: while every allocation is refused, each returns what it returns otherwise.
 use crate::marks::{Mark, set_mark};
 use crate::steps::{Stage, table_after};
 use anyhow::{Result, bail};
@@ -31,7 +31,7 @@ fn report<R: Print>(rt: &R, name: &str, is_same: bool) -> Result<()> {
     Ok(())
 }
 
-// What a comparison says of a call, where both marks were set.
+// The result of comparing a call, if both marks were set.
 fn compared<R: Print>(
     rt: &R,
     name: &str,
@@ -44,7 +44,7 @@ fn compared<R: Print>(
     report(rt, name, is_same)
 }
 
-// Compares what a call answers with and without memory.
+// Compares the results of a call with and without memory.
 macro_rules! compare {
     ($rt:expr, $name:literal, $call:expr) => {{
         let with_memory = $call;
@@ -55,7 +55,7 @@ macro_rules! compare {
     }};
 }
 
-// The same of a call that takes a value, which is made twice.
+// The same for a call that consumes a value, which is made twice.
 macro_rules! compare_made {
     ($rt:expr, $name:literal, $made:expr, $value:ident => $call:expr) => {{
         let with_memory = {
@@ -177,7 +177,7 @@ fn compare_covers<R: Print + AllocGlobal>(rt: &R, cover: &Cover, key: &Key) -> R
     Ok(())
 }
 
-// What adds to the quantity of a row.
+// The change that adds to the quantity of a row.
 fn change(alloc: Global) -> Result<Change, AllocError> {
     let mut ops = Ops::new(alloc);
     ops.push(Op::Add(1, 5))?;
@@ -316,7 +316,7 @@ fn one_sibling(alloc: Global) -> Result<Siblings<Row>> {
     Ok(Siblings::new(vec![in alloc; bare_node(alloc)?]?, Vec::new(alloc)))
 }
 
-// How many siblings one node makes.
+// The number of siblings that one node becomes.
 fn sibling_count(alloc: Global, nodes: Vec<Node<Row>>) -> usize {
     if nodes.len() != 1 {
         return 0;
@@ -468,7 +468,7 @@ fn compare_tables<R: Print + AllocGlobal>(rt: &R) -> Result<()> {
     compared
 }
 
-/// Makes each call with all memory, and then while every request is refused.
+/// Makes each call with all memory, and then while every allocation is refused.
 pub(crate) fn need_no_memory<R: Print + AllocGlobal>(rt: &R) -> Result<()> {
     compare_refusals(rt)?;
     compare_rows(rt)?;
