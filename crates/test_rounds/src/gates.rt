@@ -1,11 +1,11 @@
-//! Gates that see which jobs are run.
+//! Gates that observe which jobs are run.
 use bt_gang::Gate;
 use std::sync::atomic::{AtomicBool, AtomicUsize, Ordering};
 use std::thread;
 
 const TURNS: u64 = 10_000_000;
 
-/// Counts the jobs that enter. It keeps job 0 until job 1 has entered, or the turns are over.
+/// Counts the jobs that enter. It keeps job 0 until job 1 has entered, or until it gives up.
 #[derive(Drop)]
 pub(crate) struct Meeting {
     entered: AtomicUsize,
@@ -22,7 +22,7 @@ impl Meeting {
         }
     }
 
-    /// How many jobs have entered, where two of them were run at the same time.
+    /// How many jobs have entered, if two of them were run at the same time.
     pub(crate) fn entered(&self) -> Option<usize> {
         if self.gave_up.load(Ordering::SeqCst) {
             return None;

@@ -1,4 +1,4 @@
-//! Tests of the calls of a table by crews. Nothing stands on this crate.
+//! Tests of the calls of a table by crews. No crate depends on this one.
 #![tactic(auto)]
 
 #[cfg(test)]

@@ -1,4 +1,4 @@
-//! Reads by crews: two jobs are run at the same time, a range that meets one portion has none, and what the jobs give is joined in order.
+//! Reads by crews: two jobs are run at the same time, a range within one portion needs no jobs, and the results of jobs are joined in order.
 use crate::gates::{Counting, Meeting};
 use crate::tables::{EIGHT_MESSAGES, SIX_ROWS, primary, table_after};
 use bt_fanout::{Cover, Effect, effects};
@@ -50,7 +50,7 @@ fn packet(alloc: Global) -> Result<Packet<Row>, AllocError> {
     Packet::from_batch(alloc, messages)
 }
 
-// The quantity of a row, and a number that none has where it has no quantity.
+// The quantity of a row, or a number that no row has if it has no quantity.
 fn quantity(row: &Row) -> i64 {
     if row.len() < 2 {
         return i64::MAX;
@@ -61,7 +61,7 @@ fn quantity(row: &Row) -> i64 {
     }
 }
 
-// The quantities before and after, where there is a row.
+// The quantities before and after, if there is a row.
 fn quantities(
     alloc: Global,
     effects: &[Effect],

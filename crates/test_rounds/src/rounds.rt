@@ -1,4 +1,4 @@
-//! Batches, steps of building and drains by crews: two jobs are run at the same time, and packets have jobs from the grain on.
+//! Batches, steps of building and drains by crews: two jobs are run at the same time, and packets from the grain on are divided into jobs.
 use crate::gates::{Counting, Meeting};
 use crate::tables::{
     EIGHT_MESSAGES, SIX_ROWS, apply, create_index, image_of_rows, primary, table_after,
@@ -32,7 +32,7 @@ inner 4 2
 end
 ";
 
-// A tree of three levels, whose first child has three leaves, and its second child two.
+// A tree of three levels: its first child has three leaves, and its second child two.
 const THREE_LEVELS: [&str; 4] = [
     "batch\nput 1,10\nput 2,20\nput 3,30\nput 4,40\nend\n",
     "batch\nput 5,50\nput 6,60\nput 1,11\nend\n",

@@ -1,4 +1,4 @@
-//! Tables of ints by batches, and their images.
+//! Tables of ints that batches make, and their images.
 use bt_fanout::IndexDef;
 use bt_node::Shape;
 use bt_rowtype::{Column, Kind, Refusal, Schema, Sequence, Text, Texts};
@@ -11,11 +11,11 @@ use std::alloc::{AllocError, Global};
 pub(crate) const SIX_ROWS: &str =
     "batch\nput 1,10\nput 2,20\nput 3,30\nput 4,40\nput 5,50\nput 6,60\nend\n";
 
-/// Four, two and two messages for these leaves, of which the first two are flushed.
+/// Four, two and two messages for these leaves; the first two leaves are flushed.
 pub(crate) const EIGHT_MESSAGES: &str =
     "batch\nput 1,11\nput 2,21\nput 0,0\nput -1,-10\nput 3,31\nput 4,41\nput 5,51\nput 6,61\nend\n";
 
-/// A table of the columns `id` and `qty`, of which the first is the key: at most four children, three messages and two rows a node.
+/// A table of the columns `id`, which is the key, and `qty`: at most four children, three messages and two rows a node.
 pub(crate) fn empty_table(alloc: Global) -> Result<Table, Refusal> {
     let mut columns = Sequence::new(alloc);
     for name in ["id", "qty"] {
