@@ -1,4 +1,4 @@
-//! Tests of runs: streams fail, and the program ends with a status. Nothing stands on this crate.
+//! Tests of runs: streams fail, and the program ends with a status. No crate depends on this one.
 #![tactic(auto)]
 
 #[cfg(test)]

@@ -19,7 +19,7 @@ fn words_of(alloc: Global, line: &str) -> Result<Texts, AllocError> {
     Ok(words)
 }
 
-// What a command line says: its script, workers, cut and grain, `faulty`, or `help` where the text names the options.
+// The settings of a command line: its script, workers, cut and grain, or `faulty`, or `help` if the text names the options.
 fn said(alloc: Global, line: &str) -> Result<String, AllocError> {
     match read_words(alloc, &words_of(alloc, line)?) {
         Ok(
@@ -39,7 +39,7 @@ fn said(alloc: Global, line: &str) -> Result<String, AllocError> {
     }
 }
 
-// What a help text is to name: the options, the commands of a script, and where its language stands.
+// The parts that a help text must name: the options, the commands of a script, and the page of its language.
 const NAMED: [&str; 16] = [
     "--script <FILE>",
     "Reads the script from FILE",
@@ -59,7 +59,7 @@ const NAMED: [&str; 16] = [
     "docs/SCRIPT.md",
 ];
 
-// Whether a help text names all of it, and else the first that it does not name.
+// `help` if a help text names all of them, and otherwise the first one that it does not name.
 fn help_text(alloc: Global, text: &String) -> Result<String, AllocError> {
     for name in NAMED {
         if !text.contains(name) {
@@ -100,8 +100,7 @@ fn command_lines(rt: HostRuntime) -> Result<(), Fail> {
     Ok(())
 }
 
-// The status of the program, then what it writes to its errors and the first of what it writes to its output. The input
-// gives `run`.
+// The status of the program, followed by what it writes to its errors and the start of what it writes to its output. The input contains `run`.
 fn answer<R: Files + AllocGlobal + Threads + Wait + Sync>(
     rt: &R,
     words: &Texts,
@@ -163,7 +162,7 @@ fn scripts_in_files(rt: HostRuntime) -> Result<(), Fail> {
     Ok(())
 }
 
-// Adds the sign of a message and its fields, each behind a bar.
+// Appends the sign of a message and its fields, each after a bar.
 fn add_item(
     alloc: Global,
     out: &mut Vec<u8>,
@@ -179,7 +178,7 @@ fn add_item(
     Ok(())
 }
 
-// The messages of a batch that stands at the start of a script, and nothing where none does.
+// The messages of a batch at the start of a script, or nothing if there is none.
 fn batch_text(alloc: Global, script: &[u8]) -> Result<Vec<u8>, AllocError> {
     let mut out = Vec::new(alloc);
     if let Parsed::Good {

@@ -1,4 +1,4 @@
-//! Scripts that are cut, streams that fail, that have no end or that keep count of flushes, and long scripts.
+//! Scripts that are cut, streams that fail, have no end or count their flushes, and long scripts.
 ghost use Rattle.std.specs.Prelude.{Some};
 
 use bt_shell::{Alone, Counted, RunFault, run_script};
@@ -7,7 +7,7 @@ use std::io;
 use std::io::{ErrorKind, Read, Write};
 use std::test::Fail;
 
-/// Gives one byte a call, and fails once so many calls were made.
+/// Gives one byte a call, and fails after a number of calls.
 #[derive(Drop)]
 pub(crate) struct Failing<'a> {
     pub rest: &'a [u8],
@@ -27,7 +27,7 @@ impl Read for Failing<'_> {
     }
 }
 
-/// Takes so many bytes, one a write, and then fails.
+/// Takes a number of bytes, one a write, and then fails.
 #[derive(Drop)]
 pub(crate) struct Full<'a> {
     pub taken: &'a mut Vec<u8>,
@@ -51,7 +51,7 @@ impl Write for Full<'_> {
     }
 }
 
-// Keeps count of its flushes, of which each one fails where it is to.
+// Counts its flushes; each flush fails if it is to.
 #[derive(Drop)]
 struct Flushes {
     count: u32,
@@ -72,7 +72,7 @@ impl Write for Flushes {
     }
 }
 
-// The fault of a short run over a stream of flushes, and whether replies were left that no flush followed.
+// The fault of a short run over a stream that counts flushes, and whether replies were left without a flush.
 fn run_over_flushes<R: AllocGlobal>(rt: &R, stream: &mut Flushes) -> (Result<(), RunFault>, bool) {
     let mut reader = Counted::new(b"scan primary\ngo\n".as_slice());
     let mut writer = Counted::new(stream);
@@ -200,8 +200,8 @@ fn full_run(alloc: Global) -> Result<(Vec<u8>, Vec<u8>), AllocError> {
     Ok((script, replies))
 }
 
-// The fault of a run over streams of which the reader fails behind so many calls, and the writer behind so many bytes; what
-// it writes, and the counts of bytes that it read and wrote.
+// The fault of a run whose reader fails after some calls and whose writer fails after some bytes; what it writes, and the numbers of bytes that it read and
+// wrote.
 fn run_over<R: AllocGlobal>(
     rt: &R,
     script: &[u8],
@@ -223,7 +223,7 @@ fn run_over<R: AllocGlobal>(
     (result, taken, counts)
 }
 
-// Whether a run writes nothing whose reader fails behind so many calls.
+// Whether a run whose reader fails after some calls writes nothing.
 fn fails_to_read<R: AllocGlobal>(rt: &R, script: &[u8], calls: u32) -> bool {
     let (result, text, counts) = run_over(rt, script, calls, 4096);
     matches!(&result, Err(RunFault::Read)) && text.is_empty() && counts == (u64::from(calls), 0)
@@ -238,7 +238,7 @@ fn each_read_fails(rt: HostRuntime) -> Result<(), Fail> {
             "behind {calls}"
         );
     }
-    // The last call of a run that goes well is told that nothing is left.
+    // The last call of a successful run finds that nothing is left.
     let (result, text, counts) = run_over(&rt, script.as_slice(), 408, 4096);
     assert!(rt; result.is_ok());
     assert_eq!(rt; text.as_slice(), replies.as_slice());
@@ -246,7 +246,7 @@ fn each_read_fails(rt: HostRuntime) -> Result<(), Fail> {
     Ok(())
 }
 
-// Whether a run whose writer fails behind so many bytes has written just these, the first of the replies.
+// Whether a run whose writer fails after some bytes has written exactly these, the first of the replies.
 fn fails_to_write<R: AllocGlobal>(rt: &R, script: &[u8], replies: &[u8], room: usize) -> bool {
     let (result, text, counts) = run_over(rt, script, 408, room);
     matches!(&result, Err(RunFault::Write))
@@ -271,7 +271,7 @@ fn each_write_fails(rt: HostRuntime) -> Result<(), Fail> {
     Ok(())
 }
 
-// Gives its text again and again.
+// Gives its text over and over.
 #[derive(Drop)]
 struct Endless<'a> {
     text: &'a [u8],
@@ -314,7 +314,7 @@ fn faults_have_their_texts(rt: HostRuntime) -> Result<(), Fail> {
     Ok(())
 }
 
-// A table and a batch of so many equal lines, and a look at key 1.
+// A table, a batch of `count` equal lines, and a get of key 1.
 fn long_script(alloc: Global, line: &[u8], count: u32) -> Result<Vec<u8>, AllocError> {
     let mut script = Vec::from_slice(alloc, b"table 4 3 2 1 id:int note:text\nbatch\n")?;
     for _ in 0..count {
@@ -338,7 +338,7 @@ fn replies_to<R: AllocGlobal>(rt: &R, script: &[u8]) -> Result<Vec<u8>, RunFault
     Ok(text)
 }
 
-// Whether a text is some replies, and behind them at most one line.
+// Whether a text is some replies, followed by at most one line.
 fn are_begun(replies: &[u8], text: &[u8]) -> bool {
     match text.strip_prefix(replies) {
         Some([]) => true,
@@ -347,8 +347,8 @@ fn are_begun(replies: &[u8], text: &[u8]) -> bool {
     }
 }
 
-// Adds a command to a script and its reply to the replies. Whether the script, cut before each byte of the command, has the
-// replies so far and at most one line behind them; and, where just its last line end is gone, also that reply.
+// Adds a command to a script and its reply to the replies. Returns whether the script, cut before each byte of the command, has the
+// replies so far followed by at most one line, and whether it also has the new reply if only its last line end is missing.
 fn add_cut<R: AllocGlobal>(
     rt: &R,
     script: &mut Vec<u8>,
