@@ -1,6 +1,6 @@
 //! Replays worked scripts, each by several crews over streams in memory, and compares every byte of their replies.
 //!
-//! The file `scripts` names them, one a line. The file NAME is a script, and NAME.stdout has its replies.
+//! The file `scripts` names them, one a line. A script is the file NAME, and its replies are in NAME.stdout.
 #![tactic(auto)]
 
 use anyhow::{Context, Result, bail};
@@ -10,7 +10,7 @@ use std::rt::Files;
 use std::sync::Wait;
 use std::thread::Threads;
 
-// The workers, the cut and the grain of each crew. The first works packets of a batch without jobs, the others each packet in jobs.
+// The workers, the cut and the grain of each crew. The first one runs packets of a batch without jobs, the others divide each packet into jobs.
 const CREWS: [[usize; 3]; 5] = [[1, 1, 65_536], [1, 3, 1], [2, 2, 1], [7, 1, 1], [7, 6, 1]];
 
 fn crew_of([workers, cut, grain]: [usize; 3]) -> Result<Crew<NoGate>> {
@@ -20,7 +20,7 @@ fn crew_of([workers, cut, grain]: [usize; 3]) -> Result<Crew<NoGate>> {
     }
 }
 
-// Replays one script by the caller alone and by each crew, and gives the number of bytes of its replies.
+// Replays one script by the caller alone and by each crew, and returns the number of bytes of its replies.
 fn replay<R: Files + AllocGlobal + Threads + Wait + Sync>(rt: &R, name: &str) -> Result<usize> {
     let alloc = rt.alloc();
     let script = fs::read(rt, name).context(format_args!("reading {name}"))?;
