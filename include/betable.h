@@ -1,4 +1,4 @@
-/* betable from C: a table that lives between scripts. `bin/build_c` builds the library, libbt_c.a and libbt_c.so.
+/* betable from C: a table that lives between scripts. `bin/build_c` builds the library as libbt_c.a and libbt_c.so.
  *
  *     betable_session session = BETABLE_CLOSED;
  *     unsigned char replies[4096];
@@ -7,15 +7,15 @@
  *     size_t count = betable_copy_replies(&session, 0, replies, sizeof replies);
  *     betable_close(&session);
  *
- * A script is bytes, of any number, as docs/SCRIPT.md says; they are read during the call and not kept. The run of one script and then of another is the
- * run of both as one, where the first ends between two commands: with a line feed, and outside of a block. A block that the end of a script cuts off is
- * refused, as 2 Unfinished, and does not go on in the next one.
+ * A script is any number of bytes, as docs/SCRIPT.md says. They are read during the call and not kept. The runs of two scripts, one after the other, are the
+ * run of both as one script, if the first ends between two commands: with a line feed, and outside of a block. A block that the end of a script cuts off is
+ * refused as 2 Unfinished; the next script does not continue it.
  *
- * What C owes, which nothing checks:
- *   - The session is BETABLE_CLOSED before its first use, and only these calls write it. It may be moved, and has one owner: of a copy and the session that
- *     it was made of only one may be used.
- *   - One call at a time uses a session, and all calls of a session are made by one thread. Sessions do not know of each other: two threads may use two.
- *   - No argument is a null pointer, also where a length is 0. A script and the session, or a buffer and the session, do not overlap.
+ * Your obligations, which nothing checks:
+ *   - The session is BETABLE_CLOSED before its first use, and only these calls write it. You may move it, but it has one owner: after a copy, you may use
+ *     either the copy or the original, not both.
+ *   - One call at a time uses a session, and all calls of a session are made by one thread. Sessions are independent: two threads may use two sessions.
+ *   - No argument is a null pointer, even if a length is 0. A script and the session, or a buffer and the session, do not overlap.
  *   - malloc, realloc and free are those of one allocator, which aligns blocks as the C standard says. No call is made from a signal handler, or in a child
  *     that a process with threads has forked.
  */
@@ -35,7 +35,7 @@
 extern "C" {
 #endif
 
-/* A session, where it is open. */
+/* A session, if it is open. */
 typedef struct {
     void *at;
     bool is_open;
@@ -44,15 +44,15 @@ typedef struct {
 /* A session that is not open. */
 #define BETABLE_CLOSED {NULL, false}
 
-/* How a call ended. */
+/* The result of a call. */
 typedef enum {
-    /* All that was asked is done. A command that is refused is answered so, and is done too: see betable_refused_count. */
+    /* The call did all that was asked. A refused command has its reply too: see betable_refused_count. */
     BETABLE_DONE = 0,
-    /* A request for memory was refused. After a run the whole replies of the first n commands are there, and the table is the one after these n commands, the
-       one after n + 1 of them, or lost: see betable_is_lost. No further command was carried out. The session can be used. */
+    /* An allocation failed. After a run, the whole replies to the first n commands are kept, and the table is the one after n commands, the one after n + 1,
+       or lost: see betable_is_lost. No further command was carried out. You can go on using the session. */
     BETABLE_OUT_OF_MEMORY = 1,
-    /* A request for memory was refused while a reply was added to the others. The table is the one after n + 1 commands: the whole replies of the first n are
-       there, and the first bytes of the next one, if any. No further command was carried out. */
+    /* An allocation failed while a reply was added to the others. The table is the one after n + 1 commands. The whole replies to the first n are kept, and
+       the first bytes of the next one, if any. No further command was carried out. */
     BETABLE_REPLY_CUT = 2,
     /* The session is not open. Nothing was done, and its address was not read. */
     BETABLE_NOT_OPEN = 3,
@@ -63,24 +63,23 @@ typedef enum {
 /* Opens a session, which has no table. DONE, OUT_OF_MEMORY or ALREADY_OPEN. */
 betable_status betable_open(betable_session *session) BETABLE_NOT_NULL;
 
-/* Carries out the commands of a script on the session's table. Their replies take the place of those that were there. DONE, OUT_OF_MEMORY, REPLY_CUT or
-   NOT_OPEN. */
+/* Carries out the commands of a script on the session's table. Their replies replace the previous ones. DONE, OUT_OF_MEMORY, REPLY_CUT or NOT_OPEN. */
 betable_status betable_run(betable_session *session, const unsigned char *script, size_t length) BETABLE_NOT_NULL;
 
-/* How many bytes the replies to the last script have. 0 where the session is not open. */
+/* The number of bytes of the replies to the last script. 0 if the session is not open. */
 size_t betable_replies_length(betable_session *session) BETABLE_NOT_NULL;
 
-/* Copies the bytes of these replies from a place on, as many as there are and as there is room for, and answers how many. The replies stay. */
+/* Copies the bytes of these replies from a place on, as many as there are and as fit, and returns their number. The replies are kept. */
 size_t betable_copy_replies(betable_session *session, size_t from, unsigned char *out, size_t room) BETABLE_NOT_NULL;
 
-/* How many commands of the last script were refused. 0 where the session is not open, and after a run that was not DONE. */
+/* The number of commands of the last script that were refused. 0 if the session is not open, and after a run that was not DONE. */
 size_t betable_refused_count(betable_session *session) BETABLE_NOT_NULL;
 
-/* Whether the table was lost, since a request for memory was refused while it was changed. A lost table stays lost, and each command on it but `table` has the
-   reply 'refused 18 Failed'. */
+/* Whether the table was lost because an allocation failed while it was changed. A lost table stays lost, and each command on it except `table` has the reply
+   'refused 18 Failed'. */
 bool betable_is_lost(betable_session *session) BETABLE_NOT_NULL;
 
-/* Closes a session, and gives its memory back. DONE or NOT_OPEN. */
+/* Closes a session and frees its memory. DONE or NOT_OPEN. */
 betable_status betable_close(betable_session *session) BETABLE_NOT_NULL;
 
 #ifdef __cplusplus
