@@ -1,12 +1,12 @@
-// c_calls [ROWS [ROUNDS]]: what one call takes from C, of betable through include/betable.h, of SQLite and of LMDB through their own interfaces: puts of one
-// row, batches of a hundred, gets of a row, and sums of the rows of a city. The rows are an int, a city and a quantity, and are in C variables before a
-// call and after it: so a call of betable has the making of its script in it and the reading of its reply, one of SQLite its bindings and columns, one of
-// LMDB the packing of key and value. Each round gives each engine new, empty tables, and begins with another one; all are compared by what they answer.
-// Printed is the processor time of a call of betable, and that of the others over it in the same round, the middle one of all rounds.
+// c_calls [ROWS [ROUNDS]]: the cost of one call from C to betable through include/betable.h, and to SQLite and LMDB through their own interfaces: puts of
+// one row, batches of a hundred, gets of a row, and sums of the rows of a city. A row is an int, a city and a quantity. Rows are in C variables before and
+// after a call. So a call of betable includes writing its script and reading its reply, a call of SQLite its bindings and columns, and a call of LMDB the
+// packing of key and value. Each round gives each engine new, empty tables, and begins with a different engine. The results of all engines are compared.
+// The program prints the processor time of a call of betable, and the ratio of the other engines to it in the same round; both are medians of all rounds.
 //
-// betable is in memory, SQLite ':memory:' without journal, LMDB on a file in memory, written in place and never synced. A put of one row is a batch, a
-// statement outside of a transaction, and a transaction; a batch of a hundred is a batch, and a transaction. Sums are over an index on the city with the
-// quantity in it, which is made when all rows are there, and not counted.
+// betable is in memory, SQLite is ':memory:' without journal, and LMDB is on a file in memory, written in place and never synced. A put of one row is a
+// batch, a statement outside of a transaction, and a transaction; a batch of a hundred puts is a batch, and a transaction. Sums are over an index on the
+// city that includes the quantity. It is created when all rows are in the table, and its creation is not counted.
 #define _GNU_SOURCE
 #include <lmdb.h>
 #include <sqlite3.h>
@@ -33,8 +33,8 @@ typedef struct {
   void (*open)(void);
   void (*put)(const Row *rows, size_t count);
   void (*make_index)(void);
-  int64_t (*get)(int64_t id);                                  // the quantity, to which the length of the city is added
-  int64_t (*sum)(const char *city, const char *next_city);     // the total, to which the number of rows is added
+  int64_t (*get)(int64_t id);                                  // the quantity plus the length of the city
+  int64_t (*sum)(const char *city, const char *next_city);     // the total plus the number of rows
   void (*close)(void);
 } Engine;
 
@@ -157,7 +157,7 @@ static void check(int code) {
   if (code) fail(mdb_strerror(code));
 }
 
-// Big end first, so that keys are in the order of the numbers, which are not negative.
+// Big-endian, so that keys are in the order of the numbers, which are not negative.
 static void pack(uint64_t number, unsigned char *bytes) {
   for (int i = 0; i < 8; i++) bytes[i] = (unsigned char)(number >> (56 - 8 * i));
 }
@@ -193,7 +193,7 @@ static void lmdb_put(const Row *rows, size_t count) {
   check(mdb_txn_commit(transaction));
 }
 
-// A key of the index is the city, a zero and the id, a value the quantity.
+// A key of the index is the city, a zero byte and the id; a value is the quantity.
 static void lmdb_index(void) {
   MDB_txn *transaction;
   MDB_cursor *cursor;
@@ -268,7 +268,7 @@ static double processor_seconds(void) {
   return (double)now.tv_sec + 1e-9 * (double)now.tv_nsec;
 }
 
-// Numbers that follow each other without order, the same in each round.
+// Pseudo-random numbers, the same in each round.
 static uint64_t next_number(uint64_t *state) {
   *state ^= *state << 13, *state ^= *state >> 7, *state ^= *state << 17;
   return *state;
@@ -276,7 +276,7 @@ static uint64_t next_number(uint64_t *state) {
 
 static void name_city(size_t number, char *name) { sprintf(name, "city%04zu", number % 10000); }
 
-// One engine through all steps: the seconds of a call of each, and a sum of all answers.
+// Runs all steps on one engine: the seconds of a call of each step, and the sum of all results.
 static int64_t measure(const Engine *engine, const Row *rows, size_t count, double *seconds) {
   size_t half = count / 2, sums = count / 20;
   uint64_t state = 88172645463325252;
@@ -326,7 +326,7 @@ int main(int count, char **words) {
   Row *rows = malloc(row_count * sizeof *rows);
   if (rows == NULL) fail("out of memory");
   for (size_t i = 0; i < row_count; i++) {
-    // Different keys without order.
+    // Different keys in random order.
     rows[i].id = (int64_t)((i * 2654435761u) % 4294967296u);
     name_city(i % CITIES, rows[i].city);
     rows[i].qty = (int64_t)(i * 48271 % 1000003);

@@ -1,6 +1,6 @@
-// launch OUTPUT COMMAND ..: runs the command with its standard output in the file, and prints its status as wait gives it,
-// its processor time and its time by the clock in microseconds, and the most memory that it had at once, in KiB.
-// The system counts that memory from the process that starts a command, so this one is small.
+// launch OUTPUT COMMAND ..: runs the command with its standard output in the file, and prints its status as wait returns it,
+// its processor time and its elapsed time in microseconds, and its peak memory in KiB.
+// The system counts the memory of the process that starts a command too, so this program is small.
 #include <fcntl.h>
 #include <stdio.h>
 #include <sys/resource.h>

@@ -1,17 +1,17 @@
 // What the peers share: the script, typed rows, key codes, replies, and the loop over the commands.
 //
 // A peer is an engine with these members, and a main that calls run<Engine>:
-//   explicit Engine(const Table &);           the table has its columns by now
-//   void create(size_t tree);                 an index that the table has by now, and that is empty
-//   size_t build(size_t tree, size_t count);  a step of building it: how many rows it read
+//   explicit Engine(const Table &);           the table already has its columns
+//   void create(size_t tree);                 an empty index that is already in the table
+//   size_t build(size_t tree, size_t count);  a step of building it: the number of rows that it read
 //   bool apply(const Batch &, std::vector<int64_t> &sent);   the messages in order, as one transaction; whether the engine
 //                                             knows how many messages each index was sent, by its tree
 //   void load(const Batch &);                 puts of new keys alone, into an empty table without indexes, as one transaction
 //   bool get(const Value *key, Value *row);   whether there is a row
 //   void scan(size_t tree, const Range &, each);   calls each(const Value *row) by rising key
 //   void sums(size_t tree, const Range &, const Grouping &, each);   calls each(int64_t count, int64_t total, const Value *group)
-// Tree 0 is that of the rows; those after it are the indexes. The script is one that the workloads make: it has no refusals, and of
-// a table a single line.
+// Tree 0 is that of the rows; those after it are the indexes. The script is one that the workloads generate: it has no refusals, and
+// only one table.
 #pragma once
 #include <fcntl.h>
 #include <unistd.h>
@@ -55,7 +55,7 @@ inline int compare(Kind kind, const Value &a, const Value &b);
 // An index has the columns that it is on, then the key columns of the table, then those that it includes.
 struct Index : Tree {
   std::vector<size_t> places;  // of its columns in a row of the table
-  // The filter, where it has one: a column of the table, and a constant.
+  // The filter, if it has one: a column of the table, and a constant.
   bool has_filter = false;
   size_t column = 0;
   std::string test, text;
@@ -93,12 +93,12 @@ struct Batch {
   const Value *row(const Message &m) const { return &values[m.values]; }
 };
 
-// Bounds: values of the first key columns, and none where there is no bound.
+// Bounds: values of the first key columns, and no values if there is no bound.
 struct Range {
   std::vector<Value> from, to;
 };
 
-// How many of the first columns group the rows, and the column that is summed. No total of the workloads leaves 64 bits.
+// The number of first columns that group the rows, and the column that is summed. No total of the workloads exceeds 64 bits.
 struct Grouping {
   size_t columns, summed;
 };
@@ -131,7 +131,7 @@ inline void change(const Batch &batch, const Message &m, Value *row) {
 
 // ---- codes ----
 
-// Adds the code of a value of a key: codes are in the order of values.
+// Appends the code of a value of a key: codes are in the order of values.
 inline void add_code(std::string &code, Kind kind, const Value &value) {
   if (kind == Kind::Int) {
     uint64_t big = __builtin_bswap64(uint64_t(value.number) ^ (1ull << 63));
@@ -157,7 +157,7 @@ inline const char *read_code(const char *at, Kind kind, Value &value) {
   return at + value.text.size() + 2;
 }
 
-// Adds the bytes of a value that is in no key.
+// Appends the bytes of a value that is in no key.
 inline void add_packed(std::string &bytes, Kind kind, const Value &value) {
   if (kind == Kind::Int) bytes.append(reinterpret_cast<const char *>(&value.number), 8);
   else if (kind == Kind::Flag) bytes += char(value.number);
@@ -171,8 +171,8 @@ inline const char *read_packed(const char *at, Kind kind, Value &value) {
   return at + 1 + value.text.size();
 }
 
-// The places of the messages in the order in which an engine takes them: by key, which is faster where keys are new, and
-// of one key by arrival. Upserts alone go by arrival, since a sort costs them more than it gives, unless they are to be sorted.
+// The places of the messages in the order in which an engine takes them: by key, which is faster for new keys, and for one key by
+// arrival. A batch of upserts alone is in the order of arrival, since sorting it costs more than it saves, unless it must be sorted.
 inline std::vector<uint32_t> order_of(const Tree &table, const Batch &batch, bool is_to_sort = false) {
   struct Place {
     uint64_t head;  // the first bytes of the code
@@ -203,7 +203,7 @@ inline std::vector<uint32_t> order_of(const Tree &table, const Batch &batch, boo
   return order;
 }
 
-// Puts and dels of entries of an index, to be made by rising key.
+// Puts and dels of entries of an index, applied in ascending order of their keys.
 class Changes {
   struct Change {
     uint64_t head;  // the first bytes of the key
@@ -242,7 +242,7 @@ class Changes {
 //   bool get(size_t tree, View key, View &value);   void put(size_t tree, View key, View value);   void del(size_t tree, View key);
 //   void append(size_t tree, View key, View value);   a key after all others
 //   void scan(size_t tree, View from, View to, each);   calls each(View key, View value), which says whether to go on; an empty bound is none
-// What a batch means for an index is worked out here: the row before and after it of each key that it names.
+// This class works out what a batch means for an index: for each key that it names the row before and after it.
 template <class Store>
 class OverStore {
   struct Covered {
@@ -305,7 +305,7 @@ class OverStore {
       }
     }
   }
-  // What a change of the row at the key, from one that was there or not to one that is there or not, means for each index.
+  // What a change of the row at the key means for each index; there may be no row before or after it.
   void add_changes(bool was, const Value *before, bool is, const Value *after) {
     for (size_t i = 0; i < table.indexes.size(); i++) {
       const Index &index = table.indexes[i];
@@ -359,7 +359,7 @@ class OverStore {
 
   void create(size_t) { store.create(), covers.emplace_back(), changes.emplace_back(); }
 
-  // Rows are read from the last one that was read on, without it.
+  // Rows are read from the one after the last that was read.
   size_t build(size_t tree, size_t count) {
     const Index &index = table.indexes[tree - 1];
     Covered &covered = covers[tree - 1];
@@ -447,7 +447,7 @@ class OverStore {
 // ---- replies ----
 
 class Replies {
-  static constexpr size_t FULL = 1 << 16;  // more than a line has
+  static constexpr size_t FULL = 1 << 16;  // longer than a line
   char bytes[2 * FULL];
   char *end = bytes;
 
@@ -559,7 +559,7 @@ inline size_t column_of(const Tree &tree, View name) {
   return c;
 }
 
-// Cuts off what is before a byte, and the byte, or all if the byte is not there.
+// Cuts off the text before a byte, and the byte, or all of it if the byte does not occur.
 inline View cut_off(View &text, char byte) {
   size_t length = std::min(text.find(byte), text.size());
   View first = text.substr(0, length);
@@ -740,5 +740,5 @@ int run(int count, char **words) {
     }
   }
   replies.flush();
-  _exit(0);  // without giving the memory back, which is no part of the work
+  _exit(0);  // without freeing the memory, which is not part of the work
 }

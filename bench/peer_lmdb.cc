@@ -1,5 +1,5 @@
 // LMDB over a file in memory, which it writes in place and never syncs; a transaction a batch, and a named database for each tree.
-// Where there are no indexes the rows are in the database without a name, which costs less to open.
+// If there are no indexes, the rows are in the database without a name, which is faster to open.
 #include <lmdb.h>
 #include <sys/mman.h>
 

@@ -1,5 +1,5 @@
 // SQLite in memory, without journal: prepared statements, a transaction a batch. A key of one int is the rowid. An index is one of SQLite's,
-// which the first step of building makes whole; how many messages a batch sends it SQLite doesn't tell.
+// which the first step of building completes. SQLite doesn't report how many messages a batch sends to it.
 #include <sqlite3.h>
 
 #include <unordered_map>

@@ -12,8 +12,8 @@
 //! }
 //! ```
 //!
-//! A session is used by one call at a time, since a call takes it by `&mut`, and by the thread that has it, since it is not `Send`. It is closed when it is
-//! dropped. Cargo builds this crate by Cargo.toml, and clients/rust/build by rustc alone, with the libbt_c.a of the folder that BETABLE_LIBRARY names.
+//! A call takes a session by `&mut`, so one call at a time uses it. It is not `Send`, so it stays on its thread. It is closed when it is dropped. Cargo builds
+//! this crate with Cargo.toml; clients/rust/build uses only rustc. Both link the libbt_c.a of the folder that BETABLE_LIBRARY names.
 
 use std::error::Error;
 use std::fmt;
@@ -39,7 +39,7 @@ extern "C" {
 const DONE: u32 = 0;
 const REPLY_CUT: u32 = 2;
 
-/// The library was refused memory.
+/// The library ran out of memory.
 #[derive(Debug)]
 pub struct OutOfMemory {
     /// The replies of the first commands, which were carried out.
@@ -58,7 +58,7 @@ impl fmt::Display for OutOfMemory {
 
 impl Error for OutOfMemory {}
 
-/// A table, or none so far, which lives from script to script.
+/// A table, or none so far, that lives between scripts.
 pub struct Session(Handle);
 
 impl Session {
@@ -70,7 +70,7 @@ impl Session {
         Ok(Session(handle))
     }
 
-    /// Carries out the commands of a script, and gives the replies to them.
+    /// Carries out the commands of a script, and returns their replies.
     pub fn run(&mut self, script: &[u8]) -> Result<Replies, OutOfMemory> {
         let status = unsafe { betable_run(&mut self.0, script.as_ptr(), script.len()) };
         let mut bytes = vec![0; unsafe { betable_replies_length(&mut self.0) }];
@@ -103,17 +103,17 @@ pub struct Replies {
 }
 
 impl Replies {
-    /// As they are written.
+    /// The bytes of the replies.
     pub fn as_bytes(&self) -> &[u8] {
         &self.bytes
     }
 
-    /// How many of the commands were refused.
+    /// The number of commands that were refused.
     pub fn refused_count(&self) -> usize {
         self.refused_count
     }
 
-    /// One after the other, in the order of the commands.
+    /// The replies in the order of the commands.
     pub fn iter(&self) -> impl Iterator<Item = Reply> {
         replies_of(&lines(&String::from_utf8_lossy(&self.bytes))).into_iter()
     }
@@ -133,7 +133,7 @@ pub enum Reply {
     /// The lines of an image.
     Image(Vec<String>),
     Refused(Refusal),
-    /// The line of any other command, as `batch 2`.
+    /// The line of any other command, such as `batch 2`.
     Line(String),
 }
 
@@ -141,7 +141,7 @@ pub enum Reply {
 #[derive(Clone, Debug, PartialEq)]
 pub struct Sum {
     pub count: u64,
-    /// As it is written, since a sum of ints may have more than 64 bits.
+    /// The digits of the sum, since a sum of ints may exceed 64 bits.
     pub total: String,
     pub group: Vec<String>,
 }
@@ -151,7 +151,7 @@ pub struct Sum {
 pub struct Refusal {
     pub number: u32,
     pub name: String,
-    /// Which message of a batch, or which record of a load, is the first that is refused.
+    /// The number of the first message of a batch, or record of a load, that is refused.
     pub item: Option<u64>,
 }
 
@@ -164,7 +164,7 @@ impl fmt::Display for Refusal {
 
 impl Error for Refusal {}
 
-// A text with line breaks is in quotes, so a line goes on while its quotes are odd.
+// A text with line breaks is in quotes, so a line continues as long as the number of its quotes is odd.
 fn lines(text: &str) -> Vec<String> {
     let mut lines: Vec<String> = Vec::new();
     let mut is_open = false;
@@ -242,7 +242,7 @@ fn refusal(text: &str) -> Option<Refusal> {
     Some(Refusal { number, name, item: words.next().and_then(|word| word.parse().ok()) })
 }
 
-/// The fields of a record as a reply has it.
+/// The fields of a record in a reply.
 pub fn fields(record: &str) -> Vec<String> {
     let mut fields = vec![String::new()];
     let mut letters = record.chars().peekable();

@@ -1,4 +1,4 @@
-//! Finds libbt_c.a: in the folder that BETABLE_LIBRARY names, or else in out/ of the repository or where pkg-config says.
+//! Finds libbt_c.a: in the folder that BETABLE_LIBRARY names, or else in out/ of the repository or in the folder that pkg-config reports.
 
 use std::env::{var, var_os};
 use std::path::{Path, PathBuf};

@@ -1,7 +1,7 @@
-//! A service in Rust that keeps a table alive: it runs the files that its words name one after the other on one table, and prints the replies.
+//! A service in Rust that keeps a table alive: it runs the files that its words name, one after the other, on one table, and prints the replies.
 //!
-//! Where no file is named it makes a table, puts two rows into it, and reads them. The status is 1 where memory or a file was wanting, and 2 where a command
-//! was refused.
+//! If no file is named, it creates a table, puts two rows into it, and reads them. The status is 1 if it ran out of memory or a file is missing, and 2 if a
+//! command was refused.
 
 use betable::{Reply, Session, quoted};
 use std::error::Error;

@@ -1,13 +1,14 @@
 /*
- * A library to be preloaded into a test's process (LD_PRELOAD), which kills the process at an operation on a file, lets operations fail, and keeps a trace of
- * all of them. For Linux with the GNU C library.
+ * A library to preload into a test's process (LD_PRELOAD). It kills the process at an operation on a file, makes operations fail, and keeps a trace of all
+ * operations. For Linux with the GNU C library.
  *
- * Operations are those on what is below a folder: a file is created or opened to be written, written, cut or extended, synced, renamed or removed, and the
- * names in a folder are synced. They are counted from 0 since `faults_begin`. A sync is not carried out, since what a kernel has it keeps while it runs.
+ * An operation is one on a file or a folder below a given folder: a file is created or opened for writing, written, cut or extended, synced, renamed or
+ * removed, or the names in a folder are synced. Operations are counted from 0 since `faults_begin`. A sync is not carried out, since a kernel that keeps
+ * running loses nothing.
  *
- * Requests for memory are refused too: the one of a number, of those that are made while the test says so.
+ * Allocations are refused too: the one with a given number, of those that are made while the test counts them.
  *
- * A trace is a file of records: a letter, the path, an offset, a length, each with a zero byte after it, and then as many bytes.
+ * A trace is a file of records: a letter, the path, an offset, a length, each with a zero byte after it, followed by that many bytes.
  *
  *   c path            a file is created                    s path            a file, or the names in a folder, are synced
  *   w path at n ..    n bytes are written at an offset     r path            a file is removed
@@ -27,7 +28,7 @@
 #include <sys/syscall.h>
 #include <unistd.h>
 
-/* How much of a write is carried out at which the process is killed, or which fails. */
+/* How much is carried out of a write that fails, or at which the process is killed. */
 enum part { NOTHING, HALF, ALL_BUT_A_BYTE, WHOLE };
 
 static char folder[PATH_MAX];
@@ -42,7 +43,7 @@ static long requests, refused_at = -1;
 void *__libc_malloc(size_t size);
 void *__libc_realloc(void *block, size_t size);
 
-/* From here on operations below a folder are counted. Numbers below 0 kill nothing, and let nothing fail. */
+/* From here on operations below a folder are counted. Numbers below 0 kill nothing, and make nothing fail. */
 void faults_begin(const char *below, const char *trace_path, bool has_bytes, long killed, long first, long last, int how_much, int fault)
 {
     snprintf(folder, sizeof folder, "%s", below);
@@ -103,7 +104,7 @@ static bool is_watched(int file, char *path)
     return is_below(path);
 }
 
-/* What is to be done at an operation. */
+/* The action at an operation. */
 enum fate { GO_ON, FAIL, DIE };
 
 static enum fate fate(void)
@@ -154,7 +155,7 @@ static ssize_t write_at(int file, const void *bytes, size_t length, off_t at, bo
     return (ssize_t)length;
 }
 
-/* Whether an operation that is carried out whole or not at all is to be carried out. One that is killed is carried out first if a write would be. */
+/* Whether to carry out an operation that is atomic. If the process is killed at it, it is carried out first exactly if a write would be carried out whole. */
 static bool is_let(char letter, const char *path, long offset, const char *name)
 {
     enum fate what = fate();
@@ -282,7 +283,7 @@ int open64(const char *path, int flags, ...)
     return open_file(path, flags, mode);
 }
 
-/* Requests for memory: from here on, up to the same call with `false`, they are counted on, and the one of this number is refused. */
+/* Allocations: from here on, until the same call with `false`, the count goes on, and the one with this number is refused. */
 void faults_count_requests(bool is_counting, long refused)
 {
     is_counting_requests = is_counting;

@@ -1,6 +1,6 @@
 /*
- * A library to be preloaded into a program (LD_PRELOAD), which refuses requests for memory or starts of threads, as a system
- * does that has no more. For Linux with the GNU C library.
+ * A library to preload into a program (LD_PRELOAD). It refuses allocations (requests) or starts of threads, like a system that
+ * is out of memory or threads. For Linux with the GNU C library.
  *
  * Requests are the calls of malloc, calloc, realloc, reallocarray, posix_memalign and aligned_alloc from the start of the
  * program on, counted from 1. A realloc counts whether it grows or shrinks its block. Starts are the calls of
@@ -10,25 +10,25 @@
  *   REFUSE_FROM        the first of the requests that are refused, with all that follow it
  *   REFUSE_START_AT    a start that is refused
  *   REFUSE_START_FROM  the first of the starts that are refused, with all that follow it
- *   COUNT_FILE         the file that gets the number of requests and that of starts, each as an unsigned long in the order of
- *                      bytes of the machine; they are kept in memory that the file shares, so that they are there however the
- *                      program ends
- *   NOTE_FILE          the file that gets a line where the program sets a mark for it: the bytes in use, and the numbers of
- *                      requests and starts so far; with this variable those are counted and refused only where the program
- *                      says so
- *   ORDER_FILES        the numbers of two open files: at mark 0 orders are read from the first, and answered on the second
+ *   COUNT_FILE         the file for the number of requests and that of starts, each as an unsigned long in the machine's byte
+ *                      order; they are in memory that is shared with the file, so that they survive any end of the program
+ *   NOTE_FILE          the file for a line at each mark 3: the bytes in use, and the numbers of requests and starts so far; with
+ *                      this variable those are counted and refused only between the marks of the program
+ *   ORDER_FILES        the numbers of two open files: at mark 0 orders are read from the first, and their results are written to
+ *                      the second
  *
  * A mark is a request for 2^62 bytes and the number of the mark, which is refused in any case:
  *
- *   0   from here on requests and starts are counted, on from those of earlier such stretches, and refused as said above
- *   1   from here on none is counted or refused; once one was refused, no later stretch has one refused
- *   2   from here on each request is refused, and counted apart: COUNT_FILE gets their number after that of the starts
- *   3   a line is noted
+ *   0   from here on requests and starts are counted, continuing the count of earlier stretches, and refused as described above
+ *   1   from here on none is counted or refused; if one was refused, none is refused in a later stretch
+ *   2   from here on each request is refused, and counted separately: their number is written to COUNT_FILE after that of the starts
+ *   3   a line is written
  *
- * An order is three unsigned longs: a way to refuse (0 to 3, of the first four variables in their order), the number of what
- * is refused, counted from the mark, and seconds. A program that has come to mark 0 writes an int, 0. For each order it forks a
- * child, which goes on with that refused and is ended when the seconds are over, and writes the status of the child, an int. At
- * an order of number 0, or where no more come, it goes on itself. So what is before a mark is run once for all orders at it.
+ * An order is three unsigned longs: a way to refuse (0 to 3, the first four variables in their order), the number of the refused
+ * request or start, counted from the mark, and seconds. A program that has reached mark 0 writes an int, 0. For each order it forks a
+ * child, which continues with that request or start refused and is killed after the seconds, and writes the status of the child,
+ * an int. At an order with number 0, or if there are no more orders, it continues itself. So the program runs up to a mark only
+ * once for all orders at it.
  */
 #define _GNU_SOURCE
 #include <dlfcn.h>
@@ -54,7 +54,7 @@ void *__libc_realloc(void *block, size_t size);
 void *__libc_memalign(size_t alignment, size_t size);
 void __libc_free(void *block);
 
-/* What is counted, and which of it is refused. */
+/* The counts, and the numbers that are refused. */
 struct refusal {
     unsigned long at;
     unsigned long from;
@@ -69,7 +69,7 @@ struct counts {
 /* What happens to requests and starts. */
 enum stretch { COUNTED, LET_GO, REFUSED };
 
-/* What a child has refused: in which way, which, and within how many seconds it has to end. */
+/* What is refused in a child: the way, the number, and the seconds within which it has to end. */
 struct order {
     unsigned long way;
     unsigned long number;
@@ -133,7 +133,7 @@ __attribute__((constructor)) static void start(void)
     has_started = true;
 }
 
-/* Counts one more, and answers whether it is refused. What the loader asks for before the program is not counted. */
+/* Counts one more, and returns whether it is refused. Requests of the loader before the program are not counted. */
 static bool is_among(const struct refusal *refused, atomic_ulong *count)
 {
     if (!has_started || stretch == LET_GO)
@@ -159,7 +159,7 @@ static void note(void)
         _exit(70);
 }
 
-/* Has a child refused what each order says, and waits for it. Returns in each child, and where no more are wanted here. */
+/* Forks a child for each order, sets what is refused in it, and waits for it. Returns in each child, and in the parent after the last order. */
 static void obey_orders(void)
 {
     unsigned long *refused[] = {&of_requests.at, &of_requests.from, &of_starts.at, &of_starts.from};
@@ -182,7 +182,7 @@ static void obey_orders(void)
     }
 }
 
-/* Does what a mark says. Once a stretch has ended in which something was refused, nothing more is. */
+/* Carries out a mark. After a stretch in which something was refused, nothing more is refused. */
 static void obey(size_t mark)
 {
     if (mark == 0) {
@@ -222,7 +222,7 @@ static void *granted(void *block)
     return block;
 }
 
-/* A block in place of another one. What was refused leaves that as it was. */
+/* A block in place of another one. If it is refused, the other one is unchanged. */
 static void *resized(void *block, size_t size)
 {
     long before = (long)malloc_usable_size(block);

@@ -10,7 +10,7 @@
 #include <stdlib.h>
 #include <string.h>
 
-/* Runs a part, and puts its replies after those that there are. */
+/* Runs a part, and appends its replies to the previous ones. */
 static void run(betable_session *session, bytes script, size_t from, size_t to, bytes *replies, size_t room) {
     if (betable_run(session, script.at + from, to - from) != BETABLE_DONE) {
         exit(4);
@@ -19,7 +19,7 @@ static void run(betable_session *session, bytes script, size_t from, size_t to, 
     if (replies->length + length > room) {
         exit(1);
     }
-    /* In two steps, of which the second begins inside of the replies. */
+    /* In two steps; the second begins within the replies. */
     size_t first = betable_copy_replies(session, 0, replies->at + replies->length, length / 2);
     size_t second = betable_copy_replies(session, first, replies->at + replies->length + first, room - replies->length - first);
     if (first + second != length) {

@@ -1,11 +1,11 @@
-/* Refuses each request for memory of a session in turn, alone and with all that follow it, and checks what the library answers and leaves.
+/* Refuses each allocation of a session, one per session, alone and with all that follow it, and checks the replies and the state of the table.
  *
  *     refused_memory SCRIPT PROBE PLACE ..
  *
- * Linked with -Wl,--wrap=malloc,--wrap=realloc,--wrap=free. PLACE .. are where the commands of SCRIPT begin, and its end; replies to PROBE tell the state of
- * a table. A run of SCRIPT ends with DONE, all replies and the state after it; with OUT_OF_MEMORY, the replies of the first commands, and the state after
- * these, or after one more, or a lost table; or with REPLY_CUT, those of the first commands and a part of one more, and the state after that one. Then the
- * session is closed, and has given all memory back. Prints how many requests were refused, and how the runs ended. */
+ * Linked with -Wl,--wrap=malloc,--wrap=realloc,--wrap=free. PLACE .. are the places at which the commands of SCRIPT begin, and its end; the replies to PROBE
+ * show the state of a table. A run of SCRIPT ends with DONE, all replies and the state after it; with OUT_OF_MEMORY, the replies to the first commands, and
+ * the state after these, or after one more, or a lost table; or with REPLY_CUT, the replies to the first commands and a part of one more, and the state after
+ * that one. Then the session is closed, and all its memory is freed. Prints the number of refused allocations, and how the runs ended. */
 #include "betable.h"
 #include "files.h"
 
@@ -17,7 +17,7 @@ void *__real_malloc(size_t size);
 void *__real_realloc(void *block, size_t size);
 void __real_free(void *block);
 
-/* How many requests are to be granted first: none is refused if it is negative. Whether those after the one that is refused are granted. */
+/* The number of allocations that are granted first; if it is negative, none is refused. Whether those after the refused one are granted. */
 static long granted = -1;
 static int is_one = 0;
 static long blocks = 0;
@@ -53,7 +53,7 @@ void __wrap_free(void *block) {
     __real_free(block);
 }
 
-/* The state of a table, and how long the replies are up to there. */
+/* The state of a table, and the length of the replies up to there. */
 typedef struct {
     bytes state;
     size_t length;
@@ -70,7 +70,7 @@ static int fail(const char *what, long request) {
     return 1;
 }
 
-/* The replies to a script, in a block of their own. */
+/* The replies to a script, in a new block. */
 static bytes replies(betable_session *session, const unsigned char *given, size_t length) {
     if (betable_run(session, given, length) != BETABLE_DONE) {
         exit(4);
@@ -103,7 +103,7 @@ static void note_moments(char **places) {
     }
 }
 
-/* Whether the table of a session is lost, by what it answers, when memory is there. */
+/* Whether the table of a session is lost, according to a reply when memory is available. */
 static int is_lost_by_reply(betable_session *session) {
     static const unsigned char get[] = "get 1\n";
     bytes text = replies(session, get, sizeof get - 1);
@@ -120,7 +120,7 @@ static int has_state(betable_session *session, size_t count) {
     return has;
 }
 
-/* What a run left that ended so with that many bytes of replies. */
+/* Checks what a run left that ended with this status and this many bytes of replies. */
 static int check(betable_session *session, betable_status status, size_t length, long request) {
     size_t whole = 0;
     while (whole < command_count && moments[whole + 1].length <= length) {
@@ -148,7 +148,7 @@ static int check(betable_session *session, betable_status status, size_t length,
     }
 }
 
-/* One session with a request that is refused. 2: the request was not reached. */
+/* One session with one allocation that is refused. 2: that allocation was not reached. */
 static int one(long request) {
     long before = blocks;
     betable_session session = BETABLE_CLOSED;

@@ -1,7 +1,6 @@
 /*
- * A library to be preloaded into a program (LD_PRELOAD). A thread that is started runs to its end before the call that starts it returns, so that the
- * first worker of a run takes all jobs, in each run. The file that the environment variable THREADS_FILE names gets a byte for each thread. For Linux with
- * the GNU C library.
+ * A library to preload into a program (LD_PRELOAD). A thread runs to its end before the call that starts it returns, so that the first worker of each run
+ * takes all jobs. One byte for each thread is written to the file that the environment variable THREADS_FILE names. For Linux with the GNU C library.
  */
 #define _GNU_SOURCE
 #include <dlfcn.h>

@@ -1,4 +1,4 @@
-/* Uses a session wrongly, as the library answers. The status is the number of the first check that fails, or 0. */
+/* Uses a session wrongly, and checks the results. The status is the number of the first check that fails, or 0. */
 #include "betable.h"
 
 #include <string.h>
@@ -39,12 +39,12 @@ int main(void) {
     CHECK(20, betable_refused_count(&session) == 0);
     CHECK(21, betable_close(&session) == BETABLE_DONE);
     CHECK(22, session.at == NULL && is_closed(&session) == 0);
-    /* One that is opened again has no table. */
+    /* A session that is opened again has no table. */
     CHECK(23, betable_open(&session) == BETABLE_DONE);
     CHECK(24, betable_run(&session, (const unsigned char *)"get 1\n", 6) == BETABLE_DONE);
     CHECK(25, betable_copy_replies(&session, 0, out, sizeof out) > 8 && memcmp(out, "refused ", 8) == 0);
     CHECK(26, betable_close(&session) == BETABLE_DONE);
-    /* Of one that is not open the address is not read. */
+    /* The address of a session that is not open is not read. */
     session.at = (void *)1;
     CHECK(27, is_closed(&session) == 0);
     CHECK(28, betable_open(&session) == BETABLE_DONE && betable_close(&session) == BETABLE_DONE);

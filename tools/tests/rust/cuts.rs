@@ -14,7 +14,7 @@ fn run(session: &mut Session, part: &[u8], replies: &mut Vec<u8>) -> Result<(), 
     Ok(())
 }
 
-/// Whether the parts between these places are answered as the whole.
+/// Whether the parts between these places have the same replies as the whole.
 fn are_one_run(script: &[u8], wanted: &[u8], low: usize, high: usize) -> Result<bool, Box<dyn Error>> {
     let (mut three, mut replies) = (Session::new()?, Vec::new());
     for part in [&script[..low], &script[low..high], &script[high..]] {
