@@ -120,7 +120,7 @@ def replicas(rows: list[tuple[int, str, int]], rounds: int) -> None:
     for turn in range(rounds):
         for log in (None, *LOGS):
             for size in BATCHES:
-                # Fewer rows where each script waits for the disk.
+                # Fewer rows if each script waits for the disk.
                 scripts = scripts_of(rows[: min(len(rows), 500 * size)], size)
                 count = sum(script.count(b"\n") - 2 for script in scripts)
                 with tables(crash, log) as (one, other):

@@ -17,7 +17,7 @@ MOST_NAMED = 3  # places of one kind that are named
 MOST_TEXT = language.MOST_TEXT_BYTES
 UNITS = {1: "tenths", 2: "hundredths", 3: "thousandths"}
 
-# The fields of a column, each with a line feed after it, that may all be values of a kind. Empty fields are counted apart.
+# The fields of a column, each followed by a line feed, that may all be values of a kind. Empty fields are counted separately.
 SMALL_INTS = re.compile(r"(?:(?:-?[1-9][0-9]{0,17}|0)?\n)*+")
 INTS = re.compile(r"(?:(?:-?[1-9][0-9]{0,18}|0)?\n)*+")
 DIGITS = re.compile(r"(?:(?:-?[0-9]+)?\n)*+")

@@ -21,15 +21,15 @@ SEPARATORS = {"comma": ",", "semicolon": ";", "tab": "\t", "bar": "|"}
 SAMPLE = 65_536  # letters from which separator and names are found
 MOST_WAITING = 2**28  # bytes of standard input, which is held since it may be read twice
 
-# The start of an exponent of a decimal number, and how many bytes one has at most.
+# The start of an exponent of a decimal number, and its largest number of bytes.
 EXPONENT = re.compile(rb"[0-9][eE][+-]?[0-9]")
 MOST_EXPONENT = 5
 
-# How a file begins that is compressed, and the module that reads it.
+# The first bytes of a compressed file, and the module that reads it.
 COMPRESSED = ((rb"\x1f\x8b\x08", gzip), (rb"BZh[1-9]1AY&SY", bz2), (rb"\xfd7zXZ\x00", lzma))
 UNPACKING_FAULTS = (gzip.BadGzipFile, EOFError, zlib.error, lzma.LZMAError)
 
-# How a file begins that is no CSV file, what it is, and how one is made of it.
+# The first bytes of a file that is not CSV, what it is, and how to make a CSV file from it.
 OTHER_FILES = (
     (b"PK\x03\x04", "a zip archive or a workbook (.xlsx, .ods): unpack it, or save its sheet as CSV"),
     (b"\xd0\xcf\x11\xe0", "a workbook or a document of an old form (.xls, .doc): save its sheet as CSV"),

@@ -29,7 +29,7 @@ NOTHING, HALF, ALL_BUT_A_BYTE, WHOLE = range(4)
 SECTOR = 512
 IN_DOUBT, FAILED = -1, -2  # notes that a step may be kept or not, and that a call failed
 MOST_FAILURES = 100  # of the calls of a client that goes on
-MOST_SUBSETS = 10  # up to that many writes that are not synced, all subsets of them are looked at
+MOST_SUBSETS = 10  # for at most this many writes that are not synced, all subsets of them are checked
 
 
 class Operation(NamedTuple):
@@ -158,7 +158,7 @@ def check_after_crash(folder: str, steps: list[Step], want: list[bytes], least: 
     with table_of(folder) as table:
         state = state_of(table, want, least, most)
         for number in range(least, len(steps)):
-            # A step that is made by `once` is sent again as it was not answered, also where it was kept.
+            # A step that is made by `once` is sent again because there was no reply, even if it was kept.
             if number >= state or steps[number].is_repeatable:
                 steps[number].make(table, number)
         state_of(table, want, len(steps), len(steps))
@@ -234,7 +234,7 @@ class Disk:
     def take(self, operation: Operation, folder: str) -> None:
         letter, name = operation.letter, os.path.basename(operation.path)
         if letter == "f":
-            # What a sync that failed had to write may be lost for good, as a kernel does not write it again. Names are.
+            # The data of a failed sync may be lost for good, because a kernel does not write it again. It writes names again.
             self.pending = [entry for entry in self.pending if operation.path == folder or entry[0] != self.current.get(name)]
         elif letter == "s" and operation.path == folder:
             for _, one in [entry for entry in self.pending if entry[0] < 0]:
@@ -398,7 +398,7 @@ def go_on(folder: str, steps: list[Step], want: list[bytes], is_control: bool) -
                 table = table_of(folder)
                 if is_control:
                     table._drop = lambda: None
-                # After a doubt the table says whether the step was kept. One that was made by `once` is sent again.
+                # In doubt, the table shows whether the step was kept. A step that was made by `once` is sent again.
                 if not steps[number].is_repeatable and table.replies(PROBE) == want[number + 1]:
                     number += 1
                     continue
@@ -408,7 +408,7 @@ def go_on(folder: str, steps: list[Step], want: list[bytes], is_control: bool) -
             note(ctypes.c_long(IN_DOUBT))
             table = None
         except (durable.RolledBack, OSError):
-            # By another name no fault may come.
+            # No fault of another name may occur.
             note(ctypes.c_long(FAILED))
     if table is not None:
         state_of(table, want, len(steps), len(steps))
@@ -477,7 +477,7 @@ def memory_refusals(folder: str, steps: list[Step], *, every: int = 1) -> Count:
     want, count = list(expected(steps)), Count("memory refused")
 
     def work() -> None:
-        # What a process says that is out of memory is not of interest.
+        # The message of a process that is out of memory is ignored.
         os.dup2(os.open(os.devnull, os.O_WRONLY), 2)
         with table_of(folder, make=Starved) as table:
             for number, step in enumerate(steps):

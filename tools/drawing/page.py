@@ -15,7 +15,7 @@ MOST_BLOCK, MOST_REPLY, MOST_IMAGE = 12, 12, 1  # lines of a block, of a reply a
 MOST_LETTERS = 300  # of a line
 MARGIN = 2  # round a figure
 LEAST_SCALE = 0.7  # of a figure that is too wide; beyond that it is scrolled
-WIDTH, LEAST_COLUMNS, MOST_COLUMNS = 1150, 4, 8  # of a figure where no number of columns is given
+WIDTH, LEAST_COLUMNS, MOST_COLUMNS = 1150, 4, 8  # of a figure if no number of columns is given
 NOTHING_PRINTED = "No command up to here has printed a tree. With <code>--every</code> each tree is printed where it has changed."
 FOLDER = Path(__file__).resolve().parent
 
@@ -75,7 +75,7 @@ class Trees:
             self.shown.pop(gone, None)
         for image in step.images:
             figure = Figure(image, self.images.get(image.name), len(self.figures) + 1)
-            # An image that was added and shows nothing new says that the tree is as it was.
+            # An image that was added and shows nothing new means that the tree has not changed.
             if figure.is_news() or step.command.head.word == b"image":
                 figure.drawing = self.drawing(image)
                 self.figures.append(figure)

@@ -159,7 +159,7 @@ CODE = {
     b"bytes": code_of_bytes,
 }
 
-# What an operation makes of an int and a number.
+# An int after an operation with a number.
 MADE = {b"add": lambda old, number: max(LEAST_INT, min(GREATEST_INT, old + number)), b"max": max, b"min": min}
 
 
@@ -569,7 +569,7 @@ def form(pattern):
     return re.compile(b" *" + pattern.replace(b" ", b" +") + b" *", re.DOTALL)
 
 
-# How the line of each command is written; a space stands for one or more, and \x20 for exactly one. The record of a `get` and
+# The pattern of the line of each command; a space matches one or more, and \x20 exactly one. The record of a `get` and
 # the constant of an `index` follow exactly one, and go up to the end of the line.
 FORMS = {
     b"table": form(rb"table (%b) (%b)(b?) (%b) (%b)((?: %b:(?:%b))+)" % (NUMBER, NUMBER, NUMBER, NUMBER, NAME, b"|".join(READ))),

@@ -7,7 +7,7 @@ from pathlib import Path
 HERE = Path(__file__).resolve().parent
 SECONDS = 20
 
-# Each way to refuse, in the order in which an order names them, and the place of what it refuses among what COUNT_FILE gets.
+# Each way to refuse, in the order of their numbers in an order, and the place in COUNT_FILE of the count that it applies to.
 SETTINGS = [("REFUSE_AT", 0), ("REFUSE_FROM", 0), ("REFUSE_START_AT", 1), ("REFUSE_START_FROM", 1)]
 COUNT_BYTES = 8
 

@@ -13,9 +13,9 @@ from importlib.util import module_from_spec, spec_from_loader
 from pathlib import Path
 
 TOP = Path(__file__).resolve().parents[2]
-# What bin/betable runs once it is built. Where a test is of replies, or of what a tool says of them, it is started without bin/betable.
+# The program that bin/betable runs once it is built. Tests of replies, and of what tools report about them, start it without bin/betable.
 PROGRAM = TOP / "crates/betable/out/betable"
-SECONDS = 200  # within which what is started has to end, also beside other tests
+SECONDS = 200  # seconds within which a started process has to end, also while other tests run
 sys.path += [str(TOP / "tools"), str(TOP / "clients/python")]
 SVG = "{http://www.w3.org/2000/svg}"
 TABLE = "table 4 3 2 1 id:int city:text qty:int"

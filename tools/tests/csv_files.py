@@ -69,7 +69,7 @@ def there_and_back(given, *words):
     return read(text)
 
 
-# What is found in a file: its bytes, the words, the columns of the table, the records of the script, and sentences.
+# The findings in a file: its bytes, the words, the columns of the table, the records of the script, and sentences.
 FOUND = (
     ("b;a\n1;x\n", "--key a", "1 a:text b:int", "a,b\nx,1\n", ["1 record, 2 columns, divided by ';'"]),
     ("a\tb\r\n1\t-2,5\r\n", "--key a", "1 a:int b:text", 'a,b\n1,"-2,5"\n',
@@ -602,7 +602,7 @@ def csv_of_sqlite3_comes_back():
 
 # Files as other programs write them, the words that are asked for, and the rows that are stored.
 OF_OTHER_PROGRAMS = (
-    # A spreadsheet: semicolons, decimal commas, CR LF, letters of Windows, a dash for no value, and words of its own for yes and no.
+    # A spreadsheet: semicolons, decimal commas, CR LF, letters of Windows, a dash for no value, and other words for yes and no.
     ('Nr.;Bezeichnung;Preis \u20ac;Bestand;Lieferbar\r\n007;"Schraube ""M3"", kurz";1234,50;-;ja\r\n008;Mutter;0,05;;nein\r\n'.encode("cp1252"),
      "--key Nr. --encoding cp1252 --scale preis=2 --null bestand=- --empty bestand=-1 --flag lieferbar=ja,nein",
      [["nr", "bezeichnung", "preis", "bestand", "lieferbar"], ["007", 'Schraube "M3", kurz', "123450", "-1", "true"], ["008", "Mutter", "5", "-1", "false"]]),

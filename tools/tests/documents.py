@@ -93,7 +93,7 @@ def a_sentence_ends_where_the_next_one_begins():
     expect(list(sentences(given)), ["A b.", "C ` f", "g.", "h?", "I.", "- L   m.", "N"])
 
 
-# Words that a page says otherwise, each with what it says. A word of the language or of the code is in backticks.
+# Words that a page must not use, each with the word to use instead. A word of the language or of the code is in backticks.
 OTHER_WORDS = {
     r"wants? of (?:memory|room)|memory (?:is|was|were) wanting": "out of memory", r"so (?:many|much)": "that many, or the number",
     r"becom(?:es?|ing) of|became of": "the result of", r"anew": "again", r"dear(?:er|est)?": "slow, or expensive", r"great(?:est)?": "large, largest",
@@ -118,7 +118,7 @@ def other_words_are_found():
     expect(sorted(found for found, _ in other_words(given)), ["So many", "behind", "but for", "stand", "want of memory"])
 
 
-# Words of ours that codespell takes for others.
+# Correct words that codespell reports.
 OUR_WORDS = ("crate", "crates", "ot")
 
 
@@ -183,7 +183,7 @@ def each_page_is_linked_from_the_readme():
 # Folders of the repository, and those of a crate.
 FOLDERS = ("bench", "bin", "clients", "crates", "docs", "examples", "include", "man", "packaging", "tools")
 PARTS = ("src", "specs", "proofs", "must-fail")
-# Of what is in these folders the repository has nothing.
+# The repository has none of the files in these folders.
 MADE = ("out", "out/betable", "c_calls")
 
 

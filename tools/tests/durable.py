@@ -124,7 +124,7 @@ os.kill(os.getpid(), 9)"""
         expect((path / "t-wal").stat().st_size > 0, True)
         with durable().open(path / "t") as table:
             expect((table.get(1), table.number), ((1, "", 3), 4))
-            # What SQLite reads of its own log may not be on disk, so opening has written it to the file of the table.
+            # What SQLite reads from its log may not be on disk, so opening has written it to the file of the table.
             expect((path / "t-wal").stat().st_size, 0)
 
 
@@ -303,7 +303,7 @@ def a_request_is_run_once():
                     expect(table.once("read", "get 1\n" if number < 9 else ""), b"row 1,,1\n")
                     expect(table.once("refused", "get x\n"), b"refused 6 BadField 1\n")
                 expect((table.get(1), table.number), ((1, "", 1), 2))
-                # Replies are those of the first time, also if they would be others now.
+                # Replies are those of the first time, even if they would be different now.
                 table.checkpoint()
         with durable().open(path / "t") as table:
             table.forget("a", "unknown")
@@ -522,7 +522,7 @@ def another_engine_reads_what_agrees_with_it():
             module.ENGINE = engine + 1
             with module.open(path / "t", make=Other) as table:
                 expect((table.get(1), table.replies(ADD)), ((1, "", 1), b"batch of 1\n"))
-            # What an engine has agreed with is its own.
+            # An engine keeps what it has accepted.
             expect_within("the library is not the one that wrote it", str(fault_of(lambda: module.open(path / "t"))))
         finally:
             module.ENGINE = engine

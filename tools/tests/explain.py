@@ -354,7 +354,7 @@ def explain_warns_of_no_right_script():
 def explain_knows_the_language_of_the_program():
     """With a program that knows no `load`, by replies that are given, and one that fails."""
     script = f"{TABLE}\nload\nid,city,qty\n.\nget 1\n"
-    # Where it is asked for its language it answers each line of a load, and one line of each other block.
+    # If it is asked for its language, it replies to each line of a load, and to one line of each other block.
     older = """#!/bin/sh
 given=$(cat)
 case "$given" in
@@ -373,7 +373,7 @@ esac
         expect(text.splitlines()[-2], "5 commands: 2 answered, 3 refused")
         program.write_text(fails)
         expect(run_forked("tools/explain", "--program", program, path)[0], 3)
-        # One that answers nothing, and one that says what it is given.
+        # One that replies nothing, and one that repeats its input.
         for words, said in (("/bin/true", "the program ended before it answered line 1"), ("/bin/cat", "")):
             status, text, errors = run_forked("tools/explain", "--program", words, path)
             expect((status, said in errors, "Traceback" in errors), (3 if said else 0, True, False))
@@ -484,7 +484,7 @@ def records_are_those_of_the_model():
             at = text.index(raw, at)
             expect((text, number), (text, text.count(b"\n", 0, at) + 1))
             at += len(raw)
-        # A text is sound just where its fields, printed with as many quotes, are the text again.
+        # A text is sound exactly if printing its fields with as many quotes gives the same text.
         sound = all(requoted(raw, language) == raw for _, raw in found)
         expect((text, [str(quote) for quote in language.broken_quotes(text)] == []), (text, sound))
 

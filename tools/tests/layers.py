@@ -253,7 +253,7 @@ def replicas_reply_as_one_session_does():
                 expect(replica.replies(images), session.replies(images))
             expect(three.put([(7, "Bergen", 1)]), 1)
         session.put([(7, "Bergen", 1)])
-        # One that has not come to what was trimmed begins with the checkpoint too.
+        # A replica that has not read what was trimmed begins with the checkpoint too.
         one.checkpoint()
         one.trim()
         session.replies("rebuild primary\nrebuild c\n")
@@ -268,7 +268,7 @@ def requests_are_run_once():
         wanted = b"batch 1\nrow 1,,1\n"
         expect([replica.once("r", add) for replica in (one, two, one)], [wanted] * 3)
         expect(fault_of(lambda: two.once("r", "get 1\n")), package.durable.RequestReused)
-        # The script is in the log, and the caller gets no answer. It sends the request again, to whichever replica.
+        # The script is in the log, and the caller gets no reply. It sends the request again, to any replica.
         log.failures = [package.logs.Unreachable("gone")]
         fault = raised(package.replicas.Unanswered, lambda: two.replies(add))
         again = pickle.loads(pickle.dumps(fault)).request_id

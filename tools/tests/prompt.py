@@ -293,7 +293,7 @@ def records_that_are_refused_are_told_and_the_others_put():
     # Rows that are in are replaced by those of the file, and the others stay.
     done, there = imported("id,city\n1,a\n2,b\n", 1 << 20, "batch\nput 2,x\nput 3,y\nend\n")
     expect((done.rows, done.batches, done.refused, there), (2, 1, 0, [(1, "a"), (2, "b"), (3, "y")]))
-    # Of many faults the first ones are told; a quote that is never closed ends the import.
+    # Of many faults only the first ones are reported; a quote that is never closed ends the import.
     done, there = imported("id,city\n" + "x,y\n" * 1_000 + "1,a\n", 1 << 20)
     expect((done.rows, done.refused, len(done.refusals), there), (1, 1_000, 10, [(1, "a")]))
     done, there = imported('id,city\n1,a\n2,"b\n' + "3,c\n" * 3_000_000, 1 << 20)

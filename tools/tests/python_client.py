@@ -64,7 +64,7 @@ def content(session):
     return session.scan(), session.replies("scan by_city\ngo\nimage primary\nimage by_city\n")
 
 
-# Wrong uses: what is called with the client's module and a session, the type that is raised, and what the message says.
+# Wrong uses: a call with the client's module and a session, the exception's type, and its message.
 VALUES = [
     (lambda c, s: s.put([(4, None, True, b"")]), "RowTypeError", "row 1, column 'city': None is None, and a column of kind text takes a str: there is no null"),
     (lambda c, s: s.put([(None, "a", True, b"")]), "RowTypeError", "row 1, column 'id': None is None, and a column of kind int takes an int: there is no null"),
@@ -446,7 +446,7 @@ def texts_are_keys_as_they_are():
                     expect((text, session.get(text), session.scan("primary", (text,), (text + "\0",))), (text, (text,), [(text,)]))
                 expect(session.batch([client.delete(text) for text in texts]), len(texts))
                 expect(session.scan(), [])
-    # Many rows of which one alone needs quotes.
+    # Many rows; only one of them needs quotes.
     for special in ("\ufeffx", ".", "", "a,b"):
         for load in (False, True):
             with client.Session() as session:

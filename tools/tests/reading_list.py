@@ -7,7 +7,7 @@ from pathlib import Path
 from common import expect, expect_within, run, run_forked, TOP
 
 
-# Two crates, and a function `answer` with the clauses from which the list begins. No definition named `unused` counts.
+# Two crates, and a function `answer` with the clauses that the list begins with. No definition named `unused` counts.
 LISTED = {
     "crates.txt": "# Two crates.\nupper: lower\nlower: csv\n",
     "docs/PROOFS.md": "Before.\n\n<!-- reading list -->\nold\n<!-- end of the reading list -->\n\nBehind.\n",

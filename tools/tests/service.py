@@ -298,7 +298,7 @@ def page_needs_no_network():
         expect((status, headers["Content-Type"]), (200, "text/html; charset=utf-8"))
         text = body.decode()
         expect(re.findall(r"https?://|//[a-z]+\.|<link|src=|@import", text), [])
-        # The policy allows its own script and style alone.
+        # The policy allows only the page's script and style.
         for tag, name in (("script", "script-src"), ("style", "style-src")):
             part = re.search(f"<{tag}>(.*?)</{tag}>", text, re.DOTALL)[1]
             digest = base64.b64encode(hashlib.sha256(part.encode()).digest()).decode()
@@ -310,7 +310,7 @@ def page_needs_no_network():
 
 # ---- bad requests ----
 
-# What is asked, with headers and a body, and the status and a part of the reason.
+# The request, with headers and a body, and the status and a part of the reason.
 BAD_REQUESTS = [
     ("GET", "/run", {}, None, 405, "GET /run"),
     ("PUT", "/rows", {}, b"1,a,1\n", 405, "PUT /rows"),
@@ -559,7 +559,7 @@ def requests_run_once_over_a_kill_of_the_server():
                 found.await_metric("betable_queued_scripts", 1)
                 size = log.stat().st_size
                 os.kill(found.process.pid, signal.SIGSTOP)
-            # The engine has kept the script when its log has grown and it waits again, and nobody takes its answer.
+            # The engine has kept the script when its log has grown and it waits again; nobody reads its reply.
             until(lambda: log.stat().st_size > size and " S " in Path(f"/proc/{engine}/stat").read_text())
             found.process.kill()
             expect(isinstance(asked.exception(), (ConnectionError, OSError)), True)
@@ -640,7 +640,7 @@ def signals_end_it_while_the_table_opens():
             children = Path(f"/proc/{process.pid}/task/{process.pid}/children")
             until(lambda: process.poll() is not None or children.read_text())
             engine = int(children.read_text())
-            # A child that is stopped before it runs its own program would hold its parent up.
+            # A child that is stopped before it runs its program would block its parent.
             until(lambda: command_line(engine) != command_line(process.pid))
             os.kill(engine, signal.SIGSTOP)
             if not select.select([process.stdout], [], [], 0)[0]:

@@ -8,7 +8,7 @@ DECIMALS = "id,price\n1,0.25\n2,\n3,n/a\n"
 WIDE = ",".join(f"c{place}" for place in range(17)) + "\n"
 INT = "decimals are stored as ints of a fixed unit, as 1250 for 12.50"
 
-# Of tools/from_csv: the contents of its file, the words after its name, and the end of what it says, or a part of a refusal.
+# For tools/from_csv: the contents of its file, the words after its name, and the end of its output, or a part of a refusal.
 OF_FROM_CSV = [
     # The key.
     (CITIES, [], "--key COLUMNS names the column, or up to four columns, by which each record is found; the columns are: id, city_name, qty, open"),
@@ -110,7 +110,7 @@ OF_FROM_CSV = [
 SCRIPT = "table 4 3 2 1 id:int city:text\nbatch\nput 1,Oslo\nend\nscan primary\ngo\nget 2\nscan by_city\ngo\n"
 NO_IMAGE = "tools/draw: there is no image: the first line of one is 'image NAME height H'"
 
-# Of the other tools: the tool, its words, in which FILE is that of a script with these contents, the status, and the last line that it says.
+# For the other tools: the tool, its words, in which FILE is a script with these contents, the status, and its last line of output.
 OF_OTHERS = [
     ("to_csv", "nofile", "", 2, "to_csv: nofile cannot be read: No such file or directory"),
     ("to_csv", "tools", "", 2, "to_csv: tools cannot be read: Is a directory"),

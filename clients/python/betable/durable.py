@@ -40,11 +40,11 @@ APPLICATION_ID = 0x6274626C
 MOST_REQUESTS = 100_000
 PART_BYTES = 1 << 20  # of a checkpoint: SQLite copies a value whole
 LONG_TEXT = 1 << 25  # of a checkpoint that takes about a second to load
-LARGEST_IDLE_LOG = 1 << 24  # bytes that SQLite's own log keeps on disk when it is empty
+LARGEST_IDLE_LOG = 1 << 24  # bytes that SQLite's log keeps on disk when it is empty
 
 CHANGING = {b"table", b"load", b"batch", b"index", b"build", b"drop", b"drain", b"rebuild"}
 DEFINING = {b"table", b"index", b"build", b"drop"}
-# A line of a script that may begin a command which changes, how the reply to one begins that is not refused, and how that to one may begin which defines.
+# A line that may begin a changing command, the start of the reply to one that is not refused, and the start of a reply to a command that defines something.
 CHANGING_LINE = re.compile(rb"^ *(?:%b)" % b"|".join(sorted(CHANGING)), re.MULTILINE)
 DEFINED = re.compile(rb"^(?:%b)" % b"|".join(sorted(DEFINING)), re.MULTILINE)
 CHANGED = re.compile(rb"^(?:table|loaded|batch|index|build|dropped|drained|rebuilt) ", re.MULTILINE)
@@ -186,10 +186,10 @@ class Durable(Calls):
                 db.executescript(SCHEMA)
             if (found := _value(db, "PRAGMA quick_check(1)")) != "ok":
                 raise Corrupt(self.path, None, f"{found}, so restore a backup")
-            # What a crash has left in SQLite's own log, a second file, is written to the first one: if a sync had failed before, the log as it is read may
+            # What a crash has left in SQLite's log, a second file, is written to the first one: if a sync had failed before, the log as it is read may
             # not be that on disk.
             db.execute("PRAGMA wal_checkpoint(TRUNCATE)").fetchall()
-            # The name of that file has to be on disk before anything is answered, and SQLite would go on if the sync of the folder fails.
+            # The name of that file has to be on disk before any reply, and SQLite would go on if the sync of the folder fails.
             _sync_path(os.path.dirname(self.path))
             return db
         except BaseException as fault:

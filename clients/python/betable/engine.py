@@ -23,14 +23,14 @@ from .durable import FAULTS, Durable, RequestReused, open as open_table
 from .language import State
 from .replies import reply_end
 
-# The most works of a group, and the bytes of scripts that close one.
+# The largest number of requests in a group, and the bytes of scripts that close one.
 MOST_GROUP, GROUP_BYTES = 256, 16 << 20
 ALL_ROWS = sys.maxsize
 # How often in a row the process may end before the table is open, and the seconds between two starts, times the number of failures.
 MOST_FAILURES, FAILURE_SECONDS = 5, 0.2
 START = "import sys; from betable.engine import main; sys.exit(main())"
 PR_SET_PDEATHSIG = 1
-# The word with which a line of a row or of a group begins, and that of the line after the last one.
+# The first word of a line of a row or of a group, and that of the line after the last one.
 LAST_WORDS = {b"row ": b"rows", b"sum ": b"sums"}
 
 
@@ -251,7 +251,7 @@ class Engine:
         return await future
 
     async def _start(self) -> None:
-        # The process finds the package where this one has found it.
+        # The process finds the package in the same folder as this one.
         folders = [str(Path(__file__).resolve().parents[1]), os.environ.get("PYTHONPATH", "")]
         process = await asyncio.create_subprocess_exec(
             sys.executable, "-P", "-c", START, self.path, str(os.getpid()), stdin=asyncio.subprocess.PIPE, stdout=asyncio.subprocess.PIPE,

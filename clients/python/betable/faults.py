@@ -37,7 +37,7 @@ MEANINGS = {
     20: "The ranges are: fanout 4 to 64, buffer 1 to 4096 messages, or with a 'b' after the number 1 to 1048576 bytes, leaf 2 to 1024.",
 }
 
-# The refusals whose meaning says what to do, also where the reason is known.
+# The refusals whose meaning says what to do, even if the reason is known.
 WITH_ADVICE = (8, 11, 12, 20)
 
 
@@ -209,7 +209,7 @@ def doubtful(block: bytes, number: int, at: int, sure: re.Pattern[bytes], one: r
             return
         found = one.match(block, start)
         if found is None:
-            # A line break after what was looked into before.
+            # A line break after the part that was checked before.
             number, at = number + (block[start] == LINE_FEED), start + 1
             continue
         yield number, found[0]

@@ -10,8 +10,8 @@ from .trees import fields_of
 
 SIGNS = {"=": "row", "+": "put", "-": "del", "~": "upsert"}
 LEAST_LETTERS, MOST_LETTERS = 18, 30  # of a line of a box
-LETTER, LINE, GAP, BELOW = 6.65, 16, 14, 44  # the width of a letter, the height of a line, and the room beside and below a box
-MOST_TOUCHED = 500  # letters of a cut line, that are shown whole where a pointer rests on it
+LETTER, LINE, GAP, BELOW = 6.65, 16, 14, 44  # the width of a letter, the height of a line, and the space beside and below a box
+MOST_TOUCHED = 500  # letters of a cut line; the whole line is shown when the pointer is over it
 STYLE = """
 text { font: 11px "DejaVu Sans Mono", Menlo, Consolas, monospace; fill: #222; white-space: pre; }
 .title { font: bold 14px sans-serif; } .head { font-weight: bold; } .more { font-style: italic; fill: #666; }

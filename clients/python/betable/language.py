@@ -36,7 +36,7 @@ FORMS = {
 # The closing line of each block.
 CLOSING = {b"batch": b"end", b"scan": b"go", b"sums": b"go", b"load": b"."}
 
-# The words with which a line of a block begins; each bound is given at most once, in this order.
+# The first words of the lines of a block; each bound is given at most once, in this order.
 BLOCK_WORDS = {b"batch": (b"put", b"del", b"ups"), b"scan": (b"from", b"to"), b"sums": (b"from", b"to")}
 
 # The words of an upsert's operations, those of them that only an int takes, and the operators of `where`.
@@ -44,7 +44,7 @@ OPERATIONS = (b"set", b"add", b"max", b"min")
 INT_OPERATIONS = OPERATIONS[1:]
 OPERATORS = (b"=", b"<", b">=")
 
-# How many words a line of each command has: at least, and at most.
+# The smallest and the largest number of words in a line of each command.
 WORDS = {
     b"table": (6, 21), b"batch": (1, 1), b"get": (2, 99), b"scan": (2, 2), b"image": (2, 2), b"load": (1, 1),
     b"index": (4, 99), b"build": (3, 3), b"drop": (2, 2), b"sums": (4, 4), b"drain": (2, 2), b"rebuild": (2, 2),
@@ -131,7 +131,7 @@ def fault_of_int(field: bytes) -> str | None:
     return f"'{visible(field, 40)}' is {limit}"
 
 
-# Words with which other programs write that there is no value, and those of them that may be texts as well.
+# Words that other programs write for no value, and those of them that may also be texts.
 NULL_WORDS = frozenset([
     b"NULL", b"null", b"Null", b"(null)", b"\\N", b"N/A", b"n/a", b"#N/A", b"#NULL!", b"<NA>", b"NaN", b"nan", b"NAN", b"-nan",
     b"NA", b"na", b"None", b"none", b"nil", b"-", b"--", b"?",
@@ -259,8 +259,8 @@ QUOTED = rb'"[^"]*(?:""[^"]*)*'
 QUOTED_START = re.compile(QUOTED)
 FIELD = re.compile(rb'(?:%b(?:"[^,\r\n]*)?|[^,\r\n]*)' % QUOTED)
 RECORD = re.compile(rb"(?=[^\r\n])%b(?:,%b)*" % (FIELD.pattern, FIELD.pattern))
-# What has no quote that looks broken: of a CSV text, and of the lines of a batch. What is repeated as a whole is atomic by itself too, here and elsewhere,
-# since Python 3.11.2 goes wrong where it is not.
+# A CSV text, and the lines of a batch, in which no quote looks broken. A repeated part is also atomic itself, here and elsewhere,
+# because Python 3.11.2 has an error if it is not.
 SOUND_QUOTE = rb'"[^"]*+(?>""[^"]*+)*+"(?![^,\r\n])'
 SOUND_TEXT = re.compile(rb'(?>[^"]++|(?<![^,\r\n])%b|(?<=[^,\r\n])")*+' % SOUND_QUOTE)
 SOUND_FIELD = rb'(?:%b|(?!")[^,\n]*+)' % SOUND_QUOTE.replace(rb'[^"]', rb'[^"\n]')
@@ -512,7 +512,7 @@ class Table:
         return [(name, kinds[name]) for name in names]
 
 
-# The commands that change what there is, and how their replies begin.
+# The commands that create or drop something, and the start of their replies.
 ANSWERS = {b"table": b"table ", b"index": b"index ", b"build": b"build ", b"drop": b"dropped "}
 
 
@@ -556,7 +556,7 @@ def index_of(line: Line) -> Index:
 # ---- replies ----
 
 
-# How the last line of a reply begins that has more lines than one.
+# The start of the last line of a reply with several lines.
 LAST_LINES = {b"scan": b"rows ", b"sums": b"sums ", b"image": b"end\n"}
 
 

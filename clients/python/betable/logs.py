@@ -17,12 +17,12 @@ from urllib.parse import urlsplit
 from .language import NAME
 
 T = TypeVar("T")
-# How long a log knows a request id at least.
+# The shortest time that a log keeps a request id.
 REQUEST_SECONDS = 86_400
-# How many scripts are read from a log at a time.
+# The number of scripts that are read from a log at a time.
 MOST_ENTRIES = 64
 PART_BYTES = 1 << 24
-# After how long a server that does not speak is taken for one that cannot be reached, unless the URL says otherwise, and how long a wait for a script may be.
+# The time after which a silent server counts as unreachable, unless the URL sets another, and the longest wait for a script.
 SECONDS_TO_CONNECT, SECONDS_TO_REPLY, LONGEST_WAIT = 10, 30, 10
 
 
@@ -156,7 +156,7 @@ class RedisLog:
         parts = f"{self._prefix}checkpoint:{uuid.uuid4().hex}"
         for part in parts_of(checkpoint):
             self._reached(lambda: self._client.rpush(parts, part))
-            # What is not kept after all goes by itself.
+            # What is not kept in the end expires.
             self._reached(lambda: self._client.expire(parts, 3_600))
         self._reached(lambda: self._keep([self._last, parts], [position, len(checkpoint)]))
 

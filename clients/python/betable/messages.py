@@ -63,7 +63,7 @@ def delete(*key: Any) -> Message:
     return Message("del", key)
 
 
-# Shapes that upserts have had, so that those which are equal are one.
+# Shapes of earlier upserts, so that equal shapes are one object.
 _shapes: dict[Shape, Shape] = {}
 MOST_SHAPES = 1_000
 
@@ -166,7 +166,7 @@ def _message_line(message: Message, there: Layout, row: int, taken: int) -> str:
     return form.text % tuple([line_field(value, column, row, taken) for value, column in zip(message.values, columns)])
 
 
-# By kind, the type of the values that are their own fields, of texts those that PLAIN_TEXT takes.
+# By kind, the type of the values whose text is their field without quotes; of texts, those that PLAIN_TEXT matches.
 PLAIN_TYPES: dict[str, type] = {"int": int, "text": str}
 
 

@@ -32,9 +32,9 @@ from .session import Session
 from .sharded import NotSharded
 
 T = TypeVar("T")
-# Of how many of the last requests a replica knows the replies, while these are not longer.
+# The number of last requests whose replies a replica keeps, and the largest size of these replies.
 MOST_OUTCOMES, MOST_REPLY_LETTERS = 1_000, 1 << 24
-# How many of its last checksums a replica knows, to compare them with those of other replicas.
+# The number of its last checksums that a replica keeps, to compare them with those of other replicas.
 MOST_CHECKSUMS = 10_000
 FIRST_PAUSE, LONGEST_PAUSE = 0.02, 1.0
 

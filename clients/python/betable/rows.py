@@ -69,7 +69,7 @@ TYPES = {"int": "an int", "text": "a str", "flag": "a bool", "bytes": "bytes"}
 # of a load, if it were alone in its line.
 NEEDS_QUOTES = re.compile('[",\r\n\ufeff]|^[.]?$')
 SPECIAL = re.compile('[",\r\n\ufeff]')
-# A text that is its own field.
+# A text that needs no quotes as a field.
 PLAIN_TEXT = re.compile('(?![.]$)[^",\r\n\ufeff\ud800-\udfff]+')
 # Of fewer rows each value is looked at by itself, which is quicker.
 FEW_ROWS = 4
@@ -102,7 +102,7 @@ def _bytes_field(value: Any) -> str:
     return value.hex() or '""'
 
 
-# By kind: the field of a value, in quotes where it needs them. A TypeError says that the kind does not take the value.
+# By kind: the field of a value, in quotes if it needs them. A TypeError means that the kind does not take the value.
 FIELDS: dict[str, Callable[[Any], str]] = {"int": _int_field, "text": _text_field, "flag": _flag_field, "bytes": _bytes_field}
 # By kind: the value of a field, as it is printed.
 VALUES: dict[str, Callable[[str], Value]] = {"int": int, "text": str, "flag": lambda text: text == "true", "bytes": bytes.fromhex}

@@ -38,8 +38,8 @@ from .replies import BLOCK_BYTES
 Handler = Callable[[web.Request], Awaitable[web.StreamResponse]]
 MOST_IMAGE_BYTES = 1 << 20  # of a tree that is drawn
 MOST_EVENTS, MOST_WATCHERS = 256, 64  # that wait for a reader; readers
-EVENT_SECONDS = 15  # after which a reader of events gets a comment, so that proxies keep the connection
-ENDING_SECONDS = 1  # within which a server that is ending gives up a body whose next bytes do not come
+EVENT_SECONDS = 15  # seconds after which a reader of events gets a comment, so that proxies keep the connection
+ENDING_SECONDS = 1  # seconds after which a server that is ending gives up a body whose next bytes do not arrive
 LEAST_TOKEN_BYTES = 16
 BODY_TYPES = ("text/", "application/octet-stream", "application/x-www-form-urlencoded")
 SECONDS = (0.0003, 0.001, 0.003, 0.01, 0.03, 0.1, 0.3, 1, 3, 10, 30)
@@ -218,7 +218,7 @@ class Service:
             for part in parts:
                 async with asyncio.timeout(self.limits.seconds):
                     await response.write(part)
-                await asyncio.sleep(0)  # others get their turn between parts
+                await asyncio.sleep(0)  # other tasks run between parts
             async with asyncio.timeout(self.limits.seconds):
                 await response.write_eof()
         except (TimeoutError, ConnectionError):
@@ -243,7 +243,7 @@ class Service:
     def tell(self, event: str) -> None:
         for watcher in list(self.watchers):
             if watcher.full():
-                # It is too slow. The end of its stream tells it that it has missed something.
+                # It is too slow. The end of its stream shows that it has missed something.
                 self.watchers.discard(watcher)
                 watcher.get_nowait()
                 watcher.put_nowait(None)

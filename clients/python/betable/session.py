@@ -20,7 +20,7 @@ DONE, OUT_OF_MEMORY, REPLY_CUT, NOT_OPEN, ALREADY_OPEN = range(5)
 # Replies of fewer bytes are copied by one call.
 SHORT_REPLIES = 4_096
 LIBRARY = "libbt_c.so"
-# Where the Debian package has it.
+# The path in the Debian package.
 SYSTEM_FOLDER = Path("/usr/lib/betable")
 
 

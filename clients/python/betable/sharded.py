@@ -159,7 +159,7 @@ class Sharded(Calls):
             for at, wait in waits:
                 found.append(wait())
         except BaseException as fault:
-            # Replies of other shards may be on their way, and what was applied is not known.
+            # Replies of other shards may still arrive, and it is not known what was applied.
             self._lost = ShardLost(at, f"{type(fault).__name__}: {fault}")
             if isinstance(fault, OutOfMemory):
                 raise OutOfMemory(is_lost=True) from fault
@@ -264,7 +264,7 @@ class Sharded(Calls):
         for line in lines:
             end = line.find(b",")
             try:
-                # What Python reads as an int and is none, as ` 1`, is refused by any shard.
+                # A field that Python reads as an int and that is none, such as ` 1`, is refused by any shard.
                 found.append(bisect_right(bounds, int(line[4:end] if end >= 0 else line[4:])))
             except ValueError:
                 found.append(self._shard_of_line(table, line))

@@ -95,7 +95,7 @@ class ProcessShard:
     """
 
     def __init__(self, command: Sequence[str] | None = None) -> None:
-        # The process finds the package where this one has found it.
+        # The process finds the package in the same folder as this one.
         folders = [str(Path(__file__).resolve().parents[1]), os.environ.get("PYTHONPATH", "")]
         self.process = subprocess.Popen(
             command or [sys.executable, "-P", "-m", "betable.shard"], stdin=subprocess.PIPE, stdout=subprocess.PIPE, pipesize=PIPE_BYTES,

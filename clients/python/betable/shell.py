@@ -126,7 +126,7 @@ class Shell:
             self.carry_out(line.text.decode(errors="replace"))
         elif line.word in CLOSING:
             self.block = [raw]
-            # What is wrong with a command is told before its block is typed.
+            # A mistake in a command is reported before its block is typed.
             if self.lines.is_terminal and head_faults(line):
                 self.block.append(CLOSING[line.word])
                 self.execute_block()

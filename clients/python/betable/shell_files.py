@@ -19,7 +19,7 @@ from .replies import line_blocks
 
 READ_BYTES = 4 << 20
 MOST_RECORD_BYTES = 1 << 20  # no record that a table takes has as many
-MOST_REFUSALS = 10  # of which the reason is kept
+MOST_REFUSALS = 10  # whose reasons are kept
 GUESSED_RECORDS = 1_000
 BAR = 30  # letters
 LOAD_ENDS = (b"load\n", b"\n.\n")

@@ -56,7 +56,7 @@ class Terminal:
     def __init__(self, words: Callable[[str], Iterable[str]]) -> None:
         import readline
 
-        # Bytes that are no letters of the terminal's encoding go to the table as they are, which says why it does not take them.
+        # Bytes that are no letters of the terminal's encoding go to the table unchanged; it reports why it does not take them.
         if isinstance(sys.stdin, TextIOWrapper):
             sys.stdin.reconfigure(errors="surrogateescape")
         self._readline, self._words = readline, words
