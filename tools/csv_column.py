@@ -192,13 +192,13 @@ class Column:
                 self.find_odd_ones(before, values, first)
 
     def check(self, values: list[str], kind: str, first: int) -> None:
-        """Finds the values that are none of the kind that is asked for."""
+        """Finds the values that are not of the requested kind."""
         for record, value in enumerate(values, first):
             if (value or self.filling is None) and (fault := fault_of(kind, value)):
                 self.fault(record, f"is no {kind}: {fault}{self.hint_for(value)}")
 
     def hint_for(self, value: str) -> str:
-        """The option that takes a value which is none of the kind that is asked for."""
+        """The option for a value that is not of the requested kind."""
         if not value:
             return f" (--empty {self.name}=VALUE fills such)"
         if value in NULL_WORDS:

@@ -130,7 +130,7 @@ class Source:
         return csv.reader(lines, delimiter=self.separator, skipinitialspace=self.is_trimmed, strict=is_strict)
 
     def undecoded(self) -> str:
-        """The sentence of the first bytes that are no letter, or of a file that is none of text."""
+        """The sentence about the first bytes that are no letter, or about a file that is not text."""
         if is_binary(self.start(SAMPLE)) and not self.has_mark:
             return f"{self.name} is a binary file and no CSV file: save the table as CSV by the program that wrote it"
         with self.opened() as stream:
@@ -157,7 +157,7 @@ class Source:
 
 
 def is_binary(start: bytes) -> bool:
-    """Whether bytes are none of a text: some are zero, or many are control characters that no text has."""
+    """Whether bytes are not a text: some are zero, or many are control characters that no text has."""
     controls = sum(start.count(byte) for byte in range(32) if byte not in b"\t\n\v\f\r\x1b")
     return b"\0" in start or controls * 50 > len(start)
 

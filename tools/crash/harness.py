@@ -179,7 +179,7 @@ def check_backup(folder: str, steps: list[Step], want: list[bytes]) -> None:
 
 
 def kills(folder: str, steps: list[Step], *, every: int = 1, parts: tuple[int, ...] = (HALF, ALL_BUT_A_BYTE, WHOLE), is_control: bool = False) -> Count:
-    """The process is killed at each operation, of which a part is carried out."""
+    """The process is killed at each operation, after a part of it is carried out."""
     want, count = list(expected(steps)), Count("control of kills" if is_control else "killed")
     work = (lambda: go_before_answers(folder, steps)) if is_control else (lambda: go(folder, steps))
     if status_of_fork(work, folder) != 0:
@@ -460,7 +460,7 @@ def fail(reason: str) -> None:
 
 
 class Starved(Session):
-    """A session of which one request for memory is refused."""
+    """A session with one allocation that is refused."""
 
     refused = -1
 

@@ -19,7 +19,7 @@ PROBE = "".join(f"image {name}\nscan {name}\ngo\n" for name in ("primary", "q", 
 
 
 class Plain(Session):
-    """A session with the calls of a durable table, of which nothing is kept."""
+    """A session with the calls of a durable table that keeps nothing."""
 
     path = ""
 

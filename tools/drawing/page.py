@@ -1,6 +1,6 @@
 """A page that goes through a run step by step: each command with its reply, and the trees as they were printed last.
 
-It is one file, HTML that is well-formed XML too. Without scripts of its own in the browser it shows all steps and all trees.
+It is one file, HTML that is well-formed XML too. If the browser runs no scripts, it shows all steps and all trees.
 """
 
 import re
@@ -83,7 +83,7 @@ class Trees:
         return list(self.shown.values())
 
     def drawing(self, image):
-        """The drawing of an image, in as many columns as a screen has room for if no number was given."""
+        """The drawing of an image, in as many columns as fit on a screen if no number was given."""
         drawing = Drawing(image, self.columns or MOST_COLUMNS, self.lines)
         letters = self.letters[image.name] = max(drawing.letters(), self.letters.get(image.name, 0))
         columns = max(LEAST_COLUMNS, WIDTH // (box_width(letters) + GAP))
@@ -107,7 +107,7 @@ def first_lines(lines, count, most):
 
 
 def text_of_line(line):
-    """A line, of which a text with line breaks may make several."""
+    """A line; a text with line breaks may make several."""
     return "\n".join(printable(part.replace("\t", "→"))[:MOST_LETTERS] for part in line.split("\n"))
 
 

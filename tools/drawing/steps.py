@@ -18,7 +18,7 @@ class Failed(Exception):
 
 
 class Step:
-    """A command with its reply, of which the first lines are kept, and the images that it printed or that were added after it."""
+    """A command with the first lines of its reply, and the images that it printed or that were added after it."""
 
     def __init__(self, command, answer):
         self.command = command
@@ -77,7 +77,7 @@ class Run:
             raise Failed(f"the program did not run to its end: its status is {running.returncode}")
 
     def steps_of(self, lines):
-        """The steps, of which these are the replies."""
+        """The steps with these replies."""
         state, number, before = State(), 0, ""
         for command, names in zip(self.commands, self.images_behind):
             answer = reply(command.head.word, lines)
@@ -121,7 +121,7 @@ def trees_that_change(command, names):
 
 
 def image_of_answer(answer, number, before, table):
-    """The image that an answer prints, with the columns of its tree."""
+    """The image in a reply, with the columns of its tree."""
     head = HEAD.fullmatch(text_of(answer[0]))
     if head is None or table is None or not table.has_tree(head[1].encode()):
         raise Failed(f"'{text_of(answer[0])[:80]}' is replied to an image, so the program has another language")

@@ -277,7 +277,7 @@ class Tree:
         self.crown(self.leaves(b"", rows))
 
     def sink(self, messages):
-        """Takes messages, of which those of one key are in order, the older first."""
+        """Takes messages; those of one key are in order, the older first."""
         self.crown(self.absorbed(b"", self.root, sorted(messages, key=by_key)))
 
     def drain(self):

@@ -78,7 +78,7 @@ def is_installed(tool, what):
 
 
 def compiled_by_rust(source):
-    """How clients/rust/build ended on a program, and the path of that, in a folder of its own, since the crate is put beside it."""
+    """How clients/rust/build ended on a program, and the path of the program, in a new folder, since the crate is put beside it."""
     library()
     path = Path(programs().name) / f"rust_{source.stem}" / source.stem
     path.parent.mkdir(exist_ok=True)
@@ -161,7 +161,7 @@ def examples_run_files_on_one_table():
 
 
 def sessions_of_two_threads_do_not_meet():
-    """Each with a session of its own, on scripts of its own, at the same time: Python lets go of its lock during a call."""
+    """Each with its session and its scripts, at the same time: Python releases its lock during a call."""
     client, faults = betable(), []
 
     def work(scripts):

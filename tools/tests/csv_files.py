@@ -677,7 +677,7 @@ def help_of_from_csv_can_be_followed():
 
 
 def csv_tools_end_quietly_where_the_reader_goes_away():
-    """More than a pipe holds, of which the first line is read."""
+    """More than a pipe holds; only the first line is read."""
     given = "a,b\n" + "".join(f"{n},{'x' * 200}\n" for n in range(3000))
     with tempfile.TemporaryDirectory() as folder:
         path, script = Path(folder) / "a.csv", Path(folder) / "script"

@@ -293,7 +293,7 @@ def walks_follow_calls_that_are_made():
 
 
 def crates_below():
-    """Of each crate of the program those right below it: on which it depends, and none of the others of these does."""
+    """For each crate of the program the crates directly below it: it depends on them, and none of the others that it depends on does."""
     lines = [line for line in (TOP / "crates.txt").read_text().splitlines() if not line.startswith("#")]
     # What a crate is built as may follow its name.
     below = {crate.split()[0]: {name for name in names.split() if name.startswith("bt_")} for crate, names in (line.split(":") for line in lines)}

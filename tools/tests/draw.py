@@ -181,7 +181,7 @@ def draw_leaves_the_keys_of_an_index_as_they_stand_without_a_script():
 
 
 def draw_shows_where_lines_begin_to_differ():
-    """Lines of a box that are cut do not look alike, and are whole on a touch; an emoji has the room of two letters."""
+    """Lines of a box that are cut do not look alike, and are shown whole on a touch; an emoji is two letters wide."""
     start = "https://example.org/a/long/way/"
     names = [start + name for name in ("roses", "roses-red", "tulips & <lilies>", "🌷" * 30)]
     script = "table 4 4 4 1 address:text note:text\nbatch\n" + "".join(f"put {name},x\n" for name in names) + "end\nimage primary\n"
@@ -195,7 +195,7 @@ def draw_shows_where_lines_begin_to_differ():
 
 
 def draw_puts_no_edge_over_a_pivot():
-    """Each label of a pivot has a white ground, and what is drawn behind that does not cross it."""
+    """Each label of a pivot has a white background, and nothing that is drawn after it crosses it."""
     picture, grounds = drawn(tree_of_height(7)[0], "--columns", "40"), []
     pivots = len(texts(picture, "pivot"))
     for element in picture.iter():
@@ -236,7 +236,7 @@ def page_of_script(script, *words):
 
 
 def of_class(element, *kinds):
-    """The elements of all of these classes, whatever other classes they have."""
+    """The elements of all of these classes; they may have other classes too."""
     return [found for found in element.iter() if set(kinds) <= set((found.get("class") or "").split())]
 
 

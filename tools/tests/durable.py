@@ -81,7 +81,7 @@ def changed(path, *statements):
 
 
 def run_python(text, *words):
-    """The status and the standard output of a program in a process of its own."""
+    """The status and the standard output of a program in a separate process."""
     environment = {**os.environ, "PYTHONPATH": str(TOP / "clients/python")}
     ended = subprocess.run([sys.executable, "-B", "-c", text, *map(str, words)], env=environment, capture_output=True, text=True, timeout=SECONDS)
     return ended.returncode, ended.stdout + ended.stderr

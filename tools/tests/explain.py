@@ -293,7 +293,7 @@ def explain_warns_of_broken_quotes():
 
 
 def warned(script):
-    """The warnings of a script of which each command is answered."""
+    """The warnings of a script without refused commands."""
     status, lines = explained(script)
     expect(status, 0)
     return [line.removeprefix("  warning: ") for line in lines if line.startswith("  warning: ")]
@@ -318,7 +318,7 @@ def explain_warns_of_single_quotes():
 
 
 def explain_warns_of_empty_ranges():
-    """By the order of keys, of an int, a flag, bytes, texts, and parts of a key; and of no range that has room for a key."""
+    """By the order of keys, of an int, a flag, bytes, texts, and parts of a key; and not of a range that may have a key."""
     table = "table 4 3 2 2 n:int t:text h:bytes on:flag\nindex by_on on on,h\nbuild by_on 1\nindex by_t on t\nbuild by_t 1\n"
     equal, see = "is equal to {} of line {}, which is not in the range, so the range is empty: {}", "see docs/HOW_TO.md, The rows of one value"
     for head, start, stop, said in (

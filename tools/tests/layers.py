@@ -100,7 +100,7 @@ def odd_texts_are_in_their_shards():
 
 
 def what_shards_cannot_reply_is_refused_by_name():
-    """And what was carried out before it is told."""
+    """And what was carried out before it is reported."""
     not_sharded = betable().sharded.NotSharded
     with sharded(10) as table:
         expect(table.replies("image primary\nload x\n.\n"), b"refused 3 NoTable\nrefused 1 Syntax\n")
@@ -360,7 +360,7 @@ def a_replica_that_fails_begins_again():
 
 
 def replicas_may_have_shards():
-    """What shards cannot reply is told to the caller, at the same place on each replica, and changes none."""
+    """What shards cannot reply is reported to the caller, at the same place on each replica, and changes none."""
     package, log = betable(), Log()
     made = lambda: sharded(10, 20)  # noqa: E731
     with package.Session() as session, package.replicas.Replicas(log, make=made) as one, package.replicas.Replicas(log, make=made) as two:
@@ -394,7 +394,7 @@ def replicas_over_postgresql_are_killed_and_come_back():
 
 
 def programs_of_the_page_print_what_they_say():
-    """Those of docs/CLUSTER.md, by the lines after them. The one of replicas has a server of its own."""
+    """Those of docs/CLUSTER.md, by the lines after them. The one of replicas has a separate server."""
     library()
     programs = re.findall(r"```python\n(.*?)```\n\n```text\n(.*?)```", (TOP / "docs/CLUSTER.md").read_text(), re.DOTALL)
     expect(len(programs), 3)

@@ -71,7 +71,7 @@ def the_manual_page_has_no_faults() -> None:
 
 
 def completion_in_bash() -> None:
-    """As bash does it: with the words typed so far, of which the last one is completed."""
+    """As bash does it: with the words typed so far; the last one is completed."""
     file = shlex.quote(str(COMPLETIONS / "betable.bash"))
     cases: list[tuple[str, list[str]]] = [
         ("", [*OPTIONS, *TOOLS]), ("--", OPTIONS), ("--w", ["--workers"]), ("--cut 2 --g", ["--grain"]), ("from", ["from_csv"]), ("--cut 2 from", []),

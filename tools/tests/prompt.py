@@ -35,7 +35,7 @@ def prompt(lines, *words, folder=TOP):
 
 
 def printed(lines, *words):
-    """What the prompt prints on lines of which none is refused."""
+    """What the prompt prints on lines if none is refused."""
     status, text, errors = prompt(lines, *words)
     expect((status, errors), (0, ""))
     return text
@@ -337,7 +337,7 @@ def exported_rows_are_those_that_are_imported():
 
 
 def the_example_of_the_document_is_what_is_shown():
-    """The lines that are typed in docs/HOW_TO.md, with what follows each but for what only a terminal shows, and its table of commands."""
+    """The lines that are typed in docs/HOW_TO.md, with what follows each except what only a terminal shows, and its table of commands."""
     text = (TOP / "docs/HOW_TO.md").read_text().split("\n## A prompt\n")[1].split("\n## ")[0]
     lines = text.split("```text\n")[1].split("```")[0].splitlines()
     given = [line.partition("> ")[2] for line in lines if re.match(r"betable> | +\(\w+\)> ", line)]

@@ -90,7 +90,7 @@ DOCUMENT = "Before.\n\n<!-- promises -->\nold\n<!-- end of the promises -->\n\nA
 
 
 def repository(folder: str) -> Path:
-    """Three crates, one of which is no library, and the document."""
+    """Three crates, one of them not a library, and the document."""
     top = Path(folder)
     (top / "crates.txt").write_text("# Three crates.\nlists:\nlaws: lists\nprogram: lists\n")
     for crate, file, code in (("lists", "lib.rt", LIBRARY), ("laws", "lib.rt", LAWS), ("program", "main.rt", PROGRAM)):
@@ -151,7 +151,7 @@ def promises_of_the_document_are_those_of_the_sources() -> None:
 
 
 def the_document_names_each_file_of_definitions_and_each_public_function() -> None:
-    """In the section of its crate, whatever tools/promises finds."""
+    """In the section of its crate, everything that tools/promises finds."""
     sections = {title: text for title, _, text in (part.partition("\n") for part in promises_of_the_document().split("\n### ")[1:])}
     files = {(path.parents[1].name, path.stem) for path in TOP.glob("crates/bt_*/specs/*.antt") if path.stem not in ("Lib", "inside")}
     expect(sorted((crate, name) for crate, name in files if f"`{name}`" not in sections[crate].split("\n- `src/")[0]), [])

@@ -358,7 +358,7 @@ COLUMNS = ("id", "city", "ok", "raw")
 
 
 def row_of(dice):
-    """A row, of values of which most are right."""
+    """A row; most of its values are right."""
     right = (dice.randrange(20), dice.choice(["a", "b,c", "", '"', "."]), dice.random() < 0.5, dice.choice([b"", b"a", b"\0\n"]))
     row = [value if dice.random() < 0.8 else dice.choice(POOL) for value in right]
     if dice.random() < 0.1:
@@ -417,7 +417,7 @@ def values_of_all_types_are_stored_exactly_or_refused():
 
 
 def anything_may_be_asked(client, session, dice):
-    """Calls with values of any type in any place, none of which can change a row."""
+    """Calls with values of any type in any place; none of them can change a row."""
     one, two, three = (dice.choice(POOL) for _ in range(3))
     calls = [
         lambda: session.scan(one), lambda: session.scan("primary", one, two), lambda: session.scan("by_city", (one, two), (three,)), lambda: session.sums(one, two, three),
@@ -527,7 +527,7 @@ def the_reason_is_that_of_the_least_refusal():
 
 
 class NoMemory:
-    """The library, where a run answers that memory ran out after the first replies of the script were made."""
+    """The library; a run returns that memory ran out after the first replies of the script were made."""
 
     def __init__(self, library, script):
         self.library, self.script = library, script

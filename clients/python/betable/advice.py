@@ -1,4 +1,4 @@
-"""What to write instead: of words that are commands elsewhere, and of commands that are answered or refused in another way than their writer meant."""
+"""What to write instead: of words that are commands elsewhere, and of commands whose reply or refusal is not what their writer meant."""
 
 import re
 from typing import Any, Iterator
@@ -86,7 +86,7 @@ def bounds_among(words: list[bytes]) -> list[str]:
 
 
 def advice_for(command: Command, number: int, table: Table | None) -> str | None:
-    """What to write for a command that is refused with this number, if it asks for what another command answers."""
+    """What to write instead of a command that is refused with this number, if another command does what it asks for."""
     if table is None:
         return None
     if command.head.word == b"get" and number == 6:
@@ -95,7 +95,7 @@ def advice_for(command: Command, number: int, table: Table | None) -> str | None
 
 
 def advice_for_get(head: Line, table: Table) -> str | None:
-    """That a get is by the key, where its record looks like a text of another column, or names its columns."""
+    """That a get is by the key, if its record looks like a text of another column, or names its columns."""
     values = fields(record_of_line(head.rest or b"")[0])
     key, others = [name.decode() for name, _ in table.key], [name.decode() for name, kind in table.columns[table.key_length :] if kind == b"text"]
     is_text = re.match(rb"(?i)[a-z\x80-\xff]", values[0]) and values[0] not in NULL_WORDS
@@ -110,7 +110,7 @@ def advice_for_get(head: Line, table: Table) -> str | None:
 
 
 def advice_for_sums(head: Line, table: Table) -> str | None:
-    """The sums that a column for a group stands for, where a number of columns belongs."""
+    """The sums that were meant by a column for a group in place of a number of columns."""
     _, tree, group, *column = [*head.text.split(), b"COLUMN"][:4]
     if group not in table.names or not table.has_tree(tree):
         return None
@@ -169,7 +169,7 @@ def empty_ranges(command: Command, table: Table | None) -> Iterator[str]:
 
 
 def warnings(command: Command, table: Table | None, is_answered: bool) -> Iterator[str]:
-    """What looks other than meant in a command, also if it is answered."""
+    """Warnings of what may not be meant in a command, even if it is not refused."""
     for quote in command.broken_quotes():
         yield str(quote)
     if b"'" in command.block or b"'" in command.head.text:

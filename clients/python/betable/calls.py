@@ -1,4 +1,4 @@
-"""The calls of a table on values of Python. Whatever runs scripts has them: a class derives from `Calls`, and gives `replies` and `state`."""
+"""The calls of a table on values of Python. Everything that runs scripts has them: a class derives from `Calls`, and defines `replies` and `state`."""
 
 from __future__ import annotations
 
@@ -34,11 +34,11 @@ class Calls(ABC):
     @property
     @abstractmethod
     def state(self) -> State:
-        """The table and its indexes, as the scripts so far have made them. A fault says so where the table cannot be used, as a closed one."""
+        """The table and its indexes after the scripts so far. Raises a fault if the table cannot be used, for example after it is closed."""
 
     def run(self, script: str | bytes) -> list[Reply]:
-        """The replies to the commands of a script, each a list of lines, of which `rows` has the rows as tuples. The first command that is refused raises
-        `Refused`, when all commands were carried out."""
+        """The replies to the commands of a script. Each is a list of lines; its `rows` are the rows as tuples. After all commands are carried out, `Refused` is
+        raised for the first command that was refused."""
         script = as_script(script)
         state = copied(self.state)
         text = self.replies(script)
@@ -53,14 +53,14 @@ class Calls(ABC):
         return found
 
     def batch(self, messages: Iterable[Message], most: int = MOST_MESSAGES) -> int:
-        """Applies messages of `put`, `delete` and `upsert` in order, and returns how many. More than `most` of them are more than one batch, each of which is
+        """Applies messages of `put`, `delete` and `upsert` in order, and returns their number. More than `most` of them are several batches; each batch is
         applied whole or not at all."""
         given = as_iterator(messages, "messages", "[betable.put(..), betable.delete(..)]")
         return self._in_batches(given, most, message_lines)
 
     def put(self, rows: Iterable[Any], most: int = MOST_MESSAGES) -> int:
-        """Puts rows, each a tuple or a list with a value for each column, or a dict by their names, and returns how many. More than `most` of them are more
-        than one batch, each of which is applied whole or not at all."""
+        """Puts rows, each a tuple or a list with a value for each column, or a dict by their names, and returns their number. More than `most` of them are
+        several batches; each batch is applied whole or not at all."""
         given = as_iterator(rows, "rows", "[(1, ..), (2, ..)]")
         return self._in_batches(given, most, lambda some, table, taken: records(some, layout(table).columns, "put ", taken + 1, taken))
 
@@ -97,7 +97,7 @@ class Calls(ABC):
         return rows[0] if rows else None
 
     def scan(self, tree: str = "primary", start: tuple[Any, ...] | None = None, stop: tuple[Any, ...] | None = None) -> list[Row]:
-        """The rows of a tree by rising key, from those that begin with the values `start` to before those that begin with the values `stop`."""
+        """The rows of a tree in ascending order of their keys, from those that begin with the values `start` to before those that begin with `stop`."""
         name = _name(tree, "a tree")
         there = layout(self.state.table, name)
         return self._rows(b"scan", f"scan {name}\n{_bounds(there, start, stop)}go\n", there.kinds)
@@ -118,7 +118,7 @@ class Calls(ABC):
     # What the calls share.
 
     def _table(self, command: bytes = b"batch\nend\n") -> Table:
-        """The table. Where there is none the command is refused, which says why."""
+        """The table. If there is none, the command is refused, and the refusal says why."""
         table: Table | None = self.state.table
         if table is None:
             self._refuse_if_refused(command, self.replies(command), 0, None)
@@ -229,7 +229,7 @@ def note(state: State, command: Command, reply: bytes) -> None:
 
 def note_unanswered(state: State, command: Command) -> None:
     """Takes the first command without a reply, after a run that ran out of memory, into a state. It may have been carried out, so a table or an index that it
-    would make counts as made: where it was not, each command on it is refused by the library."""
+    would make counts as made: if it was not, the library refuses each command on it."""
     words = command.head.text.split()
     if head_faults(command.head):
         return

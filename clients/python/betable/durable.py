@@ -4,7 +4,7 @@
         table.run("table 16 1024 256 1 id:int city:text qty:int\\n")
         table.put([(1, "Oslo", 30)])
 
-A table is what its scripts make of it: the same scripts, run in the same order, give the same replies and the same trees. So the file, a SQLite database,
+A table is determined by its scripts: the same scripts, run in the same order, give the same replies and the same trees. So the file, a SQLite database,
 has a log of the scripts that changed the table, and opening the file runs them again. A script is run first, then kept by one transaction with a sync, and
 then answered. If any of that fails, the session is dropped and the next call makes it again from the file: a script is kept whole or not at all, however
 many commands it has.
@@ -132,16 +132,16 @@ FAULTS = (RolledBack, IndexBuilding, RequestReused)
 
 
 def open(path: str | os.PathLike[str], *, sync: bool = True, most_requests: int = MOST_REQUESTS, make: Callable[[], Runner] = Session) -> Durable:
-    """The durable table of a file, which is created if it is not there.
+    """The durable table of a file, which is created if it does not exist.
 
     Without `sync` a power loss may lose the last scripts, but no crash of the process does. `most_requests` is how many request ids of `once` are kept.
-    `make` gives what runs the scripts, which has no table yet: a session unless said otherwise.
+    `make` returns what runs the scripts, which has no table yet: a session by default.
     """
     return Durable(path, sync=sync, most_requests=most_requests, make=make)
 
 
 class Durable(Calls):
-    """A durable table. It is used by the thread and the process that opened it alone."""
+    """A durable table. Only the thread and the process that opened it may use it."""
 
     def __init__(self, path: str | os.PathLike[str], *, sync: bool, most_requests: int, make: Callable[[], Runner]) -> None:
         self.path, self._sync, self._most_requests, self._make = os.path.abspath(os.fspath(path)), sync, most_requests, make
@@ -266,8 +266,8 @@ class Durable(Calls):
             return self._run(script)
 
     def once(self, request_id: str, script: str | bytes) -> bytes:
-        """As `replies`, but a script that comes again with the same request id is not run again: the call gives the replies that were kept with the id. So a
-        caller that got no answer sends the request again. RequestReused if another script had the id."""
+        """Like `replies`, but a script that comes again with the same request id is not run again: the call returns the replies that were kept with the id.
+        So a caller that got no reply sends the request again. RequestReused if another script had the id."""
         script = as_script(script)
         _check_request_id(request_id)
         hash = sha256(script).digest()
@@ -284,7 +284,7 @@ class Durable(Calls):
         return bytes(found[1])
 
     def forget(self, *request_ids: str) -> None:
-        """Forgets request ids, whose callers were answered."""
+        """Forgets request ids whose callers have their replies."""
         for request_id in request_ids:
             _check_request_id(request_id)
         with self._some_group(), self._all_or_nothing():

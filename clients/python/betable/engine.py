@@ -1,4 +1,4 @@
-"""The engine of a server: a durable table in a process of its own, which runs all scripts that wait and keeps them by one commit.
+"""The engine of a server: a durable table in a separate process, which runs all waiting scripts and keeps them with one commit.
 
 `Engine` is the server's side: it starts the process, hands it works and gives their answers. `main` is the process. It is started from scratch, since the
 library does not allow calls in the forked child of a process with threads, and it ends with its server. Both talk by frames through a pair of pipes: eight
@@ -55,7 +55,7 @@ class Answer(NamedTuple):
 
 
 class Result(NamedTuple):
-    """What a group of works gave: for each its answer or its fault, the time of its scripts and that of its commit. `number` is that of the last script that
+    """The results of works: for each its answer or its fault, the time of its scripts and that of its commit. `number` is that of the last script that
     is kept, `log_bytes` are those of the log, and `state` has the trees if they have changed."""
 
     answers: list[Answer | Exception]
@@ -67,7 +67,7 @@ class Result(NamedTuple):
 
 
 class Lost(Exception):
-    """The engine's process ended before it had answered: the script is kept or it is not."""
+    """The engine's process ended before it replied: the script may be kept or not."""
 
 
 class Closed(Exception):
@@ -202,7 +202,7 @@ class Engine:
 
     @property
     def waiting(self) -> int:
-        """How many works wait for their answers."""
+        """The number of works that wait for their answers."""
         return len(self._waiting) + len(self._group)
 
     @property

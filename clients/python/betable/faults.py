@@ -348,7 +348,7 @@ def get_faults(command: Command, table: Table) -> list[Fault]:
 
 
 def sums_faults(command: Command, state: State) -> Iterator[Fault]:
-    """Why the columns of sums are none of the tree."""
+    """Why the tree does not have the columns of sums."""
     _, tree, count, name = words_of(command.head)
     if not state.table or not state.table.has_tree(tree):
         return

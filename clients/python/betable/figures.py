@@ -41,7 +41,7 @@ def one_line(text):
 
 
 def letter_width(letter):
-    """How many letters' room a letter takes: two of an emoji and of a Chinese one, none of an accent."""
+    """The width of a letter, in letters: two for an emoji or a Chinese character, none for an accent."""
     return 0 if combining(letter) else 2 if east_asian_width(letter) in "WF" else 1
 
 
@@ -57,7 +57,7 @@ def beginning(text, room):
 
 
 def text_within(text, room, apart=0):
-    """A text that fits the room, cut so that its letter at `apart`, where it begins to differ from others, is still there."""
+    """A text that fits, cut so that its letter at `apart`, where it begins to differ from others, is still shown."""
     if width_of(text) <= room:
         return text
     if width_of(text[: apart + 1]) < room:
@@ -121,7 +121,7 @@ class Drawing:
         self.differences = Differences(line.text for line in self.root.all_lines())
 
     def letters(self):
-        """How many letters a box has room for, so that its lines are cut as little as may be."""
+        """The width of a box in letters, so that its lines are cut as little as possible."""
         return max(LEAST_LETTERS, min(MOST_LETTERS, max(line.width() for line in self.root.all_lines())))
 
     def key(self, key):
@@ -161,7 +161,7 @@ class Drawing:
         return ("entry", "entries") if self.is_index else ("row", "rows")
 
     def left_out(self, nodes):
-        """The box that counts nodes and what is below them, or that of a leaf, which takes no more room."""
+        """The box that counts nodes and what is below them, or that of a leaf if it is not larger."""
         if len(nodes) == 1 and nodes[0].is_leaf:
             return self.box(nodes[0], 1)
         leaves, rows, pending = [sum(getattr(node, name) for node in nodes) for name in ("leaves", "rows", "pending")]
@@ -185,7 +185,7 @@ class Drawing:
         return Box("inner", self.own_lines(node), below, [Line("pivot", self.key(pivot), "|") for pivot in pivots], node.is_changed)
 
     def window(self, node, columns):
-        """Which children are drawn: all, or as many as leave room for the levels below, round the one to be opened."""
+        """Which children are drawn: all, or as many as leave space for the levels below, around the one to be opened."""
         count = len(node.children)
         shown = count if node.leaves <= columns else min(count, max(2, columns // max(1, node.level - 1)))
         first = min(max(0, self.opened(node) - shown // 2), count - shown)
@@ -223,7 +223,7 @@ def box_width(letters):
 
 
 class Svg:
-    """The elements of a picture whose boxes have room for that many letters, and how much room they take."""
+    """The elements of a picture whose boxes are that many letters wide, and the space that they take."""
 
     def __init__(self, letters, margin=GAP):
         self.elements, self.width, self.bottom = [], 0, 0

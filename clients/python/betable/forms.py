@@ -95,7 +95,7 @@ def fixed_word_faults(line: Line) -> list[str]:
 
 
 def no_command(line: Line) -> str:
-    """Why the first word of a line is none of a command."""
+    """Why the first word of a line is no command."""
     word = line.word
     shown, plain = visible(word, 20), re.split(rb"[\t\v\f\r\xa0]", word)[0].removeprefix(MARK)
     openers = [head.decode() for head, closing in CLOSING.items() if closing == word]
@@ -159,7 +159,7 @@ def column_fault(word: bytes) -> str | None:
 
 
 def index_word_faults(line: Line) -> list[str]:
-    """Why the words of an index are none: each part in turn, up to the first that is missing."""
+    """Why the words are no index: each part, up to the first that is missing."""
     words = words_of(line)[1:]
     if not words:
         return ["NAME is missing"]
@@ -236,7 +236,7 @@ MEANT = {b"insert": b"put", b"replace": b"put", b"upsert": b"ups", b"update": b"
 
 
 def no_block_word(line: Line, head: bytes) -> str:
-    """Why a line of a block begins with none of its words."""
+    """Why the first word of a line of a block is none of the block's words."""
     words, closing = BLOCK_WORDS[head], CLOSING[head]
     raw = line.raw.removesuffix(b"\r")
     if raw.strip(b" \t\r;").lower() == closing:

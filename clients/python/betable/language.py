@@ -524,7 +524,7 @@ class State:
         self.refused: dict[bytes | None, Line] = {}  # of a table, and of indexes by their names, the last line that was refused
 
     def take(self, command: Command, answer: list[bytes]) -> None:
-        """Goes on by a command and the lines that answer it."""
+        """Goes on by a command and the lines of its reply."""
         word = command.head.word
         if word not in ANSWERS or not answer or not answer[0].startswith((ANSWERS[word], b"refused ")):
             return
@@ -573,7 +573,7 @@ def logical_lines(replies: Iterable[bytes]) -> Iterator[bytes]:
 
 
 def reply(word: bytes, lines: Iterator[bytes]) -> list[bytes]:
-    """The lines that answer one command, of the replies that are left."""
+    """The lines of the reply to one command, from the replies that are left."""
     first = next(lines, None)
     found = [] if first is None else [first]
     if word in LAST_LINES and first is not None and not first.startswith(b"refused "):

@@ -116,7 +116,7 @@ TYPES_OF_KINDS: tuple[tuple[str, Any], ...] = (("flag", bool), ("int", int), ("t
 
 
 class Form:
-    """The line of messages that are alike except for their values: a text with a place for each value, the columns of these, and which of them are texts."""
+    """The line of messages that differ only in their values: a text with a place for each value, the columns of the values, and which of them are texts."""
 
     def __init__(self, text: str, columns: list[Column]) -> None:
         self.text, self.columns = text, columns

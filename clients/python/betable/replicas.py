@@ -174,8 +174,8 @@ class Replicas(Calls):
             self.catch_up()
 
     def once(self, request_id: str, script: str | bytes) -> bytes:
-        """As `replies`, by the log in any case. A script that comes again with the same request id is not run again: the call gives its replies. So a caller
-        that got no answer sends the request again. RequestReused if another script had the id."""
+        """Like `replies`, but always by the log. A script that comes again with the same request id is not run again: the call returns its replies. So a caller
+        that got no reply sends the request again. RequestReused if another script had the id."""
         text = as_script(script)
         self._run_by_log(request_id, text)
         outcome = self._outcomes.found.get(request_id)

@@ -229,7 +229,7 @@ class Service:
         return response
 
     def take(self, group: list[Work], result: Result) -> None:
-        """Takes in what a group of scripts gave: measures it, and tells the readers of events which scripts were kept."""
+        """Takes the results of a group of scripts: measures it, and reports to the readers of events which scripts were kept."""
         before = self.engine.number
         if not group:
             return self.tell(start_event(result.number))
@@ -400,7 +400,7 @@ def abort(request: web.Request) -> None:
 
 
 async def in_thread_if_large(size: int, function: Callable[..., Any], *arguments: Any) -> Any:
-    """The result of a function on that many bytes: if they are many it runs in a thread, so that other requests get their turn."""
+    """The result of a function on that many bytes: if they are many, it runs in a thread, so that other requests are handled meanwhile."""
     return await asyncio.to_thread(function, *arguments) if size > BLOCK_BYTES else function(*arguments)
 
 

@@ -29,8 +29,8 @@ class _Handle(ctypes.Structure):
 
 
 def _library_path() -> Path:
-    """The library of the folder that BETABLE_LIBRARY names, or the first that there is: beside this file, as in a wheel, in out/ of the repository, or where
-    the Debian package has it."""
+    """The library of the folder that BETABLE_LIBRARY names, or the first one of: beside this file, as in a wheel; in out/ of the repository; at the path of
+    the Debian package."""
     if folder := os.environ.get("BETABLE_LIBRARY"):
         folders = [Path(folder)]
     else:
@@ -67,8 +67,8 @@ _library: ctypes.CDLL | None = None
 
 
 class Session(Calls):
-    """A table, or none so far, which lives from script to script. It belongs to the thread that opened it: another one that uses it gets a RuntimeError.
-    One that is closed raises ValueError."""
+    """A table, or none so far, that lives between scripts. It belongs to the thread that opened it: another thread that uses it gets a RuntimeError.
+    A closed session raises ValueError."""
 
     def __init__(self) -> None:
         global _library
@@ -118,7 +118,7 @@ class Session(Calls):
         return self._state
 
     def close(self) -> None:
-        """Gives the table up. A session that is closed stays so."""
+        """Drops the table. A session that is closed stays closed."""
         if self._handle.is_open:
             self._library.betable_close(self._open_handle())
 

@@ -1,4 +1,4 @@
-"""A shard in a process of its own: `python3 -m betable.shard` carries out what it reads from standard input, until that ends, as `ProcessShard` asks it to."""
+"""A shard in a separate process: `python3 -m betable.shard` carries out the operations on standard input, which `ProcessShard` writes, until it ends."""
 
 from __future__ import annotations
 

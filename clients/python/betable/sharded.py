@@ -60,7 +60,7 @@ class ShardLost(Exception):
 
 
 class Rows(Enum):
-    """What is known of the tree of rows that one session would have, of which `load` wants that it is one leaf without rows."""
+    """What is known about the tree of rows that one session would have; `load` requires that it is one leaf without rows."""
 
     NONE = auto()  # It is one leaf without rows.
     SOME = auto()  # It has rows.
@@ -69,7 +69,7 @@ class Rows(Enum):
 
 
 class Refusal(NamedTuple):
-    """A refusal of a batch or a load, in the order in which the least is replied. The item is 0 where there is none."""
+    """A refusal of a batch or a load, in the order in which the smallest is replied. The item is 0 if there is none."""
 
     number: int
     item: int
@@ -169,14 +169,14 @@ class Sharded(Calls):
         return found
 
     def _of_one(self, command: Command, shard: int = 0) -> bytes:
-        """The reply of one shard, to what all of them reply alike, or to what one of them has."""
+        """The reply of one shard, to a command that all of them reply to alike, or that concerns only this one."""
         return self._ask({shard: ("run", (script_of(command),))})[0]
 
     def _of_each(self, script: bytes, shards: Iterable[int] | None = None) -> list[bytes]:
         return self._ask({shard: ("run", (script,)) for shard in (self._all if shards is None else shards)})
 
     def _everywhere(self, table: Table, command: Command) -> bytes:
-        """The reply to what all shards carry out, and reply to alike."""
+        """The reply to a command that all shards carry out and reply to alike."""
         replies = self._of_each(script_of(command))
         for shard, reply in enumerate(replies):
             if reply != replies[0]:
@@ -298,7 +298,7 @@ class Sharded(Calls):
         return b"batch %d%b\n" % (len(lines), sums_of_sent(replies))
 
     def _refusals_of_check(self, table: Table, scripts: dict[int, bytes], places: list[int]) -> list[Refusal]:
-        """The least refusal of each part, with the item that it has in the whole; `places` has the shard of each item."""
+        """The smallest refusal of each part, with the item that it has in the whole; `places` has the shard of each item."""
         found = []
         replies = self._ask({shard: ("check", (table.line.text + b"\n", script)) for shard, script in scripts.items()})
         for shard, reply in zip(scripts, replies):
@@ -379,7 +379,7 @@ class Sharded(Calls):
         return range(first, max(first, last) + 1)
 
     def _parts_of_read(self, table: Table, command: Command) -> list[bytes]:
-        """The replies of the shards to a scan or to sums, of which a refusal is that of all."""
+        """The replies of the shards to a scan or to sums; a refusal of one shard is the reply of all."""
         name = second_word(command)
         if not table.has_tree(name):
             return [self._of_one(command)]
@@ -436,18 +436,18 @@ VALUES_AS_PRINTED: Values = {**VALUES, b"int": int}
 
 
 def key_of(columns: Sequence[tuple[bytes, bytes]], values: Sequence[bytes]) -> Key:
-    """The values of fields by the first columns of a key. ValueError where there is none."""
+    """The values of fields by the first columns of a key. ValueError if there is none."""
     return tuple([VALUES[kind](field) for (_, kind), field in zip(columns, values)])
 
 
 def in_order(columns: Sequence[tuple[bytes, bytes]], records: list[bytes]) -> list[bytes]:
-    """Records as they are printed, with their line breaks, in the order of a key of which they have the first columns first."""
+    """Records as they are printed, with their line breaks, in the order of a key whose first columns come first in them."""
     values = [VALUES_AS_PRINTED[kind] for _, kind in columns]
     return sorted(records, key=lambda record: [value(field) for value, field in zip(values, fields(record[:-1]))])
 
 
 def keys_of_bounds(table: Table, bounds: Sequence[tuple[Value, ...]]) -> list[Key]:
-    """Bounds as keys of a table, each greater than the one before."""
+    """Bounds as keys of a table, each larger than the one before."""
     found: list[Key] = []
     for place, bound in enumerate(bounds, 1):
         if not 1 <= len(bound) <= table.key_length:
@@ -471,7 +471,7 @@ def keys_of_bounds(table: Table, bounds: Sequence[tuple[Value, ...]]) -> list[Ke
 
 
 def script_of(command: Command) -> bytes:
-    """A command as a script of its own."""
+    """A command as a script."""
     closing = command.closing + b"\n" if command.closing and command.is_closed else b""
     return b"%b\n%b%b" % (command.head.raw, command.block, closing)
 

@@ -1,4 +1,4 @@
-"""Shards: where the parts of a table are. A shard is in this process, in a process of its own, here or on another machine, or in a worker of a Dask cluster.
+"""Shards: where the parts of a table are. A shard is in this process, in a separate process, here or on another machine, or in a worker of a Dask cluster.
 
 A shard carries out one operation of `Worker` at a time: `call` starts it and returns a function that waits for its reply, so that many shards work at the
 same time. `call` and that function raise an exception if the shard is gone, or fails.
@@ -89,7 +89,7 @@ class ShardFault(Exception):
 
 
 class ProcessShard:
-    """A shard in a process of its own, which `command` starts and which is called through its standard streams: python3 -m betable.shard.
+    """A shard in a separate process, which `command` starts and which is called through its standard streams: python3 -m betable.shard.
 
     A shard on another machine is `ProcessShard(["ssh", "machine", "python3", "-m", "betable.shard"])`.
     """

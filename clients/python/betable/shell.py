@@ -145,7 +145,7 @@ class Shell:
             self.block.append(raw)
 
     def faults_of_line(self, raw: bytes) -> list[Fault]:
-        """What is wrong with a line of a block, so that it is told when it is typed."""
+        """The mistakes in a line of a block, so that they are reported when it is typed."""
         line, word = Line(len(self.block) + 1, raw), self.word()
         if not line.text or word not in BLOCK_WORDS:
             return []

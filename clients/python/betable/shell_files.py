@@ -58,8 +58,8 @@ class Imported(NamedTuple):
 def import_csv(table: Calls, there: Table, path: str, progress: Progress, most_bytes: int = MOST_SCRIPT_BYTES) -> Iterator[Imported]:
     """Puts the records of a CSV file into a table, and gives what was done after each script, of at most `most_bytes`.
 
-    A file that fits one script is loaded if the table has no rows. Else, or if that is refused, the records are put by batches, each of which is applied
-    whole: those that are refused are left out, and the others are put."""
+    A file that fits one script is loaded if the table has no rows. Otherwise, or if that is refused, the records are put in batches; each batch is applied
+    whole: records that are refused are left out, and the others are put."""
     try:
         with open(path, "rb") as stream:
             size = os.fstat(stream.fileno()).st_size

@@ -49,7 +49,7 @@ class Stream:
 
 
 class Terminal:
-    """Lines that are typed. `words` gives what may be completed: of the text of the line before the cursor, the words that can stand there."""
+    """Lines that are typed. `words` returns the completions: for the text of the line before the cursor, the words that can follow it."""
 
     is_terminal = True
 

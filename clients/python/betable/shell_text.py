@@ -83,7 +83,7 @@ def drawn_tree(reply: bytes, tree: str, state: State) -> Iterator[str]:
 
 
 def _drawn_box(box: Any, first: str, other: str) -> Iterator[str]:
-    """The lines of a box, of which the first begins with `first`, and the others with `other`."""
+    """The lines of a box; the first one begins with `first`, the others with `other`."""
     head, *lines = box.lines
     yield first + head.text
     for line in lines:

@@ -1,4 +1,4 @@
-"""Trees as 'image' prints them: their nodes, the values in their keys, and what is another than in an image before."""
+"""Trees as 'image' prints them: their nodes, the values in their keys, and the differences from an earlier image."""
 
 import itertools
 import re
