@@ -1,4 +1,4 @@
-//! Rebuilt trees, and what their images depend on.
+//! Trees after a rebuild, and what their images depend on.
 ghost use Rattle.std.specs.Prelude.{List, ℕ};
 ghost use Rattle.bt_table.specs.Standing.{IsSoundTable};
 ghost use Rattle.bt_table.specs.Tables.{PlainTable};
