@@ -13,7 +13,7 @@ use Rattle.bt_fanout.proofs.Lookups.{sorted-select}
 use Rattle.bt_fanout.proofs.Owners.{owner}
 use Rattle.bt_fanout.proofs.Sendings.{sends}
 
--- a row is found among the covered ones where its key is covered
+-- a row is found among the covered ones if its key is covered
 pub find-covered : {X : Type 0} (covers : List ℕ → Bool) (k : List ℕ) (rows : Rows X) → find key_cmp k (covered covers rows) ≡ cond (covers k) (find key_cmp k rows) None
 find-covered covers k rows = find-where_key key_cmp covers k (λ x t. ap covers (sym (same_key k x (ap is_eq t)))) rows
 

@@ -38,7 +38,7 @@ one_place columns name names c old new is more =
     ap (λ found. option_map (λ others. old ++ others) (option_and_then (λ (d : ℕ × Kind). option_map (λ places. d.0 ∷ places) (places_of columns names)) found)) is
     ∙ placed old c.0 (places_of columns names) ∙ ap (λ front. option_map (λ others. front ++ others) (places_of columns names)) (sym more)
 
--- a name that is not there
+-- a name that no column has
 pub no_place : (columns : List Column) (name : List ℕ) (names : List (List ℕ)) → named_from 0 name columns ≡ None → places_of columns (name ∷ names) ≡ None
 no_place columns name names is = ap (λ found. option_and_then (λ (d : ℕ × Kind). option_map (λ places. d.0 ∷ places) (places_of columns names)) found) is
 

@@ -126,7 +126,7 @@ behind = refl
 abbrev from_15 : Definition
 from_15 = record { on = 1 ∷ []; include = []; condition = Some (record { place = 1; test = test.AtLeast; constant = value.Int (pos 15) }); keys = 1 }
 
--- one by one: the first row has no entry and moves the cover all the same, the second one has
+-- one by one: the first row has no entry and still moves the cover, the second one has an entry
 one_by_one : fold (after_row from_15) (none_read 1) (next_rows 1 Nothing rows) ≡ record { messages = []; left = 0; last = Some (k 1) }
 unfolding eight_bytes
 one_by_one = refl

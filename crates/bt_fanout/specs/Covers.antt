@@ -33,7 +33,7 @@ wider Whole other = Whole
 abbrev pub next_rows : {X : Type 0} → ℕ → Cover → Rows X → Rows X
 next_rows n cover rows = take n (covered (λ k. not (is_covered cover k)) rows)
 
--- the last of keys, the first of which is this one
+-- the last key of rows, or this key if there are no rows
 abbrev pub last_key : {X : Type 0} → Key → Rows X → Key
 last_key k [] = k
 last_key k (r ∷ rows) = last_key r.0 rows

@@ -66,7 +66,7 @@ fn add_picked_codes(code: &mut CodeBuilder, row: &Row, places: &[usize]) -> Resu
     Ok(())
 }
 
-// Adds the codes of the first values of a row, or of all where there are fewer.
+// Adds the codes of the first values of a row, or of all values if there are fewer.
 fn add_first_codes(code: &mut CodeBuilder, row: &Row, count: usize) -> Result<(), AllocError>
     ensures { OnOk result (code.new ≡ code.old ++ code_of (take count row.now)) }
 {

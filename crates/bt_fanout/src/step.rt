@@ -47,7 +47,7 @@ impl<'a> Model for Builder<'a> {
     ghost view = { λ b. (b.def.now, record { messages = b.messages.items; left = b.left; last = b.last }) };
 }
 
-// The entry of a row, where the row has all places of the definition.
+// The entry of a row, if the row has all places of the definition.
 #[tactic(auto, using(crate::proofs::RowsRead::within_tested))]
 fn entry_within(
     alloc: Global,

@@ -114,7 +114,7 @@ batch_command ws items = if length ws == 1 then option_map Batch items else None
 abbrev pub load_command : List (List ℕ) → List ℕ → Option Command
 load_command ws text = if length ws == 1 then Some (Load text) else None
 
--- the bounds with this lower and this upper one, where they are given
+-- the bounds with this lower and this upper one, if they are given
 abbrev pub bounds_between : Option (List (List ℕ)) → Option (List (List ℕ)) → Bounds
 bounds_between from to = record { from = from; to = to }
 

@@ -71,7 +71,7 @@ MustBeRefused words = IsFaulty words × (AsksHelp words → ⊥)
 abbrev pub IsToReadInput : List Text → Type 0
 IsToReadInput words = (kinds_of_words words ≡ []) × (first_of (codes "script") (rows_of_words words) ≡ None)
 
--- the words have the fault that an error names; any words may be answered as out of memory
+-- the words have the fault that an error names; any words may be reported as out of memory
 abbrev pub HasFault : List Text → WordsError → Type 0
 HasFault words Faulty = IsFaulty words
 HasFault words (Help text) = AsksHelp words

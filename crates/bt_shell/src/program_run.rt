@@ -212,9 +212,9 @@ fn run_and_flush<R: Files + AllocGlobal + Threads + Wait + Sync, I: Read, W: Wri
     Ok(flushed?)
 }
 
-/// Runs the program with its words, of which the first is its name, and three streams, and returns its exit status. 0: the script ran, or the help text was
-/// printed. 1: `read failed`, `write failed` or `out of memory`. 2: `faulty command line`. If the status is not 0, one line with that text, after `betable: `,
-/// is written to the error stream.
+/// Runs the program with its words and three streams, and returns its exit status. The first word is the program's name. 0: the script ran, or the help text
+/// was printed. 1: `read failed`, `write failed` or `out of memory`. 2: `faulty command line`. If the status is not 0, one line with that text, after `betable:
+/// `, is written to the error stream.
 ///
 /// If the words name no file, the input is the script. With status 0 all of its replies are written to the output, and with any other status a prefix of them.
 pub fn program<R: Files + AllocGlobal + Threads + Wait + Sync, I: Read, W: Write, E: Write>(

@@ -43,7 +43,7 @@ fn codes_of_values(rt: HostRuntime) {
             "6100ff00018000000000000000",
         ),
         (&[Kind::Bytes, Kind::Bytes], "00FF,", "00ffff00010001"),
-        // without memory of its own the code of a text has at most 22 bytes
+        // a key of at most 22 bytes needs no allocation; this code is longer
         (
             &[Kind::Text],
             "aaaaaaaaaaaaaaaaaaaaa",

@@ -20,7 +20,7 @@ pub record RowsRead : Type 0 where
 abbrev pub none_read : ℕ → RowsRead
 none_read count = record { messages = []; left = count; last = None }
 
--- the entry of a row under its own key, where the row has all places of the definition
+-- the entry of a row under its own key, if the row has all places of the definition
 abbrev pub entry_within : Definition → List Value → Option (Key × List Value)
 entry_within def row = if is_within def (length row) then own_entry def (Some row) else None
 

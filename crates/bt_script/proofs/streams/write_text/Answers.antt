@@ -5,7 +5,7 @@ use Rattle.bt_script.specs.declared.counted.Counted.{Counted}
 use Rattle.bt_script.proofs.offered.Streams.{Took-trans}
 use Rattle.bt_script.proofs.streams.write_text.Goals as goal
 
--- the first at + taken bytes, where the taken ones come from what is left
+-- the first at + taken bytes; the taken ones come from what is left
 prefix_more : (at taken : ℕ) (text : List ℕ) → take (at + taken) text ≡ take at text ++ take taken (take (length text - at) (drop at text))
 prefix_more at taken text =
     let whole : take (length text - at) (drop at text) ≡ drop at text = take_all (length text - at) (drop at text) (omega (arith, length-drop at text)) in
