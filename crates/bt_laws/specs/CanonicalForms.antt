@@ -19,7 +19,7 @@ is_of_all_rows (Primary table) = true
 is_of_all_rows (Secondary table index) = is_complete index
 
 -- The image of a tree that is built from scratch: from the rows of the table, or from the entries that the definition of an index selects of them. Apart from
--- columns and shape it depends on nothing else of the table.
+-- the columns and the shape it depends on nothing else of the table.
 abbrev pub image_from_scratch : List ℕ → NamedTree → List ℕ
 image_from_scratch name (Primary table) = row_image table.schema.columns name (packed table.shape table.rows)
 image_from_scratch name (Secondary table index) = entry_image name (packed table.shape (select (entry_of index.def) table.rows))

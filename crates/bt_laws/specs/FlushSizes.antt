@@ -70,7 +70,8 @@ module _ {V M : Type 0} (meaning : Meaning V M) (shape : Shape) where
   FlushesAreFew t packets =
       flush_counts t packets * suc shape.buffer ≤ shape.fanout * (levels_pending t + levels_ahead t packets)
 
-  -- So it is at most the fanout times the load of all messages that came, times the levels below the root at the end.
+  -- So it is at most the fanout times this sum: the levels of the messages that are pending at first, and the load of all that came times the levels of the
+  -- last tree below its root.
   abbrev pub FlushesAreFewInAll : Tree V M → List (Messages M) → Type 0
   FlushesAreFewInAll t packets =
       flush_counts t packets * suc shape.buffer ≤ shape.fanout * (levels_pending t + arrived packets * (height (sunk_all t packets) - 1))
