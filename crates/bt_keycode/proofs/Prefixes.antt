@@ -3,6 +3,7 @@ use Rattle.std.proofs.Common.{◌≡◌, ◌≢◌, ℕ, zero, suc, ◌+◌, ◌
 use Rattle.std.proofs.Math.Seq.{drop-nil}
 use Rattle.std.specs.Cmp.{nat_cmp_is, ranks}
 use Rattle.std.specs.Cmp.Lexicographic.{slice_cmp}
+use Rattle.std.specs.FinMap.{nat_cmp-IsAntisymmetric, slice_cmp-IsAntisymmetric}
 use Rattle.std.specs.Ordering.{nat_cmp, MatchOrdering}
 use Rattle.std.specs.declared.cmp.Ordering.{Ordering}
 use Rattle.std.specs.declared.cmp.Ordering.TheVariants.{Less, Equal, Greater}
@@ -10,7 +11,7 @@ use Rattle.bt_value.specs.Paddings.{padded}
 use Rattle.bt_keycode.specs.Codes.{eight_bytes}
 use Rattle.bt_keycode.specs.Prefixes.{first_eight}
 use Rattle.bt_keycode.proofs.Numbers.{slice_cmp-eight_bytes}
-use Rattle.bt_keycode.proofs.Paddings.{slice_cmp-next}
+use Rattle.bt_keycode.proofs.Paddings.{slice_cmp-next, slice_cmp-padded}
 
 -- ---- the order of two keys
 
@@ -53,6 +54,29 @@ padded-behind (suc m) k (suc n) (x ∷ xs) few = padded-behind m k n xs (omega a
 pub eight_of_padded : (place n : ℕ) (seen xs : List ℕ) → seen ≡ padded n xs → place + 8 ≤ n → first_eight (drop place seen) ≡ first_eight (drop place xs)
 unfolding first_eight
 eight_of_padded place n seen xs is few = ap (λ ys. padded 8 (drop place ys)) is ∙ padded-behind place 8 n xs few
+
+-- Where the bytes before a place are the same, and the eight from there on write different numbers, these decide the order of the first bytes.
+pub first_decided : (m n h k : ℕ) (xs ys : List ℕ) → m + 8 ≤ n → h < 2 ^ 64 → k < 2 ^ 64 → padded m xs ≡ padded m ys →
+    eight_bytes h ≡ first_eight (drop m xs) → eight_bytes k ≡ first_eight (drop m ys) → h ≢ k → nat_cmp h k ≡ slice_cmp nat_cmp (padded n xs) (padded n ys)
+first_decided m n h k xs ys few low under same a b apart =
+    numbers_decide m h k (padded n xs) (padded n ys) low under
+    (padded-first m n xs (omega (arith, few)) ∙ same ∙ sym (padded-first m n ys (omega (arith, few))))
+    (a ∙ sym (eight_of_padded m n (padded n xs) xs refl few)) (b ∙ sym (eight_of_padded m n (padded n ys) ys refl few)) apart
+
+-- The order of the first bytes of two lists with zeros after them is that of the lists, where it isn't a tie.
+pub padded_decided : (k m n : ℕ) (left right xs ys : List ℕ) (o : Ordering) → left ≡ padded m xs → right ≡ padded n ys → k ≤ m → k ≤ n →
+    o ≡ slice_cmp nat_cmp (padded k left) (padded k right) → o ≢ Equal → o ≡ slice_cmp nat_cmp xs ys
+padded_decided k m n left right xs ys o is other few less e apart =
+    decided o (slice_cmp nat_cmp (padded k xs) (padded k ys)) (slice_cmp nat_cmp xs ys)
+    (e ∙ ap (λ zs. slice_cmp nat_cmp zs (padded k right)) (ap (padded k) is ∙ padded-first k m xs few) ∙ ap (λ zs. slice_cmp nat_cmp (padded k xs) zs) (ap (padded k) other ∙ padded-first k n ys less))
+    apart (slice_cmp-padded k xs ys)
+
+-- Where it is one, the first bytes are the same.
+pub padded_tied : (k m n : ℕ) (left right xs ys : List ℕ) (o : Ordering) → left ≡ padded m xs → right ≡ padded n ys → k ≤ m → k ≤ n →
+    o ≡ slice_cmp nat_cmp (padded k left) (padded k right) → o ≡ Equal → padded k xs ≡ padded k ys
+padded_tied k m n left right xs ys o is other few less e tie =
+    sym (ap (padded k) is ∙ padded-first k m xs few) ∙ slice_cmp-IsAntisymmetric nat_cmp-IsAntisymmetric (padded k left) (padded k right) (sym e ∙ tie)
+    ∙ ap (padded k) other ∙ padded-first k n ys less
 
 -- fewer of the same bytes
 padded-fewer : (m n : ℕ) (xs ys : List ℕ) → m ≤ n → padded n xs ≡ padded n ys → padded m xs ≡ padded m ys

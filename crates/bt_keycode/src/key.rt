@@ -1,5 +1,5 @@
 //! Keys: lists of bytes, ordered byte by byte.
-ghost use Rattle.std.specs.Prelude.{◌≡◌, ◌++◌, ◌≤◌, [], IfNone, IfOk, IfSome, OnOk, OnErr, drop, length};
+ghost use Rattle.std.specs.Prelude.{◌≡◌, ◌+◌, ◌++◌, ◌≤◌, [], IfNone, IfOk, IfSome, OnOk, OnErr, drop, length};
 ghost use Rattle.bt_value.specs.Hex.{hex_text};
 ghost use Rattle.bt_value.specs.Paddings.{padded};
 ghost use Rattle.bt_keycode.specs.Keys.{key_cmp};
@@ -45,6 +45,52 @@ pub(crate) fn prefix_of(bytes: &[u8]) -> u64
     ])
 }
 
+// The eight bytes from a place on as a number, with the highest byte first.
+#[inline(always)]
+fn eight_at(bytes: &[u8], place: usize) -> u64
+    requires { place + 8 ≤ length bytes.now }
+    ensures { eight_bytes result ≡ first_eight (drop place bytes.now) }
+{
+    prefix_of(&bytes[place..])
+}
+
+// The order of the first 22 of these bytes, by the eight bytes from a place on as numbers, if these differ. The bytes before the place
+// are the same.
+#[inline(always)]
+fn order_at(left: &[u8], right: &[u8], place: usize) -> Option<Ordering>
+    requires within { place ≤ LAST_EIGHT }
+    requires left_room { SHORT_KEY ≤ length left.now }
+    requires right_room { SHORT_KEY ≤ length right.now }
+    requires before { padded place left.now ≡ padded place right.now }
+    ensures apart { IfSome result (λ order. order ≡ key_cmp (padded SHORT_KEY left.now) (padded SHORT_KEY right.now)) }
+    ensures same { IfNone result (first_eight (drop place left.now) ≡ first_eight (drop place right.now)) }
+{
+    let (first, second) = (eight_at(left, place), eight_at(right, place));
+    if first != second {
+        return Some(first.cmp(&second));
+    }
+    None
+}
+
+// The order of the first 22 of these bytes, by three numbers.
+#[inline(always)]
+fn compare_short(left: &[u8], right: &[u8]) -> Ordering
+    requires left_room { SHORT_KEY ≤ length left.now }
+    requires right_room { SHORT_KEY ≤ length right.now }
+    ensures { result ≡ key_cmp (padded SHORT_KEY left.now) (padded SHORT_KEY right.now) }
+{
+    if let Some(order) = order_at(left, right, 0) {
+        return order;
+    }
+    if let Some(order) = order_at(left, right, 8) {
+        return order;
+    }
+    if let Some(order) = order_at(left, right, LAST_EIGHT) {
+        return order;
+    }
+    Ordering::Equal
+}
+
 impl Key {
     /// The empty key, which is before all others.
     pub fn new() -> Self
@@ -87,6 +133,15 @@ impl Key {
         self.bytes.as_slice()
     }
 
+    // The bytes, followed by zeros up to 22 bytes if there are fewer.
+    #[inline(always)]
+    fn padded(&self) -> &[u8]
+        ensures bytes { result.now ≡ padded (length result.now) self.now }
+        ensures room { SHORT_KEY ≤ length result.now }
+    {
+        self.bytes.padded()
+    }
+
     /// The first eight bytes as a number, with the highest byte first. Missing bytes count as zero.
     pub fn first_number(&self) -> u64
         ensures { eight_bytes result ≡ first_eight self.now }
@@ -113,50 +168,16 @@ impl Key {
         requires { place ≤ LAST_EIGHT }
         ensures { eight_bytes result ≡ first_eight (drop place self.now) }
     {
-        prefix_of(&self.bytes.padded()[place..])
+        eight_at(self.padded(), place)
     }
 
-    // The order of two keys by the numbers at a place, if these differ. The keys must have the same bytes before the place. Missing bytes
-    // count as zero.
-    #[inline(always)]
-    fn order_at(&self, other: &Key, place: usize) -> Option<Ordering>
-        requires within { place ≤ LAST_EIGHT }
-        requires before { padded place self.now ≡ padded place other.now }
-        ensures apart { IfSome result (λ order. order ≡ key_cmp self.now other.now) }
-        ensures same { IfNone result (first_eight (drop place self.now) ≡ first_eight (drop place other.now)) }
-    {
-        let (left, right) = (self.number_at(place), other.number_at(place));
-        if left != right {
-            return Some(left.cmp(&right));
-        }
-        None
-    }
-
-    // The order of two short keys with the same first sixteen bytes. Missing bytes count as zero.
-    fn compare_tails(&self, other: &Key) -> Ordering
-        requires short { length self.now ≤ SHORT_KEY }
-        requires other_short { length other.now ≤ SHORT_KEY }
-        requires first { first_eight self.now ≡ first_eight other.now }
-        requires next { first_eight (drop 8 self.now) ≡ first_eight (drop 8 other.now) }
+    // The order of two keys with the same first 22 bytes. Missing bytes count as zero.
+    fn compare_rest(&self, other: &Key) -> Ordering
+        requires { padded SHORT_KEY self.now ≡ padded SHORT_KEY other.now }
         ensures { result ≡ key_cmp self.now other.now }
     {
-        if let Some(order) = self.order_at(other, LAST_EIGHT) {
-            return order;
-        }
-        self.len().cmp(&other.len())
-    }
-
-    // The order of two keys with the same first eight bytes. Missing bytes count as zero.
-    #[inline(always)]
-    fn compare_behind(&self, other: &Key) -> Ordering
-        requires { first_eight self.now ≡ first_eight other.now }
-        ensures { result ≡ key_cmp self.now other.now }
-    {
-        if let Some(order) = self.order_at(other, 8) {
-            return order;
-        }
         if self.len() <= SHORT_KEY && other.len() <= SHORT_KEY {
-            return self.compare_tails(other);
+            return self.len().cmp(&other.len());
         }
         self.as_slice().cmp(other.as_slice())
     }
@@ -166,12 +187,12 @@ impl Key {
     pub fn compare(&self, other: &Key) -> Ordering
         ensures { result ≡ key_cmp self.now other.now }
     {
-        // Most keys differ in their first eight bytes, and nearly all in those that they keep in themselves. The first eight are
-        // compared inline, which helps in the loops of a sort.
-        if let Some(order) = self.order_at(other, 0) {
-            return order;
+        // Nearly all keys differ in the bytes that they keep, most in the first eight: these are compared where the call stands, as in
+        // the loops of a sort. Where each key has its bytes is looked at once.
+        match compare_short(self.padded(), other.padded()) {
+            Ordering::Equal => self.compare_rest(other),
+            order => order,
         }
-        self.compare_behind(other)
     }
 
     /// Adds the bytes as text: two lower-case hexadecimal digits for each. An `Err` means out of memory, and leaves `out` unchanged.
