@@ -1,5 +1,6 @@
 pub mod Counts
 pub mod Cuts
+pub mod DoublingSteps
 pub mod Errors
 pub mod Insertions
 pub mod Merging

@@ -1,5 +1,6 @@
 -- Definitions that only private clauses cite: the views of the code's values, and the steps of its loops.
 pub mod Beginnings
+pub mod Brackets
 pub mod Merges
 pub mod Places
 pub mod Rooms

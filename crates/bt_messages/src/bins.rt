@@ -164,7 +164,7 @@ impl<V: Merge> Bins<V> {
         self.bins[child].iter()
     }
 
-    /// The messages in a bin with a key at or past `key`, in order. The first of them is found by binary search.
+    /// The messages in a bin with a key at or past `key`, in order.
     pub fn bin_from(&self, child: usize, key: &Key) -> Messages<'_, V>
         requires { child < length self.now }
         ensures messages { result ≡ messages_from key.now (slice_index_or self.now child []) }
@@ -173,8 +173,7 @@ impl<V: Merge> Bins<V> {
         self.bins[child].iter_from(key)
     }
 
-    /// The messages in a bin with a key at or past `from` and before `to`, in order, found by binary search. An absent bound
-    /// doesn't limit.
+    /// The messages in a bin with a key at or past `from` and before `to`, in order. An absent bound doesn't limit.
     pub fn bin_between(&self, child: usize, from: Option<&Key>, to: Option<&Key>) -> Messages<'_, V>
         requires { child < length self.now }
         ensures messages { result ≡ messages_between (option_copied from.entry) (option_copied to.entry) (slice_index_or self.now child []) }

@@ -5,19 +5,23 @@ ghost use Rattle.bt_messages.specs.Messages.{messages_before, messages_between, 
 ghost use Rattle.std.specs.Option.{option_copied};
 
 use crate::message::{Merge, Message};
+use crate::search::{count_before_near, likely_place};
 use bt_keycode::Key;
 use std::alloc::{AllocError, Global};
 use std::cmp::Ordering;
 use std::collections::VecDeque;
 
-/// The number of messages with a key before `key`.
-pub(crate) fn count_before<X>(messages: &[(Key, X)], key: &Key) -> usize
+// The first step of a search from a likely place, which is mostly within a few entries of the key's.
+const FIRST_STEP: usize = 4;
+
+/// The number of entries with a key before `key`, searched from a likely place.
+pub fn count_before<X>(messages: &[(Key, X)], key: &Key) -> usize
     requires { IsSorted messages.now }
     ensures bound { result ≤ length messages.now }
     ensures before { take result messages.now ≡ messages_before key.now messages.now }
     ensures from { drop result messages.now ≡ messages_from key.now messages.now }
 {
-    messages.partition_point(|entry| entry.0.compare(key) == Ordering::Less)
+    count_before_near(messages, likely_place(messages, key), FIRST_STEP, key)
 }
 
 /// The number of messages with a key at or before `key`.
@@ -65,7 +69,7 @@ fn count_before_bound<X>(messages: &[(Key, X)], bound: Option<&Key>, absent: usi
     }
 }
 
-/// The entries with a key at or past `from` and before `to`, found by binary search. An absent bound doesn't limit.
+/// The entries with a key at or past `from` and before `to`. An absent bound doesn't limit.
 pub fn between<'a, X>(
     entries: &'a [(Key, X)],
     from: Option<&Key>,

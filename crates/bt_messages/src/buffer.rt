@@ -140,7 +140,7 @@ impl<V: Merge> Buffer<V> {
         Stream::from_runs(self, Vec::new(alloc), count)
     }
 
-    /// The messages with a key at or past `key`, in order. The first of them is found by binary search.
+    /// The messages with a key at or past `key`, in order.
     pub fn iter_from(&self, key: &Key) -> Messages<'_, V>
         ensures messages { result ≡ messages_from key.now self.now }
         ensures sorted { IsSorted self.now }
