@@ -6,7 +6,7 @@ ghost use Rattle.bt_messages.specs.Effects.{DoTheSame, effect_of};
 ghost use Rattle.bt_messages.specs.Messages.{sorted_batch, with_messages};
 ghost use Rattle.bt_messages.specs.inside.Runs.{AreRuns, AreSome};
 
-use crate::batch_places::packet_by;
+use crate::batch_places::{packet_by, packet_by_ordered_ties};
 use crate::beginnings::ThreeNumbers;
 use crate::buffer::Buffer;
 use crate::buffer_messages::BufferMessages;
@@ -65,6 +65,7 @@ fn sorted_packet<V: Merge>(
     match sorting::sorting_of(alloc, batch.as_slice())? {
         Sorting::Messages => sorted_by_messages(alloc, batch),
         Sorting::FirstNumbers => packet_by::<V, u64>(alloc, batch),
+        Sorting::OrderedTies => packet_by_ordered_ties(alloc, batch),
         Sorting::ThreeNumbers => packet_by::<V, ThreeNumbers>(alloc, batch),
     }
 }
