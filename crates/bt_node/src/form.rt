@@ -7,3 +7,4 @@ pub(crate) mod node;
 pub(crate) mod rows;
 pub(crate) mod search;
 pub(crate) mod shape;
+pub(crate) mod source;

@@ -27,8 +27,8 @@
 //! children under inner nodes. [`absorb_alone`] and [`drain_alone`] take all steps on one thread. To divide a flush among threads, call
 //! [`open`] and [`close`].
 //!
-//! [`pack`] builds a tree from sorted rows at once. [`Tree::drain`] sends all messages down to the leaves. [`Tree::rebuild`] packs the rows
-//! of a tree into a new one.
+//! [`pack`] builds a tree from sorted rows at once, and [`pack_source`] from rows that come one at a time. [`Tree::drain`] sends all
+//! messages down to the leaves. [`Tree::rebuild`] packs the rows of a tree into a new one.
 //!
 //! [`Tree::walk`] returns a [`Walk`], which reads a tree as the map that it represents. It gives the value at one key (`get`) and at several
 //! keys (`values`). It shows the rows between two bounds to a [`Visitor`] (`visit`) or copies them (`rows`). It shows the first rows from a
@@ -59,7 +59,8 @@ pub use form::shape::{
     LARGEST_BUFFER, LARGEST_FANOUT, LARGEST_LEAF, LARGEST_WEIGHED_BUFFER, SMALLEST_BUFFER,
     SMALLEST_FANOUT, SMALLEST_LEAF, Shape,
 };
+pub use form::source::RowSource;
 pub use read::portions::Portion;
 pub use read::visitor::{Copies, ForkVisitor, Visitor};
 pub use read::walk::Walk;
-pub use tree::{Tree, absorb_alone, crown, drain_alone, pack, regroup};
+pub use tree::{Tree, absorb_alone, crown, drain_alone, pack, pack_source, regroup};

@@ -17,12 +17,13 @@ ghost use Rattle.bt_node.specs.inside.Flushing.{IsReady};
 
 use crate::flush::crown::crown_node;
 use crate::flush::flushing::flush;
-use crate::flush::group::{close, leaves};
+use crate::flush::group::{close, leaves, source_leaves};
 use crate::form::children::Children;
 use crate::form::mode::Mode;
 use crate::form::node::{Node, Siblings};
 use crate::form::rows::Rows;
 use crate::form::shape::Shape;
+use crate::form::source::RowSource;
 use crate::read::walk::Walk;
 use bt_keycode::Key;
 use bt_messages::{Bins, Merge, Packet};
@@ -164,6 +165,24 @@ pub fn pack<V: Merge>(
     ensures dry { IfOk result (λ tree. IsDry tree.1) }
 {
     let siblings = leaves(alloc, shape, Rows::from_sorted(rows))?;
+    Ok(crown(alloc, shape, siblings)?)
+}
+
+/// The tree that [`pack`] makes of rows, of so many that come one at a time. Each is moved into its leaf at once, and no list of all is made.
+pub fn pack_source<V: Merge, S: RowSource<V>>(
+    alloc: Global,
+    shape: Shape,
+    count: usize,
+    rows: S,
+) -> Result<Tree<V>, AllocError>
+    requires counted { count ≡ length (S.left rows) }
+    requires sorted { IsTrue (is_sorted key_cmp (S.left rows)) }
+    ensures tree { IfOk result (λ tree. tree ≡ (shape, packed shape (S.left rows))) }
+    ensures fits { IfOk result (λ tree. HasShape (weigh_of V.terms) tree.0 tree.1) }
+    ensures rows { IfOk result (λ tree. holds (effect_of V.terms.merged) tree.1 ≡ S.left rows) }
+    ensures dry { IfOk result (λ tree. IsDry tree.1) }
+{
+    let siblings = source_leaves(alloc, shape, count, rows)?;
     Ok(crown(alloc, shape, siblings)?)
 }
 

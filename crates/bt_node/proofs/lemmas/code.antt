@@ -22,4 +22,5 @@ pub mod RowsLimited
 pub mod RowsOfChildren
 pub mod RowsShown
 pub mod SiblingParts
+pub mod SourceLeaves
 pub mod Together

@@ -1,0 +1,40 @@
+use Rattle.std.proofs.Common.{◌∙◌, ap, rules, subst, sym}
+use Rattle.std.specs.FinMap.{is_sorted}
+use Rattle.std.specs.declared.option.Option.TheVariants.{None}
+use Rattle.bt_keycode.specs.Keys.{key_cmp}
+use Rattle.bt_messages.specs.Effects.{effect_of}
+use Rattle.bt_messages.specs.declared.message.Message.{Message}
+use Rattle.bt_messages.specs.Weights.{weigh_of}
+use Rattle.bt_node.specs.Drains.{AreDry}
+use Rattle.bt_node.specs.Fits.{IsRoomy, SiblingsFit}
+use Rattle.bt_node.specs.Flushes.{all_hold, crown, leaves}
+use Rattle.bt_node.specs.Trees.{nodes}
+use Rattle.bt_node.proofs.lemmas.crowns.ShapedTrees.{has_room}
+use Rattle.bt_node.proofs.lemmas.flushes.Drains.{crown_dries, dry-leaves}
+use Rattle.bt_node.proofs.lemmas.flushes.Groups.{leaves-hold}
+use Rattle.bt_node.proofs.lemmas.flushes.Laws.{leaves-fit}
+use Rattle.bt_keycode.proofs.offered.Truths.{t_true}
+use Rattle.bt_node.proofs.tree.pack_source.Goals as goal
+
+pub crown-requires : goal.crown-requires
+crown-requires g c =
+    let M = Message g.row.V.Denot g.row.V-Delta.Denot in
+    let left = g.S.RowSource.left c.args.rows in
+    let roomy : IsRoomy c.args.shape = search (has_room, rules) in
+    let is = c.in_ok-siblings.ensures in
+    let sorted = t_true (is_sorted key_cmp left) c.requires.sorted in
+    (0, subst (SiblingsFit (weigh_of g.V.Merge.terms) c.args.shape 0 None None) (sym is) (leaves-fit (weigh_of g.V.Merge.terms) c.args.shape left roomy sorted))
+
+pub returns : goal.returns
+returns g c =
+    let M = Message g.row.V.Denot g.row.V-Delta.Denot in
+    let left = g.S.RowSource.left c.args.rows in
+    let effect = effect_of g.V.Merge.terms.merged in
+    let made = c.in_ok-crown.ensures in
+    let is = c.in_ok-siblings.ensures in
+    record {
+      tree = made.tree ∙ ap (λ xs. (c.args.shape, crown c.args.shape xs)) is;
+      fits = made.fits;
+      rows = made.rows ∙ ap (all_hold effect) is ∙ leaves-hold effect c.args.shape left;
+      dry = crown_dries c.args.shape _ _ made.tree (subst (λ xs. AreDry (nodes xs)) (sym is) (dry-leaves M c.args.shape left));
+    }
