@@ -164,8 +164,8 @@ fn first_value<'a: 'b, 'b>(
     }
 }
 
-// Whether the bytes are the code of values of these kinds. Takes no memory.
-fn is_code(kinds: &[Kind], bytes: &[u8]) -> bool
+/// Whether the bytes are the code of values of these kinds. Takes no memory.
+pub fn is_code(kinds: &[Kind], bytes: &[u8]) -> bool
     ensures yes { result ≡ true → IsCode kinds.now bytes.now }
     ensures no { result ≡ false → IsNoCode kinds.now bytes.now }
 {

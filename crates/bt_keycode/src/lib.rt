@@ -30,6 +30,6 @@ mod zeros;
 
 pub use code::{cmp_rows, encode, encode_prefix, encode_row};
 pub use code_builder::CodeBuilder;
-pub use decoder::{DecodeError, decode, decode_onto};
+pub use decoder::{DecodeError, decode, decode_onto, is_code};
 pub use key::{Key, SHORT_KEY};
 pub use lengths::{MOST_WEIGHT, change_code_len, code_len, row_code_len};

@@ -8,10 +8,10 @@ use Rattle.bt_value.specs.declared.value.Kind.{Kind}
 use Rattle.bt_value.specs.declared.value.Value.{Value}
 use Rattle.bt_value.specs.declared.value.Value.TheVariants as value
 use Rattle.bt_value.proofs.offered.SameValues.{same_values-sound}
-use Rattle.bt_keycode.specs.Codes.{IsCodeOf, code_of, kind_of}
+use Rattle.bt_keycode.specs.Codes.{IsCode, IsCodeOf, IsNoCode, code_of, kind_of}
 use Rattle.bt_keycode.specs.Decodings.{decoded}
 use Rattle.bt_keycode.specs.Keys.{Key}
-use Rattle.bt_keycode.proofs.offered.Decoded.{code_decoded, decoded_code}
+use Rattle.bt_keycode.proofs.offered.Decoded.{code_decoded, decoded_code, none_decoded}
 use Rattle.bt_keycode.proofs.offered.Ranges.{take_in_range}
 use Rattle.bt_view.specs.Groups.{most_rows, number_in, number_of_value}
 use Rattle.bt_view.specs.inside.Entries.{row_of_entry}
@@ -50,6 +50,18 @@ row_values kinds key included row = of_read (decoded kinds key) refl
     of_read None same is = absurd (none-some row is)
     of_read (Some values) same is = (values, (decoded_code kinds key values same, sym (ap (or_values row) is)))
 
+-- the number at a place of the row of an entry, after the values of the key: it is that of an included value, if the key is a code
+module _ (kinds : List Kind) (key : Key) (included : List Value) (place : ℕ) where
+  pub included_number : IsCode kinds key → length kinds ≤ place
+      → option_map (λ row. number_in row place) (row_of_entry kinds (key, included)) ≡ Some (number_in included (place - length kinds))
+  included_number is few =
+      let long : length is.0 ≡ length kinds = sym (length-map is.0 kind_of) ∙ ap length is.1.of_kinds in
+      ap (λ read. option_map (λ row. number_in row place) (option_map (λ values. values ++ included) read)) (code_decoded kinds key is.0 is.1)
+      ∙ ap (λ v. Some (number_of_value v)) (get_or-append_right is.0 included (length kinds) place (value.Flag false) long few)
+
+  pub no_number : IsNoCode kinds key → option_map (λ row. number_in row place) (row_of_entry kinds (key, included)) ≡ None
+  no_number none = ap (λ read. option_map (λ row. number_in row place) (option_map (λ values. values ++ included) read)) (none_decoded kinds key none)
+
 module _ (kinds : List Kind) (g : ℕ × ℕ × Groups) (front : Key) (values : List Value) (is : IsFront kinds g front values) where
   as_many : length values ≡ g.0
   as_many = sym (length-map values kind_of) ∙ ap length is.code.of_kinds ∙ length-take-le g.0 kinds is.few
@@ -70,6 +82,21 @@ module _ (kinds : List Kind) (g : ℕ × ℕ × Groups) (front : Key) (values : 
   -- and its number comes after the front
   pub number_behind : (others : List Value) → number_in (values ++ others) g.1 ≡ number_in others (g.1 - g.0)
   number_behind others = ap number_of_value (get_or-append_right values others g.0 g.1 (value.Flag false) as_many is.behind)
+
+  abbrev IsOfLast : Key → List Value → Option ℤ → Type 0
+  IsOfLast key included number =
+      IfSome number (λ number. (row : List Value) × ((row_of_entry kinds (key, included) ≡ Some row) × IsLastOf (take g.0 row) g.2 × (number_in row g.1 ≡ number)))
+
+  -- a number that the row of the rest has, by the kinds after those of a group, is that of a row of the last group
+  pub last_number : (key rest : Key) (included : List Value) → key ≡ front ++ rest
+      → (number : Option ℤ) → number ≡ option_map (λ row. number_in row (g.1 - g.0)) (row_of_entry (drop g.0 kinds) (rest, included))
+      → IsOfLast key included number
+  last_number key rest included begins number found = subst (IsOfLast key included) (sym found) (by_row (row_of_entry (drop g.0 kinds) (rest, included)) refl)
+    where
+      by_row : (shown : Option (List Value)) → row_of_entry (drop g.0 kinds) (rest, included) ≡ shown
+          → IsOfLast key included (option_map (λ row. number_in row (g.1 - g.0)) shown)
+      by_row None shows = tt
+      by_row (Some others) shows = (values ++ others, (row_behind key rest included others begins shows, last_behind others, number_behind others))
 
 -- ---- the last of groups
 

@@ -2,7 +2,7 @@
 //!
 //! The code of a group's columns is the front of the key of each of its entries. So an entry whose key begins with the front of the last group is of that
 //! group, and only what stands behind the front is decoded.
-ghost use Rattle.std.specs.Prelude.{◌≡◌, ◌≢◌, ◌≤◌, ◌++◌, [], IfOk, IfSome, List, MatchOption, Some, drop, length, take, ℕ};
+ghost use Rattle.std.specs.Prelude.{◌≡◌, ◌≢◌, ◌≤◌, ◌++◌, [], IfOk, IfSome, List, MatchOption, Some, drop, length, option_map, take, ℕ};
 ghost use Rattle.bt_keycode.specs.Codes.{code_of};
 ghost use Rattle.bt_value.specs.declared.value.Value.{Value as value};
 ghost use Rattle.bt_view.specs.Groups.{number_in};
@@ -14,7 +14,7 @@ ghost use Rattle.bt_view.specs.inside.Neighbours.{joined_with, after_row};
 
 use crate::entry_rows::row_of_entry;
 use crate::groups::{Grouping, number_in};
-use bt_keycode::{Key, encode_row};
+use bt_keycode::{Key, encode_row, is_code};
 use bt_messages::Entry;
 use bt_node::{ForkVisitor, Visitor};
 use bt_row::Row;
@@ -49,6 +49,30 @@ fn behind_front<'k>(front: &Key, key: &'k Key) -> Option<&'k [u8]>
     ensures { MatchOption result ((rest : List ℕ) → key.now ≢ front.now ++ rest) (λ rest. key.now ≡ front.now ++ rest.now) }
 {
     key.as_slice().strip_prefix(front.as_slice())
+}
+
+// The number at a place of the row of an entry, if its key is a code of values of these kinds. The number of a column that the index includes is read from the
+// entry, and the key is not decoded.
+fn number_of_entry(
+    alloc: Global,
+    kinds: &[Kind],
+    key: &[u8],
+    entry: &Entry,
+    place: usize,
+) -> Result<Option<i64>, AllocError>
+    ensures { IfOk result (λ number. number ≡ option_map (λ row. number_in row place) (row_of_entry kinds.now (key.now, entry.now))) }
+{
+    let Some(included) = place.checked_sub(kinds.len()) else {
+        return match row_of_entry(alloc, kinds, key, entry)? {
+            Some(row) => Ok(Some(number_in(&row, place))),
+            None => Ok(None),
+        };
+    };
+    if is_code(kinds, key) {
+        Ok(Some(number_in(entry.as_row(), included)))
+    } else {
+        Ok(None)
+    }
 }
 
 // The kinds behind so many of the first columns.
@@ -118,10 +142,7 @@ impl<'a> EntryGroups<'a> {
         };
         let columns = self.groups.columns();
         let kinds = behind_columns(self.kinds, columns);
-        match row_of_entry(alloc, kinds, rest, entry)? {
-            Some(row) => Ok(Some(number_in(&row, self.groups.place() - columns))),
-            None => Ok(None),
-        }
+        number_of_entry(alloc, kinds, rest, entry, self.groups.place() - columns)
     }
 }
 
