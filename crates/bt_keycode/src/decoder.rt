@@ -164,15 +164,28 @@ fn first_value<'a: 'b, 'b>(
     }
 }
 
+// The bytes after the code of a value of this kind, if they begin with one. The bytes of an int are not read.
+fn after_first(kind: Kind, bytes: &[u8]) -> Option<&[u8]>
+    ensures found { IfSome result (λ rest. (first : value) × BeginsWith kind bytes.now first rest.now) }
+    ensures none { IfNone result (BeginsWithNo kind bytes.now) }
+{
+    if let Kind::Int = kind {
+        let (_, rest) = first_number(bytes)?;
+        return Some(rest);
+    }
+    let mut room = [0; MOST_VALUE_BYTES];
+    let (_, rest) = first_value(kind, bytes, &mut room)?;
+    Some(rest)
+}
+
 /// Whether the bytes are the code of values of these kinds. Takes no memory.
 pub fn is_code(kinds: &[Kind], bytes: &[u8]) -> bool
     ensures yes { result ≡ true → IsCode kinds.now bytes.now }
     ensures no { result ≡ false → IsNoCode kinds.now bytes.now }
 {
-    let mut room = [0; MOST_VALUE_BYTES];
     let mut code = bytes;
     for kind in kinds {
-        let Some((_, rest)) = first_value(*kind, code, &mut room) else {
+        let Some(rest) = after_first(*kind, code) else {
             return false;
         };
         code = rest;

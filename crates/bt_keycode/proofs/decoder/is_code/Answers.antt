@@ -1,6 +1,5 @@
 use Rattle.std.proofs.Common.{◌≡◌, arith, ◌∙◌, ◌++◌, ◌∷◌, [], ap, length, refl, sym}
 use Rattle.std.proofs.lemmas.Bool.{eqb-false, eqb-true}
-use Rattle.bt_value.specs.Views.{value_of_ref}
 use Rattle.bt_value.specs.declared.value.Kind.TheVariants as kind
 use Rattle.bt_keycode.proofs.Decoding.{goes_on, goes_past, no_values, none_begins, nothing, nothing_past, of_all}
 use Rattle.bt_keycode.specs.inside.CodeBeginnings.{BeginsWithAll}
@@ -12,10 +11,10 @@ returns-in_default-clause-no c = λ _. no_values c.args.kinds.now c.args.bytes.n
 
 pub loop-kind-preserved : goal.loop-kind-preserved
 loop-kind-preserved c =
-    let value = value_of_ref c.in-Some.field-0-0 in (
-      c.loop-kind.invariant.0 ++ value ∷ [],
-      goes_on c.args.kinds.now c.loop-kind.kind-index kind.Int c.args.bytes.now c.loop-kind.invariant.0 (c.loop-kind.invariant.0 ++ value ∷ []) value c.loop-kind.code.now c.in-Some.rest.now
-          c.loop-kind-test.true refl c.loop-kind.invariant.1 c.in-Some.ensures.found,
+    let found = c.in-Some.ensures.found in (
+      c.loop-kind.invariant.0 ++ found.0 ∷ [],
+      goes_on c.args.kinds.now c.loop-kind.kind-index kind.Int c.args.bytes.now c.loop-kind.invariant.0 (c.loop-kind.invariant.0 ++ found.0 ∷ []) found.0
+          c.loop-kind.code.now c.in-Some.rest.now c.loop-kind-test.true refl c.loop-kind.invariant.1 found.1,
     )
 
 all_begun : (c : goal.After-is_empty) → BeginsWithAll c.args.kinds.now c.args.bytes.now c.loop-kind.invariant.0 c.loop-kind.code.now
