@@ -1,5 +1,5 @@
 //! Groups of rows: how many rows each has, and the sum of a column.
-ghost use Rattle.std.specs.Prelude.{◌≡◌, ◌≤◌, ◌∷◌, [], IfOk, List, None, Some, false, if◌then◌else◌, take, true};
+ghost use Rattle.std.specs.Prelude.{◌≡◌, ◌≤◌, ◌++◌, ◌∷◌, [], IfOk, List, None, Some, false, if◌then◌else◌, take, true};
 ghost use Rattle.bt_value.specs.Answers.{Answers};
 ghost use Rattle.bt_value.specs.Results.{or_refused};
 ghost use Rattle.bt_value.specs.Views.{value_of_ref};
@@ -75,6 +75,17 @@ fn count_rows(sum: &mut Sum, count: u64, total: i128) -> bool
     true
 }
 
+// Whether a row belongs to the last group.
+fn is_of_last(groups: &[Sum], columns: usize, row: &Row) -> bool
+    ensures last { result ≡ true → IsLastOf (take columns row.now) (Some groups.now) }
+    ensures other { result ≡ false → (own : Sum) → own.group ≡ take columns row.now → groups_then groups.now (own ∷ []) ≡ Some (groups.now ++ own ∷ []) }
+{
+    match groups.last() {
+        Some(last) => row.starts_with(columns, &last.group),
+        None => false,
+    }
+}
+
 // Adds a row after groups, to the last group if it belongs there, and returns whether that was possible.
 fn add_row(
     alloc: Global,
@@ -87,18 +98,9 @@ fn add_row(
     ensures groups { IfOk result (λ fits. groups_then groups.old.items (group_of columns place row.now ∷ []) ≡ (if fits then Some groups.new.items else None)) }
     ensures bounded { AreBounded groups.new.items }
 {
-    let Some(mut last) = groups.pop() else {
-        groups.push(group_of(alloc, columns, place, row)?)?;
-        return Ok(true);
-    };
-    if row.starts_with(columns, &last.group) {
-        if !count_rows(&mut last, 1, i128::from(number_in(row, place))) {
-            return Ok(false);
-        }
-        groups.push_reserved(last);
-        return Ok(true);
+    if is_of_last(groups, columns, row) {
+        return Ok(count_in_last(groups, number_in(row, place)));
     }
-    groups.push(last)?;
     groups.push(group_of(alloc, columns, place, row)?)?;
     Ok(true)
 }
@@ -109,14 +111,10 @@ fn count_in_last(groups: &mut Vec<Sum>, number: i64) -> bool
     ensures groups { (values : List value) → IsLastOf values (Some groups.old.items) → groups_then groups.old.items (record { group = values; count = 1; total = number } ∷ []) ≡ (if result then Some groups.new.items else None) }
     ensures bounded { AreBounded groups.new.items }
 {
-    let Some(mut last) = groups.pop() else {
+    let Some(last) = groups.last_mut() else {
         return true;
     };
-    if !count_rows(&mut last, 1, i128::from(number)) {
-        return false;
-    }
-    groups.push_reserved(last);
-    true
+    count_rows(last, 1, i128::from(number))
 }
 
 // Adds groups after others, and returns whether that was possible. If the first of them and the last of the others are the same group, they become one.

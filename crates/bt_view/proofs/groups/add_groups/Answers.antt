@@ -54,7 +54,8 @@ returns-then-same_values-clause-bounded c =
     let both = c.count_rows.new.sum in
     let before = (last-bounded c.args.groups.now.items c.pop.new.self.items c.in-Some.last c.in-Some.ensures.items c.requires.groups).0 in
     let came : c.append-then-same_values.new.self.items ≡ c.pop.new.self.items ++ set c.args.behind.items 0 both = search rules in
-    subst AreBounded (sym came) (bounded-append c.pop.new.self.items (set c.args.behind.items 0 both) before (bounded-set c.args.behind.items both c.requires.behind c.count_rows.ensures.bounded))
+    subst AreBounded (sym came)
+    (bounded-append c.pop.new.self.items (set c.args.behind.items 0 both) before (bounded-set c.args.behind.items 0 both c.requires.behind c.count_rows.ensures.bounded))
 
 pub returns-clause-groups : goal.returns-clause-groups
 returns-clause-groups c =
