@@ -7,5 +7,6 @@ pub mod Pieces
 pub mod Places
 pub mod Repeats
 pub mod Rows
+pub mod RowsLeft
 pub mod Stands
 pub mod WorkedRows

@@ -18,8 +18,10 @@ mod loading;
 mod placed;
 mod read;
 mod sort;
+mod sorted_rows;
 mod typing;
 
 pub use loading::{InThreads, InTurn, Loading};
 pub use read::{read_records, read_records_by};
-pub use sort::{load_rows, load_rows_by};
+pub use sort::{load_rows, load_rows_by, sorted_rows_by};
+pub use sorted_rows::SortedRows;
