@@ -1,13 +1,16 @@
 //! The key code of values.
-ghost use Rattle.std.specs.Prelude.{◌≡◌, ◌≤◌, IfOk, length, take};
+ghost use Rattle.std.specs.List.{list_any};
+ghost use Rattle.std.specs.Prelude.{◌≡◌, ◌+◌, ◌≤◌, ◌++◌, ◌∷◌, [], IfOk, false, length, nat_eq, take};
 ghost use Rattle.bt_value.specs.Values.{value_cmp, values_cmp};
-ghost use Rattle.bt_keycode.specs.Codes.{HaveSameKinds, IsNoProperPrefix, code_of, code_of_value, eight_bytes, kind_of, raised};
+ghost use Rattle.bt_value.specs.Views.{value_of_ref};
+ghost use Rattle.bt_keycode.specs.Codes.{HaveSameKinds, IsNoProperPrefix, code_of, code_of_value, eight_bytes, escaped, kind_of, raised};
 ghost use Rattle.bt_keycode.specs.Keys.{key_cmp};
 
 use crate::code_builder::{CodeBuilder, int_code};
-use crate::key::Key;
+use crate::key::{Key, SHORT_KEY};
+use crate::zeros::split_at_zero;
 use bt_row::{Row, Values, compare_values};
-use bt_value::{Content, Value};
+use bt_value::{Content, Value, ValueRef};
 use std::alloc::{AllocError, Global};
 use std::cmp::Ordering;
 
@@ -16,6 +19,54 @@ fn encode_int(alloc: Global, number: i64) -> Result<Key, AllocError>
     ensures { IfOk result (λ key. key ≡ eight_bytes (raised number)) }
 {
     Key::from_bytes(alloc, &int_code(number))
+}
+
+// The most bytes that a key keeps inline with 0 and 1 after them.
+const MOST_PLAIN: usize = SHORT_KEY - 2;
+
+// Few bytes, followed by 0 and 1.
+fn bytes_with_end(plain: &[u8]) -> [u8; SHORT_KEY]
+    requires { length plain.now ≤ MOST_PLAIN }
+    ensures { take (length plain.now + 2) result ≡ plain.now ++ (0 ∷ 1 ∷ []) }
+{
+    let mut bytes = [0; SHORT_KEY];
+    bytes[..plain.len()].copy_from_slice(plain);
+    bytes[plain.len() + 1] = 1;
+    bytes
+}
+
+// The key that encodes few bytes, none of them zero: the bytes, followed by 0 and 1.
+#[tactic(auto, using(crate::proofs::Escapes::escaped_no_zero))]
+fn encode_plain(alloc: Global, plain: &[u8]) -> Result<Key, AllocError>
+    requires few { length plain.now ≤ MOST_PLAIN }
+    requires no_zero { list_any (λ b. nat_eq b 0) plain.now ≡ false }
+    ensures { IfOk result (λ key. key ≡ escaped plain.now ++ (0 ∷ 1 ∷ [])) }
+{
+    let code = bytes_with_end(plain);
+    Key::from_bytes(alloc, &code[..plain.len() + 2])
+}
+
+// The key that encodes bytes.
+fn encode_bytes(alloc: Global, bytes: &[u8]) -> Result<Key, AllocError>
+    ensures { IfOk result (λ key. key ≡ escaped bytes.now ++ (0 ∷ 1 ∷ [])) }
+{
+    if bytes.len() <= MOST_PLAIN && split_at_zero(bytes).is_none() {
+        return encode_plain(alloc, bytes);
+    }
+    let mut code = CodeBuilder::new(alloc);
+    code.add_bytes(bytes)?;
+    code.finish()
+}
+
+// The key that encodes one value. A short one is written without a builder.
+fn encode_one(alloc: Global, value: ValueRef<'_>) -> Result<Key, AllocError>
+    ensures { IfOk result (λ key. key ≡ code_of_value (value_of_ref value.entry)) }
+{
+    match value.content() {
+        Content::Number(number) => encode_int(alloc, number),
+        Content::Bytes(bytes) => encode_bytes(alloc, bytes),
+        Content::Bit(bit) => Key::from_bytes(alloc, &[u8::from(bit)]),
+    }
 }
 
 // The key that encodes values, which are added one after the other.
@@ -37,10 +88,9 @@ fn encode_values(alloc: Global, values: Values<'_>) -> Result<Key, AllocError>
 {
     let mut rest = values.copy();
     if let Some(value) = rest.next()
-        && let Content::Number(number) = value.content()
         && rest.is_empty()
     {
-        return encode_int(alloc, number);
+        return encode_one(alloc, value);
     }
     encode_each(alloc, values)
 }

@@ -56,7 +56,7 @@ impl CodeBuilder {
     }
 
     // Adds the code of bytes. Each part up to a zero byte is added as a whole.
-    fn add_bytes(&mut self, bytes: &[u8]) -> Result<(), AllocError>
+    pub(crate) fn add_bytes(&mut self, bytes: &[u8]) -> Result<(), AllocError>
         ensures { OnOk result (self.new ≡ self.old ++ (escaped bytes.now ++ (0 ∷ 1 ∷ []))) }
     {
         let mut rest = bytes;
