@@ -4,7 +4,6 @@ pub mod ChildLists
 pub mod ChoiceLoop
 pub mod CrownLoop
 pub mod DealLoop
-pub mod DoublingSteps
 pub mod FirstChild
 pub mod FlushLoop
 pub mod GroupLoops

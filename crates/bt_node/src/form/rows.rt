@@ -11,7 +11,7 @@ use crate::form::deal;
 use crate::form::search::part_from;
 use crate::read::leaf_visits::split_first;
 use bt_keycode::Key;
-use bt_messages::{Merge, Stream, between, effect};
+use bt_messages::{Merge, Stream, between, count_before, effect};
 use std::alloc::{AllocError, Global};
 use std::cmp::Ordering;
 use std::collections::VecDeque;
@@ -131,14 +131,9 @@ impl<V: Merge> Rows<V> {
     pub(crate) fn find(&self, key: &Key) -> Option<&V>
         ensures { option_copied result ≡ find key_cmp key.now self.now }
     {
-        match self
-            .rows
-            .as_slice()
-            .binary_search_by(|row| row.0.compare(key))
-        {
-            Ok(place) => Some(&self.rows[place].1),
-            Err(_) => None,
-        }
+        let rows = self.rows.as_slice();
+        let later = &rows[count_before(rows, key)..];
+        split_first(later, key).0
     }
 
     /// The value at a key, and a place at which to start the search for the next key. The search is fastest if the row at `place`

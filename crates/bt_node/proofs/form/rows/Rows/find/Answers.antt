@@ -1,22 +1,25 @@
-use Rattle.std.proofs.Common.{◌≡◌, ◌∙◌, true, Some, ap, rules}
-use Rattle.std.proofs.lemmas.Fn.{always_returns_same}
+use Rattle.std.proofs.Common.{◌≡◌, ◌∙◌, true, subst, sym}
 use Rattle.std.specs.FinMap.{is_sorted}
 use Rattle.bt_keycode.specs.Keys.{key_cmp}
-use Rattle.bt_node.proofs.lemmas.code.RowSearch.{searched}
+use Rattle.bt_node.proofs.lemmas.code.RowPass.{before_of, sorted_from}
+use Rattle.bt_node.proofs.lemmas.code.RowSearch.{found_from, later_entries}
+use Rattle.bt_node.proofs.lemmas.rows.Between.{rows-in_order}
 use Rattle.bt_node.proofs.form.rows.Rows.find.Goals as goal
 
-pub returns-in-Ok : goal.returns-in-Ok
-returns-in-Ok g c =
-    let position = c.binary_search_by.ensures.position (λ row. key_cmp row.0 c.args.key.now) (always_returns_same _ _ _ (λ a r f called. search rules)) in
-    let sorted : is_sorted key_cmp c.as_slice.result.now ≡ true = rw c.as_slice.ensures.value c.self.invariant in
-    let found = (searched c.args.key.now c.as_slice.result.now sorted c.binary_search_by.result c.binary_search_by.ensures.bound position).found in
-    let at = rw c.in-Ok.is at found in
-    rw (← c.self.view_is) (ap (λ row. Some row.1) c.index.ensures ∙ (rw c.as_slice.ensures.value at (at c.index.result.now)))
+pub count_before-requires : goal.count_before-requires
+count_before-requires g c = rows-in_order c.self.inside.rows.items c.as_slice-rows.result.now c.as_slice-rows.ensures.value c.self.invariant
 
-pub returns-in-Err : goal.returns-in-Err
-returns-in-Err g c =
-    let position = c.binary_search_by.ensures.position (λ row. key_cmp row.0 c.args.key.now) (always_returns_same _ _ _ (λ a r f called. search rules)) in
-    let sorted : is_sorted key_cmp c.as_slice.result.now ≡ true = rw c.as_slice.ensures.value c.self.invariant in
-    let absent = (searched c.args.key.now c.as_slice.result.now sorted c.binary_search_by.result c.binary_search_by.ensures.bound position).absent in
-    let none = rw c.in-Err.is at absent in
-    rw (← c.self.view_is) (rw c.as_slice.ensures.value at none)
+pub split_first-requires-clause-sorted : goal.split_first-requires-clause-sorted
+split_first-requires-clause-sorted g c =
+    let later = later_entries c.args.key.now c.count_before.result c.as_slice-rows.ensures.value c.count_before.ensures.from in
+    subst (λ rows. is_sorted key_cmp rows ≡ true) (sym later) (sorted_from c.args.key.now c.self.inside.rows.items c.self.invariant)
+
+pub split_first-requires-clause-none_before : goal.split_first-requires-clause-none_before
+split_first-requires-clause-none_before g c =
+    let later = later_entries c.args.key.now c.count_before.result c.as_slice-rows.ensures.value c.count_before.ensures.from in
+    before_of c.args.key.now c.self.inside.rows.items _ later
+
+pub returns : goal.returns
+returns g c =
+    let later = later_entries c.args.key.now c.count_before.result c.as_slice-rows.ensures.value c.count_before.ensures.from in
+    rw (← c.self.view_is) (c.split_first.ensures.value ∙ found_from c.args.key.now c.self.inside.rows.items _ later)

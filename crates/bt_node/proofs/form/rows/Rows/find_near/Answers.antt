@@ -3,7 +3,7 @@ use Rattle.std.specs.FinMap.{is_sorted}
 use Rattle.bt_keycode.specs.Keys.{key_cmp}
 use Rattle.bt_node.specs.Messages.{from}
 use Rattle.bt_node.proofs.lemmas.code.RowPass.{before_of, sorted_from}
-use Rattle.bt_node.proofs.lemmas.code.DoublingSteps.{found_from}
+use Rattle.bt_node.proofs.lemmas.code.RowSearch.{found_from}
 use Rattle.bt_node.proofs.lemmas.rows.Between.{rows-in_order}
 use Rattle.bt_node.proofs.form.rows.Rows.find_near.Goals as goal
 
