@@ -38,7 +38,8 @@ module _ {X M : Type 0} (effect : Option X → M → Option X) where
   same_row : (covers : List ℕ → Bool) (batch : Messages M) (map : Rows X) (k : List ℕ) → is_some (find key_cmp k (covered covers (named batch))) ≡ false →
       find key_cmp k (covered covers map) ≡ find key_cmp k (covered covers (rows_after effect batch map))
   same_row covers batch map k h =
-      find-covered covers k map ∙ elim (covers k) as (λ t. is_some (cond t (find key_cmp k (named batch)) None) ≡ false → cond t (find key_cmp k map) None ≡ cond t (find key_cmp k (rows_after effect batch map)) None) [
+      find-covered covers k map ∙ elim (covers k) as (λ t. is_some (cond t (find key_cmp k (named batch)) None) ≡ false
+      → cond t (find key_cmp k map) None ≡ cond t (find key_cmp k (rows_after effect batch map)) None) [
         | true ↦ λ e. sym (find-rows_after effect k batch map ∙ unnamed k batch (find key_cmp k map) e)
         | false ↦ λ e. refl
       ] (sym (ap is_some (find-covered covers k (named batch))) ∙ h)
@@ -57,12 +58,15 @@ module _ {X E D : Type 0} (entry : List ℕ → X → Option (List ℕ × E)) (s
             let was = find-covered covers k.0 old ∙ ap (λ t. cond t (find key_cmp k.0 old) None) b in
             let is = find-covered covers k.0 new ∙ ap (λ t. cond t (find key_cmp k.0 new) None) b in
             ap (λ ms. between {D = D} same (entry_in entry k.0 (find key_cmp k.0 old)) (entry_in entry k.0 (find key_cmp k.0 new)) ++ ms) (entry_changes-covered covers old new ks)
-            ∙ ap (λ x. between {D = D} same (entry_in entry k.0 x) (entry_in entry k.0 (find key_cmp k.0 new)) ++ entry_changes entry {D = D} same (λ k. find key_cmp k (covered covers old)) (λ k. find key_cmp k (covered covers new)) (covered covers ks)) (sym was)
-            ∙ ap (λ x. between {D = D} same (entry_in entry k.0 (find key_cmp k.0 (covered covers old))) (entry_in entry k.0 x) ++ entry_changes entry {D = D} same (λ k. find key_cmp k (covered covers old)) (λ k. find key_cmp k (covered covers new)) (covered covers ks)) (sym is)
+            ∙ ap (λ x. between {D = D} same (entry_in entry k.0 x) (entry_in entry k.0 (find key_cmp k.0 new)) ++ entry_changes entry {D =
+            D} same (λ k. find key_cmp k (covered covers old)) (λ k. find key_cmp k (covered covers new)) (covered covers ks)) (sym was)
+            ∙ ap (λ x. between {D = D} same (entry_in entry k.0 (find key_cmp k.0 (covered covers old))) (entry_in entry k.0 x) ++ entry_changes entry {D =
+            D} same (λ k. find key_cmp k (covered covers old)) (λ k. find key_cmp k (covered covers new)) (covered covers ks)) (sym is)
         | false ↦ λ b. entry_changes-covered covers old new ks
       ] refl
 
-module _ {X E D : Type 0} (entry : List ℕ → X → Option (List ℕ × E)) (same : E → E → Bool) (sound : (a b : E) → same a b ≡ true → a ≡ b) (merged : Option E → D → E) (Stands : List ℕ → X → Type 0) (apart : AreApart Stands entry) where
+module _ {X E D : Type 0} (entry : List ℕ → X → Option (List ℕ × E)) (same : E → E → Bool) (sound : (a b : E) → same a b ≡ true → a ≡ b) (merged : Option E → D
+    → E) (Stands : List ℕ → X → Type 0) (apart : AreApart Stands entry) where
   -- The messages of a batch, sorted by key, change the index of the covered rows before it to that of the covered rows after it.
   pub index_turns : {M : Type 0} (effect : Option X → M → Option X) (covers : List ℕ → Bool) (batch : Messages M) (map : Rows X) → T (is_sorted key_cmp map) →
       EachStands Stands map → EachStands Stands (rows_after effect batch map) →

@@ -1,5 +1,6 @@
 -- A step of building sends the entries that the rows it reads add to the index.
-use Rattle.std.proofs.Common.{◌≡◌, ℕ, zero, suc, ◌<◌, Bool, true, false, cond, not, ◌&&◌, T, List, [], ◌∷◌, ◌++◌, length, take, refl, sym, ap, subst, ◌∙◌, Option, Some, None, is_some, if◌then◌else◌, true≢false, arith}
+use Rattle.std.proofs.Common.{◌≡◌, ℕ, zero, suc, ◌<◌, Bool, true, false, cond, not, ◌&&◌, T, List, [], ◌∷◌, ◌++◌, length, take}
+use Rattle.std.proofs.Common.{refl, sym, ap, subst, ◌∙◌, Option, Some, None, is_some, if◌then◌else◌, true≢false, arith}
 use Rattle.std.specs.Prelude.{nat_lt}
 use borrow.Author.Tests.{ltb-true}
 use Rattle.std.specs.Ordering.{eq_by_cmp}
@@ -102,10 +103,11 @@ module _ {X : Type 0} where
 
   out_covered : (cover : Cover) (rows : Rows X) → AllOut cover (covered (λ k. not (is_covered cover k)) rows)
   out_covered cover [] = tt
-  out_covered cover (r ∷ rows) = elim (is_covered cover r.0) as (λ b. is_covered cover r.0 ≡ b → AllOut cover (cond (not b) (r ∷ covered (λ k. not (is_covered cover k)) rows) (covered (λ k. not (is_covered cover k)) rows))) [
-    | true ↦ λ b. out_covered cover rows
-    | false ↦ λ b. (b, out_covered cover rows)
-  ] refl
+  out_covered cover (r ∷ rows) = elim (is_covered cover r.0) as (λ b. is_covered cover r.0 ≡ b
+      → AllOut cover (cond (not b) (r ∷ covered (λ k. not (is_covered cover k)) rows) (covered (λ k. not (is_covered cover k)) rows))) [
+        | true ↦ λ b. out_covered cover rows
+        | false ↦ λ b. (b, out_covered cover rows)
+      ] refl
 
   out_take : (cover : Cover) (n : ℕ) (rows : Rows X) → AllOut cover rows → AllOut cover (take n rows)
   out_take cover zero rows h = tt
@@ -178,10 +180,11 @@ module _ {X : Type 0} where
       (find-covered (is_covered (UpTo (last_key r.0 rs))) k rows)
 
   step : (n : ℕ) (cover : Cover) (rows : Rows X) → T (is_sorted key_cmp rows) → Step cover (cover_after n cover rows) rows (next_rows n cover rows)
-  step n cover rows h = elim (nat_lt (length (next_rows n cover rows)) n) as (λ t. nat_lt (length (next_rows n cover rows)) n ≡ t → Step cover (if t then Whole else moved_to cover (next_rows n cover rows)) rows (next_rows n cover rows)) [
-    | true ↦ λ t. all_read cover rows (next_rows n cover rows) (short n (covered (λ k. not (is_covered cover k)) rows) (omega (arith, ltb-true, t)))
-    | false ↦ λ t. some_read cover n rows (next_rows n cover rows) h refl
-  ] refl
+  step n cover rows h = elim (nat_lt (length (next_rows n cover rows)) n) as (λ t. nat_lt (length (next_rows n cover rows)) n ≡ t
+      → Step cover (if t then Whole else moved_to cover (next_rows n cover rows)) rows (next_rows n cover rows)) [
+        | true ↦ λ t. all_read cover rows (next_rows n cover rows) (short n (covered (λ k. not (is_covered cover k)) rows) (omega (arith, ltb-true, t)))
+        | false ↦ λ t. some_read cover n rows (next_rows n cover rows) h refl
+      ] refl
 
 module _ {X E D : Type 0} (entry : List ℕ → X → Option (List ℕ × E)) (same : E → E → Bool) where
   put_of-is : (e : Option (List ℕ × E)) → put_of_entry {D = D} e ≡ between {D = D} same None e
@@ -203,10 +206,12 @@ module _ {X E D : Type 0} (entry : List ℕ → X → Option (List ℕ × E)) (s
       ∙ ap (λ x. between {D = D} same (entry_in entry r.0 x) (entry r.0 r.1) ++ rest) (sym was)
       ∙ ap (λ x. between {D = D} same (entry_in entry r.0 (find key_cmp r.0 old)) (entry_in entry r.0 x) ++ rest) (sym is)
 
-module _ {X E D : Type 0} (entry : List ℕ → X → Option (List ℕ × E)) (same : E → E → Bool) (sound : (a b : E) → same a b ≡ true → a ≡ b) (merged : Option E → D → E) (Stands : List ℕ → X → Type 0) (apart : AreApart Stands entry) where
+module _ {X E D : Type 0} (entry : List ℕ → X → Option (List ℕ × E)) (same : E → E → Bool) (sound : (a b : E) → same a b ≡ true → a ≡ b) (merged : Option E → D
+    → E) (Stands : List ℕ → X → Type 0) (apart : AreApart Stands entry) where
   -- The puts of a step of building, sorted by key, change the index of the rows covered before it to that of the rows covered after it.
   pub builds : (n : ℕ) (cover : Cover) (rows : Rows X) → T (is_sorted key_cmp rows) → EachStands Stands rows →
-      rows_after (effect_of merged) (sorted_batch (puts_of entry (next_rows n cover rows))) (select entry (covered (is_covered cover) rows)) ≡ select entry (covered (is_covered (cover_after n cover rows)) rows)
+      rows_after (effect_of merged) (sorted_batch (puts_of entry (next_rows n cover rows))) (select entry (covered (is_covered cover) rows))
+      ≡ select entry (covered (is_covered (cover_after n cover rows)) rows)
   builds n cover rows h stand =
       let read = next_rows n cover rows in
       let next = cover_after n cover rows in

@@ -47,4 +47,5 @@ key_is false key values a e = cc
 pub apart : (def : Definition) (kinds : List Kind) → AreApart (StandsUnder def kinds) (entry_of def)
 apart def kinds j k x y a b s t e f same =
     behind_all (picked def.on x) (picked def.on y) (kinds_picked def.on x y (s.of_kinds ∙ sym t.of_kinds)) j k
-    (key_is (passes def.condition x) (code_of (picked def.on x) ++ j) (picked def.include x) a e ∙ same ∙ sym (key_is (passes def.condition y) (code_of (picked def.on y) ++ k) (picked def.include y) b f))
+    (key_is (passes def.condition x) (code_of (picked def.on x) ++ j) (picked def.include x) a e ∙ same
+    ∙ sym (key_is (passes def.condition y) (code_of (picked def.on y) ++ k) (picked def.include y) b f))

@@ -68,32 +68,39 @@ module _ (cover : Cover) where
 
     -- the effects of the first group, and of the others
     within-effects : (m : List ℕ × RowMessage) (ms : Messages RowMessage) → IsSorted (m ∷ ms) → effects_within cover (m ∷ ms) rows
-        ≡ cond (is_covered cover m.0) (record { key = m.0; before = find key_cmp m.0 rows; after = value_of_group row_effect m.0 ms (row_effect (find key_cmp m.0 rows) m.1) } ∷ effects_within cover (behind_group m.0 ms) rows)
+        ≡ cond (is_covered cover m.0) (record {
+          key = m.0;
+          before = find key_cmp m.0 rows;
+          after =
+              value_of_group row_effect m.0 ms (row_effect (find key_cmp m.0 rows) m.1);
+        } ∷ effects_within cover (behind_group m.0 ms) rows)
         (effects_within cover (behind_group m.0 ms) rows)
     within-effects m ms sorted = ap within (effects-group m ms rows sorted)
 
     effects-groups : (n : ℕ) (ms : Messages RowMessage) → length ms ≤ n → IsSorted ms → effects_by (groups_within cover ms) ms ≡ effects_within cover ms rows
     effects-groups n [] few sorted = refl
     effects-groups zero (m ∷ ms) few sorted = absurd (omega (arith, few))
-    effects-groups (suc n) (m ∷ ms) few sorted = elim (is_covered cover m.0) as (λ b. is_covered cover m.0 ≡ b → effects_by (groups_within cover (m ∷ ms)) (m ∷ ms) ≡ effects_within cover (m ∷ ms) rows) [
-      | true ↦ λ is.
-          let past = behind_group m.0 ms in
-          let row = find key_cmp m.0 rows in
-          let after = value_of_group row_effect m.0 ms (row_effect row m.1) in
-          let first : Option (List Value) → Effect = λ a. record { key = m.0; before = row; after = a } in
-          let shorter = length-behind m.0 ms in
-          ap (λ gs. effects_by gs (m ∷ ms)) (within-group cover m ms is)
-          ∙ ap (λ a. first a ∷ effects_by (groups_within cover past) (drop (group_count m.0 ms) ms)) (after-count row_effect m.0 ms (row_effect row m.1))
-          ∙ ap (λ zs. first after ∷ effects_by (groups_within cover past) zs) (drop-count m.0 ms)
-          ∙ ap (λ es. first after ∷ es) (effects-groups n past (omega (arith, few, shorter)) (sorted-behind m.0 ms sorted.1))
-          ∙ sym (within-effects m ms sorted ∙ ap (λ b. cond b (first after ∷ effects_within cover past rows) (effects_within cover past rows)) is)
-      | false ↦ λ none.
-          let row = find key_cmp m.0 rows in
-          let past = effects_within cover (behind_group m.0 ms) rows in
-          let first : Effect = record { key = m.0; before = row; after = value_of_group row_effect m.0 ms (row_effect row m.1) } in
-          ap (λ gs. effects_by gs (m ∷ ms)) (none_within cover m.0 (m ∷ ms) (not_before_itself m.0, sorted.0) none)
-          ∙ sym (within-effects m ms sorted ∙ ap (λ b. cond b (first ∷ past) past) none ∙ none_at _ _ m.0 (named (behind_group m.0 ms)) (past-named m ms sorted) none)
-    ] refl
+    effects-groups (suc n) (m ∷ ms) few sorted =
+        elim (is_covered cover m.0) as (λ b. is_covered cover m.0 ≡ b
+        → effects_by (groups_within cover (m ∷ ms)) (m ∷ ms) ≡ effects_within cover (m ∷ ms) rows) [
+          | true ↦ λ is.
+              let past = behind_group m.0 ms in
+              let row = find key_cmp m.0 rows in
+              let after = value_of_group row_effect m.0 ms (row_effect row m.1) in
+              let first : Option (List Value) → Effect = λ a. record { key = m.0; before = row; after = a } in
+              let shorter = length-behind m.0 ms in
+              ap (λ gs. effects_by gs (m ∷ ms)) (within-group cover m ms is)
+              ∙ ap (λ a. first a ∷ effects_by (groups_within cover past) (drop (group_count m.0 ms) ms)) (after-count row_effect m.0 ms (row_effect row m.1))
+              ∙ ap (λ zs. first after ∷ effects_by (groups_within cover past) zs) (drop-count m.0 ms)
+              ∙ ap (λ es. first after ∷ es) (effects-groups n past (omega (arith, few, shorter)) (sorted-behind m.0 ms sorted.1))
+              ∙ sym (within-effects m ms sorted ∙ ap (λ b. cond b (first after ∷ effects_within cover past rows) (effects_within cover past rows)) is)
+          | false ↦ λ none.
+              let row = find key_cmp m.0 rows in
+              let past = effects_within cover (behind_group m.0 ms) rows in
+              let first : Effect = record { key = m.0; before = row; after = value_of_group row_effect m.0 ms (row_effect row m.1) } in
+              ap (λ gs. effects_by gs (m ∷ ms)) (none_within cover m.0 (m ∷ ms) (not_before_itself m.0, sorted.0) none)
+              ∙ sym (within-effects m ms sorted ∙ ap (λ b. cond b (first ∷ past) past) none ∙ none_at _ _ m.0 (named (behind_group m.0 ms)) (past-named m ms sorted) none)
+        ] refl
 
     -- so these keys rise
     groups_rise : (ms : Messages RowMessage) → IsSorted ms → AreRising (map (λ g. g.0) (groups_within cover ms))
@@ -103,8 +110,10 @@ module _ (cover : Cover) where
 -- ---- the effects, one after the other
 
 -- one more effect
-pub one_effect : {K : Type 0} (seen : K → List ℕ) (keys : List K) (others : List ℕ) (rows later : List (Option (List Value))) (row : Option (List Value)) (ms left : Messages RowMessage) (place : ℕ) (key : K)
-    (count : ℕ) (effect : Effect) (whole old new : List Effect) → length old < length keys → length old < length others → place ≡ length old → key ≡ get_or keys place key → count ≡ get_or others place count →
+pub one_effect : {K : Type 0} (seen : K → List ℕ) (keys : List K) (others : List ℕ) (rows later : List (Option (List Value))) (row
+    : Option (List Value)) (ms left : Messages RowMessage) (place : ℕ) (key : K)
+    (count : ℕ) (effect : Effect) (whole old new : List Effect) → length old < length keys → length old < length others → place ≡ length old
+    → key ≡ get_or keys place key → count ≡ get_or others place count →
     rows ≡ row ∷ later → effect.key ≡ seen key → effect.before ≡ row → effect.after ≡ value_after_first row_effect (count + 1) ms row → left ≡ drop (count + 1) ms → new ≡ old ++ effect ∷ [] →
     whole ≡ old ++ effects_in (map seen (drop (length old) keys)) (drop (length old) others) rows ms →
     whole ≡ new ++ effects_in (map seen (drop (length new) keys)) (drop (length new) others) later left
@@ -126,7 +135,8 @@ one_effect seen keys others rows later row ms left place key count effect whole 
     ∙ ap (λ es. es ++ effects_in (map seen (drop (length new) keys)) (drop (length new) others) later left) (sym more)
 
 -- The keys of a packet that a cover covers, and for each how many messages it has after its first one.
-module _ {K : Type 0} (seen : K → List ℕ) (cover : Cover) (ms : Messages RowMessage) (keys : List K) (others : List ℕ) (is_keys : map seen keys ≡ map (λ g. g.0) (groups_within cover ms)) (is_others : others ≡ map (λ g. g.1) (groups_within cover ms)) (sorted : IsSorted ms) where
+module _ {K : Type 0} (seen : K → List ℕ) (cover : Cover) (ms : Messages RowMessage) (keys : List K) (others : List ℕ) (is_keys
+    : map seen keys ≡ map (λ g. g.0) (groups_within cover ms)) (is_others : others ≡ map (λ g. g.1) (groups_within cover ms)) (sorted : IsSorted ms) where
   pub keys_rise : AreRising (map seen keys)
   keys_rise = subst AreRising (sym is_keys) (groups_rise cover [] ms sorted)
 
@@ -144,5 +154,6 @@ module _ {K : Type 0} (seen : K → List ℕ) (cover : Cover) (ms : Messages Row
     effects_are =
         let gs = groups_within cover ms in
         let rows_are : found ≡ map (λ g. find key_cmp g.0 rows) gs = is_found ∙ same_found (λ k. find key_cmp k rows) seen (λ g. g.0) keys gs is_keys in
-        ap (λ ks. effects_in ks others found ms) is_keys ∙ ap (λ ns. effects_in (map (λ g. g.0) gs) ns found ms) is_others ∙ ap (λ rs. effects_in (map (λ g. g.0) gs) (map (λ g. g.1) gs) rs ms) rows_are
+        ap (λ ks. effects_in ks others found ms) is_keys ∙ ap (λ ns. effects_in (map (λ g. g.0) gs) ns found ms) is_others
+        ∙ ap (λ rs. effects_in (map (λ g. g.0) gs) (map (λ g. g.1) gs) rs ms) rows_are
         ∙ effects-groups cover rows (length ms) ms (omega arith) sorted

@@ -1,5 +1,6 @@
 -- The keys of sorted messages and their effects, one key at a time.
-use Rattle.std.proofs.Common.{◌≡◌, ℕ, suc, ◌<◌, ◌≤◌, Bool, true, false, cond, not, T, List, [], ◌∷◌, ◌++◌, append-nil, append_assoc, drop, length, map, refl, sym, ap, subst, ◌∙◌, Option, if◌then◌else◌, true≢false, arith}
+use Rattle.std.proofs.Common.{◌≡◌, ℕ, suc, ◌<◌, ◌≤◌, Bool, true, false, cond, not, T, List, [], ◌∷◌, ◌++◌, append-nil, append_assoc}
+use Rattle.std.proofs.Common.{drop, length, map, refl, sym, ap, subst, ◌∙◌, Option, if◌then◌else◌, true≢false, arith}
 use Rattle.std.proofs.lemmas.List.{map-append}
 use Rattle.std.proofs.lemmas.Simd.{map-map}
 use Rattle.std.specs.List.{filter}
@@ -61,7 +62,8 @@ module _ {M : Type 0} where
         | true ↦ λ b.
             subst (λ j. put key_cmp j tt (named (m ∷ ms)) ≡ (j, tt) ∷ named (behind_group j ms)) (sym (same_key k m.0 b))
             (ap (put key_cmp m.0 tt) first
-            ∙ ap (λ o. by_order o ((m.0, tt) ∷ (m.0, tt) ∷ named (behind_group m.0 ms)) ((m.0, tt) ∷ named (behind_group m.0 ms)) ((m.0, tt) ∷ put key_cmp m.0 tt (named (behind_group m.0 ms)))) (tied_itself total_keys m.0))
+            ∙ ap (λ o. by_order o ((m.0, tt) ∷ (m.0, tt) ∷ named (behind_group m.0 ms)) ((m.0, tt) ∷ named (behind_group m.0 ms))
+            ((m.0, tt) ∷ put key_cmp m.0 tt (named (behind_group m.0 ms)))) (tied_itself total_keys m.0))
         | false ↦ λ b.
             let less = is_less (key_cmp k m.0) (goes_before k m.0 b a.0) in
             ap (put key_cmp k tt) first
@@ -89,7 +91,8 @@ module _ {M : Type 0} where
           | false ↦ λ b. refl
         ] refl
 
-effects_at-alike : (f g h : List ℕ → Option (List Value)) (j : List ℕ) (ks : Rows (Unit {0})) → T (below_all key_cmp j ks) → ((k : List ℕ) → is_before j k ≡ true → g k ≡ h k) → effects_at f g ks ≡ effects_at f h ks
+effects_at-alike : (f g h : List ℕ → Option (List Value)) (j : List ℕ) (ks : Rows (Unit {0})) → T (below_all key_cmp j ks)
+    → ((k : List ℕ) → is_before j k ≡ true → g k ≡ h k) → effects_at f g ks ≡ effects_at f h ks
 effects_at-alike f g h j [] b same = refl
 effects_at-alike f g h j (k ∷ ks) b same =
     let here : g k.0 ≡ h k.0 = same k.0 (true_t _ (t_first _ _ b)) in
@@ -218,7 +221,8 @@ none_left : {A B : Type 0} (f : A → B) (whole old : List B) (left : List A) �
 none_left f whole old left none is = sym (is ∙ ap (λ xs. old ++ map f xs) none ∙ append-nil old)
 
 -- and if the next key isn't covered
-pub none_left_covered : {M B : Type 0} (f : List ℕ × ℕ → B) (cover : Cover) (m : List ℕ × M) (ms left : Messages M) (whole old : List B) → left ≡ m ∷ ms → IsSorted left → is_covered cover m.0 ≡ false →
+pub none_left_covered : {M B : Type 0} (f : List ℕ × ℕ → B) (cover : Cover) (m : List ℕ × M) (ms left : Messages M) (whole old : List B) → left ≡ m ∷ ms
+    → IsSorted left → is_covered cover m.0 ≡ false →
     whole ≡ old ++ map f (groups_within cover left) → old ≡ whole
 none_left_covered f cover m ms left whole old is sorted none are = none_left f whole old (groups_within cover left) (none_covered cover m ms left is sorted none) are
 
@@ -241,5 +245,6 @@ one_key seen cover m ms left later key count keys new_keys others new_others who
     )
 
 -- what the same keys have
-pub same_found : {K L V : Type 0} (f : List ℕ → V) (seen : K → List ℕ) (named_as : L → List ℕ) (keys : List K) (ks : List L) → map seen keys ≡ map named_as ks → map (λ k. f (seen k)) keys ≡ map (λ k. f (named_as k)) ks
+pub same_found : {K L V : Type 0} (f : List ℕ → V) (seen : K → List ℕ) (named_as : L → List ℕ) (keys : List K) (ks : List L) → map seen keys ≡ map named_as ks
+    → map (λ k. f (seen k)) keys ≡ map (λ k. f (named_as k)) ks
 same_found f seen named_as keys ks is = sym (map-map f seen keys) ∙ ap (map f) is ∙ map-map f named_as ks

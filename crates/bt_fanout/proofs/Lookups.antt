@@ -66,21 +66,23 @@ module _ {X E : Type 0} (entry : List ℕ → X → Option (List ℕ × E)) wher
   -- what the index has at q comes from that row
   pub find-select : (q k : List ℕ) (rows : Rows X) → T (is_sorted key_cmp rows) → IsOwner q k rows → find key_cmp q (select entry rows) ≡ value_at q (entry_in entry k (find key_cmp k rows))
   find-select q k [] s o = refl
-  find-select q k (r ∷ rows) s o = elim (is_at q (entry r.0 r.1)) as (λ t. is_at q (entry r.0 r.1) ≡ t → find key_cmp q (select entry (r ∷ rows)) ≡ value_at q (entry_in entry k (find key_cmp k (r ∷ rows)))) [
-    | true ↦ λ t.
-        let one = o.0 t in
-        let found : find key_cmp k (r ∷ rows) ≡ Some r.1 = ap (λ b. cond b (Some r.1) (find key_cmp k rows)) (ap (λ j. eq_by_cmp key_cmp k j) one ∙ equal_itself k) in
-        find-here q (entry r.0 r.1) (select entry rows) t ∙ ap (λ j. value_at q (entry j r.1)) one ∙ sym (ap (λ x. value_at q (entry_in entry k x)) found)
-    | false ↦ λ t.
-        let others = find-elsewhere q (entry r.0 r.1) (select entry rows) t ∙ find-select q k rows (t_second _ _ s) o.1 in
-        others ∙ elim (eq_by_cmp key_cmp k r.0) as (λ b. eq_by_cmp key_cmp k r.0 ≡ b → value_at q (entry_in entry k (find key_cmp k rows)) ≡ value_at q (entry_in entry k (cond b (Some r.1) (find key_cmp k rows)))) [
-          | true ↦ λ b.
-              let one = same_key k r.0 b in
-              let none = ap (λ j. find key_cmp j rows) one ∙ find_below r.0 rows (t_first _ _ s) in
-              ap (λ x. value_at q (entry_in entry k x)) none ∙ sym (value_elsewhere q (entry r.0 r.1) t) ∙ ap (λ j. value_at q (entry j r.1)) (sym one)
-          | false ↦ λ b. refl
-        ] refl
-  ] refl
+  find-select q k (r ∷ rows) s o = elim (is_at q (entry r.0 r.1)) as (λ t. is_at q (entry r.0 r.1) ≡ t
+      → find key_cmp q (select entry (r ∷ rows)) ≡ value_at q (entry_in entry k (find key_cmp k (r ∷ rows)))) [
+        | true ↦ λ t.
+            let one = o.0 t in
+            let found : find key_cmp k (r ∷ rows) ≡ Some r.1 = ap (λ b. cond b (Some r.1) (find key_cmp k rows)) (ap (λ j. eq_by_cmp key_cmp k j) one ∙ equal_itself k) in
+            find-here q (entry r.0 r.1) (select entry rows) t ∙ ap (λ j. value_at q (entry j r.1)) one ∙ sym (ap (λ x. value_at q (entry_in entry k x)) found)
+        | false ↦ λ t.
+            let others = find-elsewhere q (entry r.0 r.1) (select entry rows) t ∙ find-select q k rows (t_second _ _ s) o.1 in
+            others ∙ elim (eq_by_cmp key_cmp k r.0) as (λ b. eq_by_cmp key_cmp k r.0 ≡ b
+            → value_at q (entry_in entry k (find key_cmp k rows)) ≡ value_at q (entry_in entry k (cond b (Some r.1) (find key_cmp k rows)))) [
+              | true ↦ λ b.
+                  let one = same_key k r.0 b in
+                  let none = ap (λ j. find key_cmp j rows) one ∙ find_below r.0 rows (t_first _ _ s) in
+                  ap (λ x. value_at q (entry_in entry k x)) none ∙ sym (value_elsewhere q (entry r.0 r.1) t) ∙ ap (λ j. value_at q (entry j r.1)) (sym one)
+              | false ↦ λ b. refl
+            ] refl
+      ] refl
 
   -- the row under another key has no entry with the key q
   pub not-owner : (q k j : List ℕ) (rows : Rows X) → IsOwner q k rows → eq_by_cmp key_cmp j k ≡ false → is_at q (entry_in entry j (find key_cmp j rows)) ≡ false

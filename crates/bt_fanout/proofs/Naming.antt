@@ -1,5 +1,6 @@
 -- Names of columns, and the definition that they make.
-use Rattle.std.proofs.Common.{◌≡◌, ℕ, suc, ◌+◌, ◌<◌, ◌≤◌, ◌==◌, ◌&&◌, Bool, true, false, nat_le, List, [], ◌∷◌, ◌++◌, append_assoc, get_or, length, refl, sym, ap, subst, ◌∙◌, Option, Some, None, is_some, option_map, Result, Ok, Err, arith, if◌then◌else◌}
+use Rattle.std.proofs.Common.{◌≡◌, ℕ, suc, ◌+◌, ◌<◌, ◌≤◌, ◌==◌, ◌&&◌, Bool, true, false, nat_le, List, [], ◌∷◌, ◌++◌, append_assoc, get_or, length}
+use Rattle.std.proofs.Common.{refl, sym, ap, subst, ◌∙◌, Option, Some, None, is_some, option_map, Result, Ok, Err, arith, if◌then◌else◌}
 use Rattle.std.specs.Prelude.{option_and_then}
 use Rattle.std.specs.List.{All}
 use Rattle.std.specs.Cmp.Lexicographic.{pointwise}
@@ -118,7 +119,9 @@ chosen_within columns on include places e = by_count (nat_le (length on) most_on
         let same : (ps, qs) ≡ places = cc in
         subst (AreWithin columns) same (places_within columns on ps is, places_within columns include qs are)
 
-    by_count : (b : Bool) → (if b then or_refused NoSuchColumn (option_and_then (λ first. option_map (λ others. (first, others)) (places_of columns include)) (places_of columns on)) else Err TooMany) ≡ Ok places → AreWithin columns places
+    by_count : (b : Bool) → (if b then or_refused NoSuchColumn
+        (option_and_then (λ first. option_map (λ others. (first, others)) (places_of columns include)) (places_of columns on)) else Err TooMany) ≡ Ok places
+        → AreWithin columns places
     by_count true f = by_places (places_of columns on) (places_of columns include) refl refl f
     by_count false f = cc
 

@@ -1,5 +1,6 @@
 -- What is kept of rows that are read one by one, and the step of building that it makes.
-use Rattle.std.proofs.Common.{◌≡◌, ℕ, suc, ◌-◌, ◌<◌, ◌≤◌, ◌==◌, ◌&&◌, Bool, true, false, not, List, [], ◌∷◌, ◌++◌, append-nil, append_assoc, fold, length, refl, sym, ap, ◌∙◌, Option, Some, None, if◌then◌else◌, arith}
+use Rattle.std.proofs.Common.{◌≡◌, ℕ, suc, ◌-◌, ◌<◌, ◌≤◌, ◌==◌, ◌&&◌, Bool, true, false, not, List, [], ◌∷◌, ◌++◌, append-nil}
+use Rattle.std.proofs.Common.{append_assoc, fold, length, refl, sym, ap, ◌∙◌, Option, Some, None, if◌then◌else◌, arith}
 use Rattle.std.specs.Prelude.{nat_lt}
 use Rattle.std.specs.List.{All, list_all}
 use Rattle.std.proofs.lemmas.Bool.Decides.{nat_tests}
@@ -117,7 +118,8 @@ module _ (def : Definition) (cover : Cover) (rows : Rows (List Value)) (count : 
   few = omega (arith, length-take count (covered (λ k. not (is_covered cover k)) rows))
 
   kept : after.1 ≡ fold (after_row def) (none_read count) (next_rows count cover rows)
-  kept = ap (λ (r : Definition × RowsRead). r.1) (is ∙ ap (λ (r : Definition × RowsRead). fold builder_after_row r (next_rows count cover rows)) begins ∙ beside def (none_read count) (next_rows count cover rows))
+  kept = ap (λ (r : Definition × RowsRead). r.1) (is ∙ ap (λ (r : Definition × RowsRead). fold builder_after_row r (next_rows count cover rows)) begins
+      ∙ beside def (none_read count) (next_rows count cover rows))
 
   left : after.1.left ≡ count - length (next_rows count cover rows)
   left = ap (λ read. read.left) kept ∙ left_read def (none_read count) (next_rows count cover rows)
@@ -135,4 +137,6 @@ module _ (def : Definition) (cover : Cover) (rows : Rows (List Value)) (count : 
   pub messages_are : All (HasPlaces def) rows → after.1.messages ≡ own_puts def (next_rows count cover rows)
   messages_are within =
       ap (λ read. read.messages) kept
-      ∙ messages_read def (none_read count) (next_rows count cover rows) (All-take (HasPlaces def) count (covered (λ k. not (is_covered cover k)) rows) (All-filter (λ row. not (is_covered cover row.0)) (HasPlaces def) rows within))
+      ∙ messages_read def (none_read count) (next_rows count cover rows)
+      (All-take (HasPlaces def) count (covered (λ k. not (is_covered cover k)) rows)
+      (All-filter (λ row. not (is_covered cover row.0)) (HasPlaces def) rows within))

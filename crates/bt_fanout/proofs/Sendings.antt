@@ -14,7 +14,8 @@ use Rattle.bt_fanout.specs.Selections.{between, entry_changes, entry_in, select}
 use Rattle.bt_fanout.proofs.Lookups.{IsOwner, find-select, is_at, not-owner, sorted-select, value_at}
 
 -- messages appended to others apply after them
-value_after-append : {V M : Type 0} (effect : Option V → M → Option V) (q : List ℕ) (ms ns : Messages M) (o : Option V) → value_after effect q (ms ++ ns) o ≡ value_after effect q ns (value_after effect q ms o)
+value_after-append : {V M : Type 0} (effect : Option V → M → Option V) (q : List ℕ) (ms ns : Messages M) (o : Option V)
+    → value_after effect q (ms ++ ns) o ≡ value_after effect q ns (value_after effect q ms o)
 value_after-append effect q [] ns o = refl
 value_after-append effect q (m ∷ ms) ns o = value_after-append effect q ms ns (cond (eq_by_cmp key_cmp q m.0) (effect o m.1) o)
 
@@ -25,7 +26,9 @@ module _ {E D : Type 0} (same : E → E → Bool) (sound : (a b : E) → same a 
   elsewhere q None (Some new) o f g = ap (λ t. cond t (Some new.1) o) g
   elsewhere q (Some old) None o f g = ap (λ t. cond t None o) f
   elsewhere q (Some old) (Some new) o f g =
-      elim (eq_by_cmp key_cmp old.0 new.0) as (λ t. value_after (effect_of merged) q (if t then (if same old.1 new.1 then [] else (new.0, Put new.1) ∷ []) else (old.0, Del) ∷ (new.0, Put new.1) ∷ []) o ≡ o) [
+      elim (eq_by_cmp key_cmp old.0 new.0) as
+      (λ t. value_after (effect_of merged) q (if t then (if same old.1 new.1 then [] else (new.0, Put new.1) ∷ []) else (old.0, Del) ∷ (new.0, Put new.1) ∷
+      []) o ≡ o) [
         | true ↦ elim (same old.1 new.1) as (λ t. value_after (effect_of merged) q (if t then [] else (new.0, Put new.1) ∷ []) o ≡ o) [
           | true ↦ refl
           | false ↦ ap (λ t. cond t (Some new.1) o) g
@@ -104,7 +107,9 @@ module _ {X E D : Type 0} (entry : List ℕ → X → Option (List ℕ × E)) (s
             ap (value_after (effect_of merged) q rest) done ∙ entry_changes-at q k old new c d ks wanted (inr refl) ∙ alike (is_some (find key_cmp k ks)) wanted
         | false ↦ λ t.
             let other = turned k j.0 t in
-            ap (value_after (effect_of merged) q rest) (elsewhere same sound merged q a b o (not-owner entry q k j.0 old c other) (not-owner entry q k j.0 new d other)) ∙ entry_changes-at q k old new c d ks o h
+            ap (value_after (effect_of merged) q rest)
+            (elsewhere same sound merged q a b o (not-owner entry q k j.0 old c other) (not-owner entry q k j.0 new d other))
+            ∙ entry_changes-at q k old new c d ks o h
       ] refl
 
   -- Between two maps in which each key q has one owner, what is sent for all keys at which they differ changes the index of the one to the index of the other.
@@ -113,7 +118,8 @@ module _ {X E D : Type 0} (entry : List ℕ → X → Option (List ℕ × E)) (s
       ((q : List ℕ) → (k : List ℕ) × (IsOwner entry q k old × IsOwner entry q k new)) →
       rows_after (effect_of merged) (entry_changes entry same (λ j. find key_cmp j old) (λ j. find key_cmp j new) ks) (select entry old) ≡ select entry new
   sends old new ks s t others owner =
-      same_rows (effect_of merged) _ _ (sorted-rows_after (effect_of merged) (entry_changes entry same (λ j. find key_cmp j old) (λ j. find key_cmp j new) ks) (select entry old) (sorted-select entry old)) (sorted-select entry new)
+      same_rows (effect_of merged) _ _ (sorted-rows_after (effect_of merged) (entry_changes entry same (λ j. find key_cmp j old) (λ j. find key_cmp j new) ks)
+      (select entry old) (sorted-select entry old)) (sorted-select entry new)
       (λ q. at q (owner q).0 (owner q).1.0 (owner q).1.1)
     where
       at : (q k : List ℕ) → IsOwner entry q k old → IsOwner entry q k new →
@@ -123,7 +129,9 @@ module _ {X E D : Type 0} (entry : List ℕ → X → Option (List ℕ × E)) (s
           let is = find-select entry q k new t d in
           find-rows_after (effect_of merged) q (entry_changes entry same (λ j. find key_cmp j old) (λ j. find key_cmp j new) ks) (select entry old)
           ∙ entry_changes-at q k old new c d ks (find key_cmp q (select entry old)) (inl was)
-          ∙ elim (is_some (find key_cmp k ks)) as (λ b. is_some (find key_cmp k ks) ≡ b → cond b (value_at q (entry_in entry k (find key_cmp k new))) (find key_cmp q (select entry old)) ≡ value_at q (entry_in entry k (find key_cmp k new))) [
+          ∙ elim (is_some (find key_cmp k ks)) as (λ b. is_some (find key_cmp k ks) ≡ b
+          → cond b (value_at q (entry_in entry k (find key_cmp k new))) (find key_cmp q (select entry old))
+          ≡ value_at q (entry_in entry k (find key_cmp k new))) [
             | true ↦ λ b. refl
             | false ↦ λ b. was ∙ ap (λ x. value_at q (entry_in entry k x)) (others k b)
           ] refl

@@ -1,5 +1,6 @@
 -- The entries of rows, sorted by key, are what an index selects of the rows.
-use Rattle.std.proofs.Common.{◌≡◌, ℕ, ◌+◌, ◌<◌, ◌≤◌, Bool, true, false, cond, T, List, [], ◌∷◌, ◌++◌, ◌&&◌, All, IsPermutation, append-nil, append_assoc, drop, filter, get_or, length, not, refl, subst, sym, ap, arith, ◌∙◌, Option, Some, None, true≢false}
+use Rattle.std.proofs.Common.{◌≡◌, ℕ, ◌+◌, ◌<◌, ◌≤◌, Bool, true, false, cond, T, List, [], ◌∷◌, ◌++◌, ◌&&◌, All, IsPermutation, append-nil, append_assoc}
+use Rattle.std.proofs.Common.{drop, filter, get_or, length, not, refl, subst, sym, ap, arith, ◌∙◌, Option, Some, None, true≢false}
 use Rattle.std.proofs.Math.ListN.{drop_of_length-le}
 use Rattle.std.proofs.lemmas.List.{drop_more, nil_from_length}
 use Rattle.std.proofs.lemmas.List.Elements.{All-filter, All-head, All-tail, filter_passes}

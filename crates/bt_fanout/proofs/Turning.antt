@@ -43,7 +43,8 @@ module _ (def : Definition) (kinds : List Kind) where
         | true ↦
             ap (λ o. between {D = List Value} same_values o (own_entry def (find key_cmp k.0 new)) ++ rest) (own-is k.0 old s)
             ∙ ap (λ o. between {D = List Value} same_values (entry_in (entry_of def) k.0 (find key_cmp k.0 old)) o ++ rest) (own-is k.0 new t)
-            ∙ ap (λ ms. between {D = List Value} same_values (entry_in (entry_of def) k.0 (find key_cmp k.0 old)) (entry_in (entry_of def) k.0 (find key_cmp k.0 new)) ++ ms) (sent_for_all-is cover old new s t ks)
+            ∙ ap (λ ms. between {D = List Value} same_values (entry_in (entry_of def) k.0 (find key_cmp k.0 old))
+            (entry_in (entry_of def) k.0 (find key_cmp k.0 new)) ++ ms) (sent_for_all-is cover old new s t ks)
         | false ↦ sent_for_all-is cover old new s t ks
       ]
 
@@ -66,5 +67,6 @@ one_more def cover effects i effect whole old new within is so more =
     ∙ ap (λ ms. ms ++ sent_for_all def cover (drop (i + 1) effects)) (sym more)
 
 -- none are left
-pub all_sent : (def : Definition) (cover : Cover) (effects : List Effect) (i : ℕ) (whole sent : Messages EntryMessage) → length effects ≤ i → whole ≡ sent ++ sent_for_all def cover (drop i effects) → sent ≡ whole
+pub all_sent : (def : Definition) (cover : Cover) (effects : List Effect) (i : ℕ) (whole sent : Messages EntryMessage) → length effects ≤ i
+    → whole ≡ sent ++ sent_for_all def cover (drop i effects) → sent ≡ whole
 all_sent def cover effects i whole sent past e = sym (e ∙ ap (λ es. sent ++ sent_for_all def cover es) (drop_of_length-le effects past) ∙ append-nil sent)

@@ -71,7 +71,9 @@ module _ {K : Type 0} (key : K → Key) where
       own_values : (ks : List K) → map (λ k. value_in effect (key k) p) (take (count ks) ks) ≡ map (λ k. value (key k)) (take (count ks) ks)
       own_values [] = refl
       own_values (k ∷ ks) =
-          elim (owns (key k) p) as (λ b. owns (key k) p ≡ b → map (λ k. value_in effect (key k) p) (take (cond b (suc (count ks)) 0) (k ∷ ks)) ≡ map (λ k. value (key k)) (take (cond b (suc (count ks)) 0) (k ∷ ks))) [
+          elim (owns (key k) p) as (λ b. owns (key k) p ≡ b
+          → map (λ k. value_in effect (key k) p) (take (cond b (suc (count ks)) 0) (k ∷ ks))
+          ≡ map (λ k. value (key k)) (take (cond b (suc (count ks)) 0) (k ∷ ks))) [
             | true ↦ λ own. ap (λ v. v ∷ map (λ k. value_in effect (key k) p) (take (count ks) ks)) (have (key k) own) ∙ ap (λ vs. value (key k) ∷ vs) (own_values ks)
             | false ↦ λ other. refl
           ] refl
@@ -81,7 +83,8 @@ module _ {K : Type 0} (key : K → Key) where
           after ≡ before ++ map (λ k. value_in effect (key k) p) own → before ++ map (λ k. value (key k)) rest ≡ all → after ++ map (λ k. value (key k)) left ≡ all
       values_behind rest n own left before after all n_is own_is left_is after_is so_far =
           let f = λ (k : K). value (key k) in
-          let own_there : map (λ k. value_in effect (key k) p) own ≡ map f (take (count rest) rest) = ap (map (λ k. value_in effect (key k) p)) (own_is ∙ ap (λ i. take i rest) n_is) ∙ own_values rest in
+          let own_there : map (λ k. value_in effect (key k) p) own ≡ map f (take (count rest) rest) =
+          ap (map (λ k. value_in effect (key k) p)) (own_is ∙ ap (λ i. take i rest) n_is) ∙ own_values rest in
           ap (λ l. l ++ map f left) (after_is ∙ ap (λ l. before ++ l) own_there)
           ∙ append_assoc before (map f (take (count rest) rest)) (map f left)
           ∙ ap (λ l. before ++ (map f (take (count rest) rest) ++ map f l)) (left_is ∙ ap (λ i. drop i rest) n_is)

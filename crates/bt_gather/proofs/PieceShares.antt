@@ -76,7 +76,8 @@ module _ {V D : Type 0} where
         own-tree = ap (tree_with (Cut holed jobs room)) own-pieces ∙ sym (ap (λ t. tree_with t (take (job_count t) (pieces_of items))) is)
 
   -- one tree is put together, and the others are left
-  module _ (t : RoundTree V D) (rest rest' : List (RoundTree V D)) (one : rest ≡ t ∷ rest') (items items' : List (code_place.Place × Siblings V (Message V D))) (left : items' ≡ drop (job_count t) items) where
+  module _ (t : RoundTree V D) (rest rest' : List (RoundTree V D)) (one : rest ≡ t ∷ rest') (items items' : List (code_place.Place × Siblings V (Message V D)))
+      (left : items' ≡ drop (job_count t) items) where
     left-pieces : pieces_of items' ≡ drop (job_count t) (pieces_of items)
     left-pieces = ap pieces_of left ∙ drop-pieces (job_count t) items
 

@@ -20,7 +20,8 @@ use Rattle.bt_keycode.proofs.Numbers.{slice_cmp-eight_bytes}
 
 -- ---- numbers
 
-raised_ranks : (a b : ℤ) → FitsSigned w64 a → FitsSigned w64 b → (o : Ordering) → MatchOrdering o (a <ℤ b) (a ≡ b) (b <ℤ a) → MatchOrdering o (raised a < raised b) (raised a ≡ raised b) (raised b < raised a)
+raised_ranks : (a b : ℤ) → FitsSigned w64 a → FitsSigned w64 b → (o : Ordering) → MatchOrdering o (a <ℤ b) (a ≡ b) (b <ℤ a)
+    → MatchOrdering o (raised a < raised b) (raised a ≡ raised b) (raised b < raised a)
 raised_ranks a b f g Equal h = ap raised h
 raised_ranks (pos a) (pos b) f g Less h = omega (arith, ints)
 raised_ranks (pos a) (negsuc b) f g Less h = absurd (omega (arith, ints))

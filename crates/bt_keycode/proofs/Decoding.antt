@@ -1,5 +1,6 @@
 -- A code is that of only one list of values of given kinds. Used by `decode`.
-use Rattle.std.proofs.Common.{◌≡◌, ℕ, List, [], ◌∷◌, ◌++◌, map, take, drop, length, ◌-◌, ◌<◌, ◌≤◌, append_assoc, append-nil, get_or, ◌+◌, refl, sym, ap, subst, ◌∙◌, Bool, true, false, Some, ℤ, SFits, w64, to_z, of_z, arith}
+use Rattle.std.proofs.Common.{◌≡◌, ℕ, List, [], ◌∷◌, ◌++◌, map, take, drop, length, ◌-◌, ◌<◌, ◌≤◌, append_assoc, append-nil, get_or}
+use Rattle.std.proofs.Common.{◌+◌, refl, sym, ap, subst, ◌∙◌, Bool, true, false, Some, ℤ, SFits, w64, to_z, of_z, arith}
 use Rattle.bt_value.specs.Kinds.{Content, Number, Bytes, Bit, content_of, form_in, form_of, value_with}
 use Rattle.bt_value.specs.Texts.{most_value_bytes}
 use Rattle.bt_value.specs.Values.{AreInRange, IsInRange, LiesInRange, takes_content}
@@ -200,7 +201,8 @@ none_begins kinds i d bytes values code below a none others rest b =
     none next.0 next.1 next.2
 
 -- if the first kinds are all kinds, the bytes begin with values of all kinds
-pub of_all : (kinds : List Kind) (i : ℕ) (bytes : List ℕ) (values : List Value) (code : List ℕ) → i ≡ length kinds → BeginsWithAll (take i kinds) bytes values code → BeginsWithAll kinds bytes values code
+pub of_all : (kinds : List Kind) (i : ℕ) (bytes : List ℕ) (values : List Value) (code : List ℕ) → i ≡ length kinds
+    → BeginsWithAll (take i kinds) bytes values code → BeginsWithAll kinds bytes values code
 of_all kinds i bytes values code past a = subst (λ ks. BeginsWithAll ks bytes values code) (ap (λ n. take n kinds) past ∙ take-length kinds) a
 
 -- ---- whole codes

@@ -1,5 +1,6 @@
 -- The code of bytes is read as these bytes, and only their code is. For `unescape`, and for the uniqueness of codes.
-use Rattle.std.proofs.Common.{◌≡◌, ℕ, zero, suc, ◌==◌, List, [], ◌∷◌, ◌++◌, Option, Some, None, false, if◌then◌else◌, append_assoc, refl, sym, ap, ◌∙◌, inl, inr, arith, length, length-append, nat_eq, ◌<◌}
+use Rattle.std.proofs.Common.{◌≡◌, ℕ, zero, suc, ◌==◌, List, [], ◌∷◌, ◌++◌, Option, Some, None, false, if◌then◌else◌}
+use Rattle.std.proofs.Common.{append_assoc, refl, sym, ap, ◌∙◌, inl, inr, arith, length, length-append, nat_eq, ◌<◌}
 use Rattle.std.proofs.lemmas.Bool.{cases_Bool, eqb-true}
 use Rattle.std.specs.List.{list_any}
 use Rattle.bt_keycode.specs.Codes.{escaped}

@@ -1,5 +1,6 @@
 -- The commands of a script whose end is cut off.
-use Rattle.std.proofs.Common.{ℕ, ◌≡◌, ◌≤◌, ◌==◌, ◌++◌, ◌∙◌, true, List, [], ◌∷◌, length, take, drop, ap, sym, refl, subst, arith, append_assoc, length-append, inl, inr, Some, None, Option, Ok, Err, is_err}
+use Rattle.std.proofs.Common.{ℕ, ◌≡◌, ◌≤◌, ◌==◌, ◌++◌, ◌∙◌, true, List, [], ◌∷◌, length, take, drop, ap, sym, refl, subst}
+use Rattle.std.proofs.Common.{arith, append_assoc, length-append, inl, inr, Some, None, Option, Ok, Err, is_err}
 use Rattle.std.proofs.lemmas.Bool.{cases_Bool}
 use Rattle.std.proofs.lemmas.List.{take-append-drop}
 use Rattle.std.proofs.Math.Seq.{take-append_seam}
@@ -24,7 +25,8 @@ record AreFirstLines (part whole : List (List ℕ)) (ends : Type 0) : Type 0 whe
   none : ends → rest ≡ []
 
 -- a byte before both
-onto_both : (b : ℕ) (part whole : List (List ℕ)) (ends : Type 0) (line : List ℕ) (more : List (List ℕ)) → part ≡ line ∷ more → AreFirstLines part whole ends → AreFirstLines (onto_first b part) (onto_first b whole) ends
+onto_both : (b : ℕ) (part whole : List (List ℕ)) (ends : Type 0) (line : List ℕ) (more : List (List ℕ)) → part ≡ line ∷ more → AreFirstLines part whole ends
+    → AreFirstLines (onto_first b part) (onto_first b whole) ends
 onto_both b part whole ends line more is first = by_parts first.done first.rest first.one first.part_is first.whole_is first.none
   where
     by_parts : (done rest : List (List ℕ)) → length rest ≤ 1 → part ≡ done ++ rest → whole ≡ done ++ first.others → (ends → rest ≡ []) → AreFirstLines (onto_first b part) (onto_first b whole) ends
@@ -137,7 +139,8 @@ first_of : (answers others : List Answer) → take (length answers) (answers ++ 
 first_of answers others = take-append_seam answers others
 
 -- the commands of the lines that both have, and those of one more line
-first_commands : (part whole done others rest : List (List ℕ)) → length rest ≤ 1 → part ≡ done ++ rest → whole ≡ done ++ others → AreFirstAndOneMore (commands_from Outside part) (commands_from Outside whole)
+first_commands : (part whole done others rest : List (List ℕ)) → length rest ≤ 1 → part ≡ done ++ rest → whole ≡ done ++ others
+    → AreFirstAndOneMore (commands_from Outside part) (commands_from Outside whole)
 first_commands part whole done others rest one part_is whole_is =
     let both = ended Outside done in
     let place = place_behind Outside done in
@@ -164,7 +167,8 @@ after-refused state [] refused = refl
 after-refused state (Err refusal ∷ answers) refused = after-refused state answers refused
 after-refused state (Ok command ∷ answers) refused = absurd cc
 
-left_by_first : (part whole : List Answer) (begins : AreFirstAndOneMore part whole) → list_all is_err begins.more ≡ true → (state : State) → after_commands state part ≡ after_commands state (take begins.count whole)
+left_by_first : (part whole : List Answer) (begins : AreFirstAndOneMore part whole) → list_all is_err begins.more ≡ true → (state : State)
+    → after_commands state part ≡ after_commands state (take begins.count whole)
 left_by_first part whole begins refused state =
     ap (after_commands state) begins.are ∙ after-append state (take begins.count whole) begins.more ∙ after-refused (after_commands state (take begins.count whole)) begins.more refused
 

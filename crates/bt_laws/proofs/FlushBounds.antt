@@ -1,5 +1,6 @@
 -- Each flush is large, so there are few flushes.
-use Rattle.std.proofs.Common.{ℕ, zero, suc, ◌≡◌, ◌∙◌, ◌+◌, ◌*◌, ◌-◌, ◌<◌, ◌≤◌, ◌⊎◌, inl, inr, Bool, true, false, cond, not, nat_eq, List, [], ◌∷◌, ◌++◌, length, map, take, drop, ap, sym, subst, refl, arith, le_refl, Option, None, Some}
+use Rattle.std.proofs.Common.{ℕ, zero, suc, ◌≡◌, ◌∙◌, ◌+◌, ◌*◌, ◌-◌, ◌<◌, ◌≤◌, ◌⊎◌, inl, inr, Bool, true, false, cond, not, nat_eq, List}
+use Rattle.std.proofs.Common.{[], ◌∷◌, ◌++◌, length, map, take, drop, ap, sym, subst, refl, arith, le_refl, Option, None, Some}
 use Rattle.std.proofs.lemmas.Bool.{cases_lt, cond-false, cond-true, eqb-false, eqb-true, le-leb, lt-leb}
 use Rattle.std.proofs.Math.Nat.{mul-le-mul_left, mul-le-mul_right}
 use Rattle.std.specs.List.{AllByRecursion, flat_map}
@@ -17,7 +18,8 @@ use Rattle.bt_node.proofs.lemmas.deals.Parts.{AllNonEmpty, full-deal, joined, jo
 use Rattle.bt_node.proofs.offered.FlushSteps.{anywhere, fit_there, led-full, length-shared, some_length}
 use Rattle.bt_node.proofs.offered.ShapedTrees.{sunk-has_shape}
 use Rattle.bt_laws.proofs.LeafCounts.{node_wide, nodes_wide}
-use Rattle.bt_laws.specs.FlushSizes.{FlushesAreFew, FlushesAreFewInAll, FlushesAreLarge, arrived, sunk_all, flush_count, flush_count_at, flush_counts, levels_ahead, levels_pending, levels_pending_below}
+use Rattle.bt_laws.specs.FlushSizes.{FlushesAreFew, FlushesAreFewInAll, FlushesAreLarge, arrived, sunk_all, flush_count}
+use Rattle.bt_laws.specs.FlushSizes.{flush_count_at, flush_counts, levels_ahead, levels_pending, levels_pending_below}
 
 -- ---- the loop
 
@@ -136,7 +138,8 @@ step_sum : (fanout m pot e count capacity after : ℕ) → suc capacity ≤ fano
     → suc count * suc capacity + fanout * after ≤ fanout * (m * suc e + pot)
 step_sum fanout m pot e count capacity after large paid = omega (arith, large, paid)
 
-loop_sum : (fanout count others capacity first inside item behind rest whole : ℕ) → suc count * suc capacity + fanout * inside ≤ fanout * item → others * suc capacity + fanout * rest ≤ fanout * (first + (inside + behind))
+loop_sum : (fanout count others capacity first inside item behind rest whole : ℕ) → suc count * suc capacity + fanout * inside ≤ fanout * item
+    → others * suc capacity + fanout * rest ≤ fanout * (first + (inside + behind))
     → whole ≡ first + (item + behind) → (suc count + others) * suc capacity + fanout * rest ≤ fanout * whole
 loop_sum fanout count others capacity first inside item behind rest whole step more is = omega (arith, step, more, ap (λ n. fanout * n) is)
 
@@ -227,7 +230,8 @@ module _ {V M : Type 0} (meaning : Meaning V M) (shape : Shape) where
   -- the flushes below a node, each of at least its size, are paid for by the levels that messages may still move down
   Pays : ℕ → Type 0
   Pays e = (t : Tree V M) (packet : Messages M) → IsSized meaning.weigh shape t → height t ≤ suc e →
-      flush_count_at meaning shape (suc e) t packet * suc shape.buffer + shape.fanout * all_pot (suc e) (flush_at meaning Absorb (suc e) shape t packet) ≤ shape.fanout * (pot (suc e) t + room packet * e)
+      flush_count_at meaning shape (suc e) t packet * suc shape.buffer + shape.fanout * all_pot (suc e) (flush_at meaning Absorb (suc e) shape t packet) ≤
+      shape.fanout * (pot (suc e) t + room packet * e)
 
   abbrev counted : ℕ → List (Child V M) → ℕ
   counted e cs = total (map (λ c. suc (flush_count_at meaning shape (suc e) c.tree c.pending)) cs)
@@ -243,7 +247,8 @@ module _ {V M : Type 0} (meaning : Meaning V M) (shape : Shape) where
     one_paid c m is large (inl sized) =
         let below = pays c.tree c.pending sized.0 sized.1 in
         let enough : shape.buffer < shape.fanout * w c = subst (λ n. shape.buffer < shape.fanout * n) (sym is) large in
-        subst (λ n. suc (flush_count_at meaning shape (suc e) c.tree c.pending) * suc shape.buffer + shape.fanout * n ≤ shape.fanout * (w c * suc e + pot (suc e) c.tree)) (sym (flushed-pot (suc e) f c))
+        subst (λ n. suc (flush_count_at meaning shape (suc e) c.tree c.pending) * suc shape.buffer + shape.fanout * n ≤ shape.fanout *
+        (w c * suc e + pot (suc e) c.tree)) (sym (flushed-pot (suc e) f c))
         (step_sum shape.fanout (w c) (pot (suc e) c.tree) e (flush_count_at meaning shape (suc e) c.tree c.pending) shape.buffer (all_pot (suc e) (f c.tree c.pending)) enough below)
     one_paid c m is large (inr empty) =
         let nothing : shape.fanout * m ≡ shape.fanout * 0 = ap (λ n. shape.fanout * n) (sym is ∙ empty) in
@@ -262,7 +267,8 @@ module _ {V M : Type 0} (meaning : Meaning V M) (shape : Shape) where
         (ready-append (suc e) (flushed f t.item) t.others (ready-light (suc e) (flushed f t.item) (flushed-none f t.item)) (ready-rest (suc e) t.first (t.item ∷ t.others) all).1))
 
     loop_paid : (turns : ℕ) (cs : List (Child V M)) → AreReady (suc e) cs → heavy w cs ≤ shape.fanout →
-        counted e (opened_items w (flushed f) shape.buffer turns cs) * suc shape.buffer + shape.fanout * child_pot (suc e) (after_turns w (flushed f) shape.buffer turns cs) ≤ shape.fanout * child_pot (suc e) cs
+        counted e (opened_items w (flushed f) shape.buffer turns cs) * suc shape.buffer + shape.fanout * child_pot (suc e)
+        (after_turns w (flushed f) shape.buffer turns cs) ≤ shape.fanout * child_pot (suc e) cs
     loop_paid zero cs ready few = omega arith
     loop_paid (suc turns) cs ready few = elim (cases_lt shape.buffer (total (map w cs))) [
       | inl over ↦
@@ -288,7 +294,8 @@ module _ {V M : Type 0} (meaning : Meaning V M) (shape : Shape) where
           (loop_sum shape.fanout (flush_count_at meaning shape (suc e) t.item.tree t.item.pending) (counted e (opened_items w (flushed f) shape.buffer turns ys)) shape.buffer
           (child_pot (suc e) t.first) (child_pot (suc e) (flushed f t.item)) (w t.item * suc e + pot (suc e) t.item.tree) (child_pot (suc e) t.others)
           (child_pot (suc e) (after_turns w (flushed f) shape.buffer turns ys)) (child_pot (suc e) cs) paid
-          (subst (λ n. counted e (opened_items w (flushed f) shape.buffer turns ys) * suc shape.buffer + shape.fanout * child_pot (suc e) (after_turns w (flushed f) shape.buffer turns ys) ≤ shape.fanout * n) next more)
+          (subst (λ n. counted e (opened_items w (flushed f) shape.buffer turns ys) * suc shape.buffer + shape.fanout * child_pot (suc e)
+          (after_turns w (flushed f) shape.buffer turns ys) ≤ shape.fanout * n) next more)
           whole)
       | inr fits ↦
           let open_still = le-leb (total (map w cs)) shape.buffer fits in
@@ -375,14 +382,18 @@ module _ {V M : Type 0} (meaning : Meaning V M) (shape : Shape) where
       let same : fanout * (all * suc e + pots) ≡ fanout * ((packet + buffer) * suc e + pots) = ap (λ n. fanout * (n * suc e + pots)) is in
       omega (arith, paid, more, same)
 
-  leaf_paid : (e : ℕ) (rows : Rows V) (packet : Messages M) → flush_count_at meaning shape (suc e) (leaf rows) packet * suc shape.buffer + shape.fanout * all_pot (suc e) (flush_at meaning Absorb (suc e) shape (leaf rows) packet)
+  leaf_paid : (e : ℕ) (rows : Rows V) (packet : Messages M)
+      → flush_count_at meaning shape (suc e) (leaf rows) packet * suc shape.buffer + shape.fanout * all_pot (suc e)
+      (flush_at meaning Absorb (suc e) shape (leaf rows) packet)
       ≤ shape.fanout * (pot (suc e) (leaf rows) + room packet * e)
   leaf_paid e rows packet =
-      let none : shape.fanout * all_pot (suc e) (leaves shape (rows_after meaning.effect packet rows)) ≡ shape.fanout * 0 = ap (λ n. shape.fanout * n) (leaves_pot (suc e) (rows_after meaning.effect packet rows)) in
+      let none : shape.fanout * all_pot (suc e) (leaves shape (rows_after meaning.effect packet rows)) ≡ shape.fanout * 0 =
+      ap (λ n. shape.fanout * n) (leaves_pot (suc e) (rows_after meaning.effect packet rows)) in
       omega (arith, none)
 
   node_paid : (e : ℕ) → Pays e → (ns : Nodes V M) (buffer packet : Messages M) → IsSized meaning.weigh shape (inner ns buffer) → height (inner ns buffer) ≤ suc (suc e) →
-      flush_count_at meaning shape (suc (suc e)) (inner ns buffer) packet * suc shape.buffer + shape.fanout * all_pot (suc (suc e)) (flush_at meaning Absorb (suc (suc e)) shape (inner ns buffer) packet)
+      flush_count_at meaning shape (suc (suc e)) (inner ns buffer) packet * suc shape.buffer + shape.fanout * all_pot (suc (suc e))
+      (flush_at meaning Absorb (suc (suc e)) shape (inner ns buffer) packet)
       ≤ shape.fanout * (pot (suc (suc e)) (inner ns buffer) + room packet * suc e)
   node_paid e pays ns buffer packet sized low =
       let all = with_messages packet buffer in
@@ -392,7 +403,8 @@ module _ {V M : Type 0} (meaning : Meaning V M) (shape : Shape) where
       let paid = loop_paid e pays turns cs (shared_ready (suc e) ns all sized.3 (omega (arith, low))) few in
       let dealt = grouped_pot (suc e) (after_turns w (flushed (f e pays)) shape.buffer turns cs) in
       let ended = subst (λ n. counted e (opened_items w (flushed (f e pays)) shape.buffer turns cs) * suc shape.buffer + shape.fanout * n ≤ shape.fanout * child_pot (suc e) cs) (sym dealt) paid in
-      node_sum (counted e (opened_items w (flushed (f e pays)) shape.buffer turns cs)) shape.buffer shape.fanout (all_pot (suc (suc e)) (grouped shape (after_turns w (flushed (f e pays)) shape.buffer turns cs)))
+      node_sum (counted e (opened_items w (flushed (f e pays)) shape.buffer turns cs)) shape.buffer shape.fanout
+      (all_pot (suc (suc e)) (grouped shape (after_turns w (flushed (f e pays)) shape.buffer turns cs)))
       (child_pot (suc e) cs) (room packet) (room buffer) e (pots (suc e) ns) (room all) ended (shared_pot (suc e) ns all) (load-with_messages meaning.weigh shape.measure packet buffer)
 
   pays_all : (e : ℕ) → Pays e
@@ -457,8 +469,10 @@ module _ {V M : Type 0} (meaning : Meaning V M) (shape : Shape) where
   unfolding AreLow
   low-groups h [] low = tt
   low-groups h (g ∷ gs) low =
-      let both = subst (AreLow h) (without-append g (joined gs)) low in
-      (omega (arith, low-nodes h (pivot_first [] (without g)) (low-pivot_first h [] (without g) (low-first h (without g) (without (joined gs)) both))), low-groups h gs (low-rest h (without g) (without (joined gs)) both))
+      let both = subst (AreLow h) (without-append g (joined gs)) low in (
+        omega (arith, low-nodes h (pivot_first [] (without g)) (low-pivot_first h [] (without g) (low-first h (without g) (without (joined gs)) both))),
+        low-groups h gs (low-rest h (without g) (without (joined gs)) both),
+      )
 
   low-grouped : (h : ℕ) (xs : Siblings V M) → AreLow h xs → AreLow (suc h) (grouped shape (none_pending xs))
   low-grouped h xs low =
@@ -492,28 +506,36 @@ module _ {V M : Type 0} (meaning : Meaning V M) (shape : Shape) where
 
   -- a packet that comes into a tree
   sink_paid : (t : Tree V M) (packet : Messages M) → HasShape meaning.weigh shape t →
-      flush_count meaning shape t packet * suc shape.buffer + shape.fanout * pot (height (sunk meaning shape t packet)) (sunk meaning shape t packet) ≤ shape.fanout * (pot (height t) t + room packet * (height t - 1))
+      flush_count meaning shape t packet * suc shape.buffer + shape.fanout * pot (height (sunk meaning shape t packet)) (sunk meaning shape t packet) ≤
+      shape.fanout * (pot (height t) t + room packet * (height t - 1))
   unfolding Pays
   sink_paid t packet has =
       let high = (node_wide meaning.weigh shape has.levels None None t has.fits.lies has.fits.sized).high in
       let levels : height t - 1 ≡ has.levels = omega (arith, high) in
       let fits = fit_there meaning Absorb shape has.roomy t packet _ refl has.levels None None has.fits (anywhere packet) in
-      let low : AreLow (height t) (absorb meaning shape t packet) = subst (λ h. AreLow h (absorb meaning shape t packet)) (sym high) (siblings-low has.levels None None (absorb meaning shape t packet) fits.lie fits.sized) in
-      let paid = subst (λ (h : ℕ). flush_count_at meaning shape h t packet * suc shape.buffer + shape.fanout * all_pot h (flush_at meaning Absorb h shape t packet) ≤ shape.fanout * (pot h t + room packet * has.levels)) (sym high)
+      let low : AreLow (height t) (absorb meaning shape t packet) =
+      subst (λ h. AreLow h (absorb meaning shape t packet)) (sym high)
+      (siblings-low has.levels None None (absorb meaning shape t packet) fits.lie fits.sized) in
+      let paid = subst (λ (h : ℕ). flush_count_at meaning shape h t packet * suc shape.buffer + shape.fanout * all_pot h
+      (flush_at meaning Absorb h shape t packet) ≤ shape.fanout * (pot h t + room packet * has.levels)) (sym high)
       (pays_all has.levels t packet has.fits.sized (omega (arith, high))) in
-      let ahead = subst (λ (d : ℕ). flush_count meaning shape t packet * suc shape.buffer + shape.fanout * all_pot (height t) (absorb meaning shape t packet) ≤ shape.fanout * (pot (height t) t + room packet * d)) (sym levels) paid in
-      sink_sum (flush_count meaning shape t packet) shape.buffer shape.fanout (all_pot (height t) (absorb meaning shape t packet)) (pot (height (sunk meaning shape t packet)) (sunk meaning shape t packet))
+      let ahead = subst (λ (d : ℕ). flush_count meaning shape t packet * suc shape.buffer + shape.fanout * all_pot (height t) (absorb meaning shape t packet) ≤
+      shape.fanout * (pot (height t) t + room packet * d)) (sym levels) paid in
+      sink_sum (flush_count meaning shape t packet) shape.buffer shape.fanout (all_pot (height t) (absorb meaning shape t packet))
+      (pot (height (sunk meaning shape t packet)) (sunk meaning shape t packet))
       (pot (height t) t + room packet * (height t - 1)) (crown_pot (length (absorb meaning shape t packet)) (height t) (absorb meaning shape t packet) low) ahead
 
   run_sum : (first others capacity fanout next start ahead rest : ℕ) → first * suc capacity + fanout * next ≤ fanout * (start + ahead) → others * suc capacity ≤ fanout * (next + rest)
       → (first + others) * suc capacity ≤ fanout * (start + (ahead + rest))
   run_sum first others capacity fanout next start ahead rest one more = omega (arith, one, more)
 
-  run_paid : (t : Tree V M) (packets : List (Messages M)) → HasShape meaning.weigh shape t → flush_counts meaning shape t packets * suc shape.buffer ≤ shape.fanout * (pot (height t) t + levels_ahead meaning shape t packets)
+  run_paid : (t : Tree V M) (packets : List (Messages M)) → HasShape meaning.weigh shape t
+      → flush_counts meaning shape t packets * suc shape.buffer ≤ shape.fanout * (pot (height t) t + levels_ahead meaning shape t packets)
   run_paid t [] has = omega arith
   run_paid t (packet ∷ packets) has =
       let next = sunk meaning shape t packet in
-      run_sum (flush_count meaning shape t packet) (flush_counts meaning shape next packets) shape.buffer shape.fanout (pot (height next) next) (pot (height t) t) (room packet * (height t - 1)) (levels_ahead meaning shape next packets)
+      run_sum (flush_count meaning shape t packet) (flush_counts meaning shape next packets) shape.buffer shape.fanout (pot (height next) next)
+      (pot (height t) t) (room packet * (height t - 1)) (levels_ahead meaning shape next packets)
       (sink_paid t packet has) (run_paid next packets (sunk-has_shape meaning shape t has packet))
 
   -- if all leaves are at the same depth, the bound is the number of levels
@@ -527,7 +549,8 @@ module _ {V M : Type 0} (meaning : Meaning V M) (shape : Shape) where
         let own : room buffer * suc levels ≡ room buffer * height_below ns = ap (λ n. room buffer * n) (sym below) in
         omega (arith, own, pots_are levels low high ns lies.2 sized.3)
 
-    pots_are : (levels : ℕ) (low high : Option Key) (ns : Nodes V M) → SiblingsLie levels low high (children ns) → AreSized meaning.weigh shape ns → pots (suc levels) ns ≡ levels_pending_below meaning shape ns
+    pots_are : (levels : ℕ) (low high : Option Key) (ns : Nodes V M) → SiblingsLie levels low high (children ns) → AreSized meaning.weigh shape ns
+        → pots (suc levels) ns ≡ levels_pending_below meaning shape ns
     pots_are levels low high none lie sized = refl
     pots_are levels low high (node k t none) lie sized = omega (arith, pot_is levels low high t lie sized.0)
     pots_are levels low high (node k t (node j u ns)) lie sized = omega (arith, pot_is levels low (Some j) t lie.2 sized.0, pots_are levels (Some j) high (node j u ns) lie.3 sized.1)
@@ -621,7 +644,8 @@ module _ {V M : Type 0} (meaning : Meaning V M) (shape : Shape) where
   pub few_in_all : (t : Tree V M) (packets : List (Messages M)) → HasShape meaning.weigh shape t → FlushesAreFewInAll meaning shape t packets
   few_in_all t packets has =
       let sharp = few t packets has in
-      let ahead : levels_pending meaning shape t + levels_ahead meaning shape t packets ≤ levels_pending meaning shape t + arrived meaning shape packets * (height (sunk_all meaning shape t packets) - 1) =
+      let ahead : levels_pending meaning shape t + levels_ahead meaning shape t packets ≤ levels_pending meaning shape t + arrived meaning shape packets *
+      (height (sunk_all meaning shape t packets) - 1) =
       omega (arith, ahead_all t packets has) in
       let more = mul-le-mul_left shape.fanout ahead in
       omega (arith, sharp, more)

@@ -1,5 +1,6 @@
 -- A tree that is rebuilt, or loaded, is the one that is built from scratch.
-use Rattle.std.proofs.Common.{ℕ, suc, zero, ◌≡◌, ◌∙◌, ◌+◌, ◌≤◌, ◌⊎◌, Bool, true, false, List, [], ◌∷◌, ap, sym, subst, refl, arith, map, set, if◌then◌else◌, inl, inr, Option, Some, None, option_map, Result, Ok, IfSome, ◌&&◌}
+use Rattle.std.proofs.Common.{ℕ, suc, zero, ◌≡◌, ◌∙◌, ◌+◌, ◌≤◌, ◌⊎◌, Bool, true, false, List, [], ◌∷◌, ap, sym, subst, refl, arith}
+use Rattle.std.proofs.Common.{map, set, if◌then◌else◌, inl, inr, Option, Some, None, option_map, Result, Ok, IfSome, ◌&&◌}
 use Rattle.std.specs.List.{list_all}
 use Rattle.bt_row.specs.Schemas.{Schema}
 use Rattle.bt_value.specs.Results.{or_refused, and_then, map_ok}
@@ -12,7 +13,8 @@ use Rattle.bt_node.specs.Trees.{Shape}
 use Rattle.bt_fanout.specs.Effects.{entry_effect}
 use Rattle.bt_fanout.specs.Entries.{entry_of}
 use Rattle.bt_fanout.specs.Selections.{select}
-use Rattle.bt_table.specs.Calls.{Load, NamedTree, Primary, Rebuild, Rebuilding, Secondary, is_primary, loaded_rows, renewed_index, secondary, step, tree_named, with_index_at, with_renewed_index, with_renewed_rows, with_rows, after_load}
+use Rattle.bt_table.specs.Calls.{Load, NamedTree, Primary, Rebuild, Rebuilding, Secondary, is_primary, loaded_rows, renewed_index, secondary}
+use Rattle.bt_table.specs.Calls.{step, tree_named, with_index_at, with_renewed_index, with_renewed_rows, with_rows, after_load}
 use Rattle.bt_table.specs.Indexes.{EntryTree, Index, index_named, index_named_from, is_complete, is_name_of, packed_index, with_tree}
 use Rattle.bt_table.specs.Standing.{AreSoundIndexes, IsSoundIndex, IsSoundTable}
 use Rattle.bt_table.specs.Tables.{Intact, PlainTable, TableState}
@@ -92,7 +94,8 @@ module _ (table : PlainTable) (sound : IsSoundTable table) (name : List ℕ) whe
   rows_rebuilt primary =
       let after = with_renewed_rows Rebuilding table in
       let stepped : step (Intact table) (Rebuild name) ≡ Ok (Intact after, Rebuilt name) =
-      ap (λ b. map_ok (λ (t : PlainTable). (Intact t, Rebuilt name)) (if b then Ok after else or_refused NoSuchTree (option_map (with_renewed_index Rebuilding table) (index_named name table.indexes)))) primary in
+      ap (λ b. map_ok (λ (t : PlainTable). (Intact t, Rebuilt name))
+      (if b then Ok after else or_refused NoSuchTree (option_map (with_renewed_index Rebuilding table) (index_named name table.indexes)))) primary in
       let seen : tree_named (Intact after) name ≡ Ok (Primary after) = ap (λ b. if b then Ok (Primary after) else secondary after (index_named name after.indexes)) primary in
       ap (and_then (λ (done : TableState × Reply). image done.0 name)) stepped ∙ ap (map_ok (image_of name)) seen
       ∙ ap (λ (rows : Rows (List Value)). Ok (row_image table.schema.columns name (packed table.shape rows))) sound.held
@@ -104,17 +107,22 @@ module _ (table : PlainTable) (sound : IsSoundTable table) (name : List ℕ) whe
       let new = renewed_index Rebuilding index in
       let after = with_index_at table found.0 new in
       let its : IsSoundIndex table.schema table.shape table.rows index =
-      subst (λ (o : Option (ℕ × Index)). IfSome o (λ f. IsSoundIndex table.schema table.shape table.rows f.1)) named (sound-found table.schema table.shape table.rows 0 name table.indexes sound.indexes) in
+      subst (λ (o : Option (ℕ × Index)). IfSome o (λ f. IsSoundIndex table.schema table.shape table.rows f.1)) named
+      (sound-found table.schema table.shape table.rows 0 name table.indexes sound.indexes) in
       let stepped : step (Intact table) (Rebuild name) ≡ Ok (Intact after, Rebuilt name) =
-      ap (λ b. map_ok (λ (t : PlainTable). (Intact t, Rebuilt name)) (if b then Ok (with_renewed_rows Rebuilding table) else or_refused NoSuchTree (option_map (with_renewed_index Rebuilding table) (index_named name table.indexes)))) other
+      ap (λ b. map_ok (λ (t : PlainTable). (Intact t, Rebuilt name))
+      (if b then Ok (with_renewed_rows Rebuilding table) else or_refused NoSuchTree
+      (option_map (with_renewed_index Rebuilding table) (index_named name table.indexes)))) other
       ∙ ap (λ (o : Option (ℕ × Index)). map_ok (λ (t : PlainTable). (Intact t, Rebuilt name)) (or_refused NoSuchTree (option_map (with_renewed_index Rebuilding table) o))) named in
       let still : index_named name after.indexes ≡ Some (found.0, new) = found_after found.0 0 name table.indexes found new refl (omega arith) named in
       let seen : tree_named (Intact after) name ≡ Ok (Secondary after new) =
       ap (λ b. if b then Ok (Primary after) else secondary after (index_named name after.indexes)) other ∙ ap (secondary after) still in
       ap (and_then (λ (done : TableState × Reply). image done.0 name)) stepped ∙ ap (map_ok (image_of name)) seen
-      ∙ ap (λ (t : EntryTree). Ok (entry_image name t)) (rebuilt_entries table.schema table.shape table.rows index its complete ∙ ap (λ (s : Shape). packed s (select (entry_of index.def) table.rows)) its.shaped)
+      ∙ ap (λ (t : EntryTree). Ok (entry_image name t)) (rebuilt_entries table.schema table.shape table.rows index its complete
+      ∙ ap (λ (s : Shape). packed s (select (entry_of index.def) table.rows)) its.shaped)
 
-  pub rebuilt_from_scratch : (tree : NamedTree) → tree_named (Intact table) name ≡ Ok tree → is_of_all_rows tree ≡ true → image_after (Intact table) (Rebuild name) name ≡ Ok (image_from_scratch name tree)
+  pub rebuilt_from_scratch : (tree : NamedTree) → tree_named (Intact table) name ≡ Ok tree → is_of_all_rows tree ≡ true
+      → image_after (Intact table) (Rebuild name) name ≡ Ok (image_from_scratch name tree)
   rebuilt_from_scratch tree seen all = elim (which table name tree seen) [
     | inl rows ↦ rows_rebuilt rows.primary ∙ ap (λ (t : NamedTree). Ok (image_from_scratch name t)) (sym rows.is)
     | inr index ↦ index_rebuilt index.other index.found index.named (sym (ap is_of_all_rows index.is) ∙ all) ∙ ap (λ (t : NamedTree). Ok (image_from_scratch name t)) (sym index.is)
@@ -127,7 +135,8 @@ packed_found : (schema : Schema) (shape : Shape) (old rows : Rows (List Value)) 
 packed_found schema shape old rows place name [] sound = tt
 packed_found schema shape old rows place name (index ∷ indexes) sound =
     elim (is_name_of name (packed_index rows index))
-    as (λ b. IfSome (if b then Some (place, packed_index rows index) else index_named_from (suc place) name (map (packed_index rows) indexes)) (λ found. found.1.tree.1 ≡ packed shape (select (entry_of found.1.def) rows))) [
+    as (λ b. IfSome (if b then Some (place, packed_index rows index) else index_named_from (suc place) name (map (packed_index rows) indexes))
+    (λ found. found.1.tree.1 ≡ packed shape (select (entry_of found.1.def) rows))) [
       | true ↦ ap (λ (s : Shape). packed s (select (entry_of index.def) rows)) sound.0.shaped
       | false ↦ packed_found schema shape old rows (suc place) name indexes sound.1
     ]
@@ -169,7 +178,8 @@ entries_alike : (name : List ℕ) (first second : PlainTable) (index other : Ind
     image_from_scratch name (Secondary first index) ≡ image_from_scratch name (Secondary second other)
 entries_alike name first second index other same def = λ i. entry_image name (packed (same.shape i) (select (entry_of (def i)) (same.rows i)))
 
-pub trees_alike : (name : List ℕ) (tree other : NamedTree) → HaveSameRows (table_of tree) (table_of other) → AreOfOneDefinition tree other → image_from_scratch name tree ≡ image_from_scratch name other
+pub trees_alike : (name : List ℕ) (tree other : NamedTree) → HaveSameRows (table_of tree) (table_of other) → AreOfOneDefinition tree other
+    → image_from_scratch name tree ≡ image_from_scratch name other
 trees_alike name (Primary first) (Primary second) same one = rows_alike name first second same
 trees_alike name (Primary first) (Secondary second index) same one = absurd one
 trees_alike name (Secondary first index) (Primary second) same one = absurd one

@@ -1,5 +1,6 @@
 -- Trees of rows that have the same image hold the same rows.
-use Rattle.std.proofs.Common.{ℕ, zero, suc, ◌≡◌, ◌≢◌, ◌∙◌, ◌+◌, ◌-◌, ◌<◌, ◌≤◌, ◌^◌, ◌/◌, ◌%◌, min, Bool, true, false, ◌&&◌, List, [], ◌∷◌, ◌++◌, length, map, Option, Some, None, ap, sym, subst, refl, arith, append_assoc, append-nil, if◌then◌else◌, codes, T, cond, nat_lt, inl, inr}
+use Rattle.std.proofs.Common.{ℕ, zero, suc, ◌≡◌, ◌≢◌, ◌∙◌, ◌+◌, ◌-◌, ◌<◌, ◌≤◌, ◌^◌, ◌/◌, ◌%◌, min, Bool, true, false, ◌&&◌, List, [], ◌∷◌, ◌++◌, length, map}
+use Rattle.std.proofs.Common.{Option, Some, None, ap, sym, subst, refl, arith, append_assoc, append-nil, if◌then◌else◌, codes, T, cond, nat_lt, inl, inr}
 use Rattle.std.proofs.lemmas.Bool.Decides.{nat_tests}
 use Rattle.std.proofs.lemmas.Fmt.{decimal_injective, digits_decimal}
 use Rattle.std.proofs.lemmas.Str.Parse.{IsNumeralModel, numerals_by_fold}
@@ -98,7 +99,8 @@ line_text fields rest =
 
 record_read : (fields others : List (List ℕ)) (rest other : List ℕ) → record_text fields ++ 10 ∷ rest ≡ record_text others ++ 10 ∷ other → (read_back fields ≡ read_back others) × (rest ≡ other)
 record_read fields others rest other same =
-    let next : next_record default_config state.StartRecord [] [] (writing.row_text default_writer fields ++ rest) ≡ next_record default_config state.StartRecord [] [] (writing.row_text default_writer others ++ other) =
+    let next : next_record default_config state.StartRecord [] [] (writing.row_text default_writer fields ++ rest)
+    ≡ next_record default_config state.StartRecord [] [] (writing.row_text default_writer others ++ other) =
     ap (next_record default_config state.StartRecord [] []) (sym (line_text fields rest) ∙ same ∙ line_text others other) in
     let all = sym (read-write fields rest) ∙ next ∙ read-write others other in
     (ap (fields_in (read_back fields)) all, ap (rest_in rest) all)
@@ -133,7 +135,8 @@ fields_back [] row some fits = absurd (omega (arith, some))
 fields_back (c ∷ columns) [] some fits = absurd cc
 fields_back (c ∷ columns) (v ∷ row) some fits = refl
 
-line_is : (indent : List ℕ) (row : Key × List Value) (rest : List ℕ) → leaf_row_line row_text indent row ++ rest ≡ indent ++ (61 ∷ 32 ∷ (hex_text row.0 ++ 32 ∷ (record_text (map text_of row.1) ++ 10 ∷ rest)))
+line_is : (indent : List ℕ) (row : Key × List Value) (rest : List ℕ)
+    → leaf_row_line row_text indent row ++ rest ≡ indent ++ (61 ∷ 32 ∷ (hex_text row.0 ++ 32 ∷ (record_text (map text_of row.1) ++ 10 ∷ rest)))
 line_is indent row rest =
     let fields = record_text (map text_of row.1) in
     append_assoc (indent ++ (61 ∷ 32 ∷ hex_text row.0)) (32 ∷ (fields ++ 10 ∷ [])) rest
@@ -141,7 +144,8 @@ line_is indent row rest =
     ∙ ap (λ (t : List ℕ). indent ++ (61 ∷ 32 ∷ (hex_text row.0 ++ 32 ∷ t))) (append_assoc fields (10 ∷ []) rest)
 
 module _ (schema : Schema) (some : 1 ≤ length schema.columns) where
-  row_read : (indent : List ℕ) (row other : Key × List Value) (rest more : List ℕ) → Stands schema row.0 row.1 → Stands schema other.0 other.1 → AllByRecursion HasOnlyBytes row.1 → AllByRecursion HasOnlyBytes other.1
+  row_read : (indent : List ℕ) (row other : Key × List Value) (rest more : List ℕ) → Stands schema row.0 row.1 → Stands schema other.0 other.1
+      → AllByRecursion HasOnlyBytes row.1 → AllByRecursion HasOnlyBytes other.1
       → leaf_row_line row_text indent row ++ rest ≡ leaf_row_line row_text indent other ++ more → (row ≡ other) × (rest ≡ more)
   row_read indent row other rest more stands other_stands bytes other_bytes same =
       let line = cancelled (61 ∷ 32 ∷ []) _ _ (cancelled indent _ _ (sym (line_is indent row rest) ∙ same ∙ line_is indent other more)) in
@@ -149,7 +153,8 @@ module _ (schema : Schema) (some : 1 ≤ length schema.columns) where
       let fields = record_read (map text_of row.1) (map text_of other.1) rest more cut.left in
       let texts : map text_of row.1 ≡ map text_of other.1 = sym (fields_back schema.columns row.1 some stands.fits) ∙ fields.0 ∙ fields_back schema.columns other.1 some other_stands.fits in
       let found : Some row.1 ≡ Some other.1 =
-      sym (values_of_texts schema.columns row.1 stands.fits stands.in_range bytes) ∙ ap (values_of schema.columns) texts ∙ values_of_texts schema.columns other.1 other_stands.fits other_stands.in_range other_bytes in
+      sym (values_of_texts schema.columns row.1 stands.fits stands.in_range bytes) ∙ ap (values_of schema.columns) texts
+      ∙ values_of_texts schema.columns other.1 other_stands.fits other_stands.in_range other_bytes in
       let values : row.1 ≡ other.1 = cc in
       let key : row.0 ≡ other.0 = stands.placed ∙ ap (row_key schema.keys) values ∙ sym other_stands.placed in
       (λ i. (key i, values i), fields.1)
@@ -164,12 +169,17 @@ module _ (schema : Schema) (some : 1 ≤ length schema.columns) where
       let other_lines = flat_map (leaf_row_line row_text indent) others in
       let one = row_read indent r o (lines ++ rest) (other_lines ++ more) fine.stand.0 other_fine.stand.0 fine.bytes.0 other_fine.bytes.0
       (sym (append_assoc (leaf_row_line row_text indent r) lines rest) ∙ same ∙ append_assoc (leaf_row_line row_text indent o) other_lines more) in
-      let all = rows_read indent rows others rest more (omega (arith, many)) (record { stand = fine.stand.1; bytes = fine.bytes.1 }) (record { stand = other_fine.stand.1; bytes = other_fine.bytes.1 }) one.1 in
+      let all = rows_read indent rows others rest more (omega (arith, many)) (record { stand = fine.stand.1; bytes = fine.bytes.1 }) (record {
+        stand =
+            other_fine.stand.1;
+        bytes = other_fine.bytes.1;
+      }) one.1 in
       (λ i. one.0 i ∷ all.0 i, all.1)
 
 -- ---- nodes
 
-module _ {D : Type 0} (delta_text : D → List ℕ) (effect : Option (List Value) → Message (List Value) D → Option (List Value)) (weigh : Key × Message (List Value) D → ℕ) (shape other_shape : Shape) (schema : Schema) where
+module _ {D : Type 0} (delta_text : D → List ℕ) (effect : Option (List Value) → Message (List Value) D → Option (List Value)) (weigh : Key
+    × Message (List Value) D → ℕ) (shape other_shape : Shape) (schema : Schema) where
   abbrev RowNode : Type 0
   RowNode = Tree (List Value) (Message (List Value) D)
 
@@ -201,7 +211,8 @@ module _ {D : Type 0} (delta_text : D → List ℕ) (effect : Option (List Value
   empty_is indent ns b rest empty = ap (λ (ms : Messages (Message (List Value) D)). node_text row_text delta_text indent (inner ns ms) ++ rest) empty ∙ inner_is indent ns rest
 
   -- a leaf is not an inner node
-  apart : (indent : List ℕ) (rows : RowMap) (ns : RowNodes) (b : Messages (Message (List Value) D)) (rest more : List ℕ) → b ≡ [] → node_text row_text delta_text indent (leaf rows) ++ rest ≡ node_text row_text delta_text indent (inner ns b) ++ more → ⊥
+  apart : (indent : List ℕ) (rows : RowMap) (ns : RowNodes) (b : Messages (Message (List Value) D)) (rest more : List ℕ) → b ≡ []
+      → node_text row_text delta_text indent (leaf rows) ++ rest ≡ node_text row_text delta_text indent (inner ns b) ++ more → ⊥
   apart indent rows ns b rest more empty same =
       let text = cancelled indent _ _ (sym (leaf_is indent rows rest) ∙ same ∙ empty_is indent ns b more empty) in
       let first : 108 ≡ 105 = ap (first_of 0) text in
@@ -216,11 +227,14 @@ module _ {D : Type 0} (delta_text : D → List ℕ) (effect : Option (List Value
   image_is name t =
       let text = node_text row_text delta_text [] t ++ codes "end\n" in
       let high = decimal (min (height t) (2 ^ 64 - 1)) in
-      ap (λ (x : List ℕ). codes "image " ++ x) (append_assoc name (codes " height " ++ (high ++ 10 ∷ [])) text ∙ ap (λ (x : List ℕ). name ++ (codes " height " ++ x)) (append_assoc high (10 ∷ []) text))
+      ap (λ (x : List ℕ). codes "image " ++ x) (append_assoc name (codes " height " ++ (high ++ 10 ∷ [])) text
+      ∙ ap (λ (x : List ℕ). name ++ (codes " height " ++ x)) (append_assoc high (10 ∷ []) text))
 
-  module _ (some : 1 ≤ length schema.columns) (small_leaf : shape.leaf < 2 ^ 64) (small_fanout : shape.fanout < 2 ^ 64) (other_leaf : other_shape.leaf < 2 ^ 64) (other_fanout : other_shape.fanout < 2 ^ 64) where
+  module _ (some : 1 ≤ length schema.columns) (small_leaf : shape.leaf < 2 ^ 64) (small_fanout : shape.fanout < 2 ^ 64) (other_leaf
+      : other_shape.leaf < 2 ^ 64) (other_fanout : other_shape.fanout < 2 ^ 64) where
     mutual
-      node_read : (indent : List ℕ) (t u : RowNode) (rest more : List ℕ) → IsDry t → IsDry u → IsSized weigh shape t → IsSized weigh other_shape u → AreFine schema (holds effect t) → AreFine schema (holds effect u)
+      node_read : (indent : List ℕ) (t u : RowNode) (rest more : List ℕ) → IsDry t → IsDry u → IsSized weigh shape t → IsSized weigh other_shape u
+          → AreFine schema (holds effect t) → AreFine schema (holds effect u)
           → node_text row_text delta_text indent t ++ rest ≡ node_text row_text delta_text indent u ++ more → (holds effect t ≡ holds effect u) × (rest ≡ more)
       node_read indent (leaf rows) (leaf others) rest more dry other_dry sized other_sized fine other_fine same =
           let text = cancelled (codes "leaf ") _ _ (cancelled indent _ _ (sym (leaf_is indent rows rest) ∙ same ∙ leaf_is indent others more)) in
@@ -234,10 +248,12 @@ module _ {D : Type 0} (delta_text : D → List ℕ) (effect : Option (List Value
           let below = cancelled (10 ∷ []) _ _ (cancelled (decimal 0) _ _ count.1) in
           let held : holds effect (inner ns b) ≡ nodes_hold effect ns = ap (λ ms. rows_after effect ms (nodes_hold effect ns)) dry.0 in
           let other_held : holds effect (inner ms d) ≡ nodes_hold effect ms = ap (λ ds. rows_after effect ds (nodes_hold effect ms)) other_dry.0 in
-          let all = children_read (deeper indent) ns ms rest more count.0 dry.1 other_dry.1 sized.3 other_sized.3 (subst (AreFine schema) held fine) (subst (AreFine schema) other_held other_fine) below in
+          let all = children_read (deeper indent) ns ms rest more count.0 dry.1 other_dry.1 sized.3 other_sized.3 (subst (AreFine schema) held fine)
+          (subst (AreFine schema) other_held other_fine) below in
           (held ∙ all.0 ∙ sym other_held, all.1)
 
-      children_read : (indent : List ℕ) (ns ms : RowNodes) (rest more : List ℕ) → length (children ns) ≡ length (children ms) → AreDry ns → AreDry ms → AreSized weigh shape ns → AreSized weigh other_shape ms
+      children_read : (indent : List ℕ) (ns ms : RowNodes) (rest more : List ℕ) → length (children ns) ≡ length (children ms) → AreDry ns → AreDry ms
+          → AreSized weigh shape ns → AreSized weigh other_shape ms
           → AreFine schema (nodes_hold effect ns) → AreFine schema (nodes_hold effect ms)
           → children_text row_text delta_text indent ns ++ rest ≡ children_text row_text delta_text indent ms ++ more → (nodes_hold effect ns ≡ nodes_hold effect ms) × (rest ≡ more)
       children_read indent none none rest more many dry other_dry sized other_sized fine other_fine same = (refl, same)
@@ -253,7 +269,8 @@ module _ {D : Type 0} (delta_text : D → List ℕ) (effect : Option (List Value
           (fine-rest schema (holds effect t) (nodes_hold effect ns) fine) (fine-rest schema (holds effect u) (nodes_hold effect ms) other_fine) one.1 in
           (λ i. one.0 i ++ all.0 i, all.1)
 
-      others_read : (indent : List ℕ) (ns ms : RowNodes) (rest more : List ℕ) → length (children ns) ≡ length (children ms) → AreDry ns → AreDry ms → AreSized weigh shape ns → AreSized weigh other_shape ms
+      others_read : (indent : List ℕ) (ns ms : RowNodes) (rest more : List ℕ) → length (children ns) ≡ length (children ms) → AreDry ns → AreDry ms
+          → AreSized weigh shape ns → AreSized weigh other_shape ms
           → AreFine schema (nodes_hold effect ns) → AreFine schema (nodes_hold effect ms)
           → others_text row_text delta_text indent ns ++ rest ≡ others_text row_text delta_text indent ms ++ more → (nodes_hold effect ns ≡ nodes_hold effect ms) × (rest ≡ more)
       others_read indent none none rest more many dry other_dry sized other_sized fine other_fine same = (refl, same)

@@ -1,5 +1,6 @@
 -- The rows of a dump are the rows that were dumped.
-use Rattle.std.proofs.Common.{ℕ, zero, suc, ◌≡◌, ◌∙◌, ◌+◌, ◌≤◌, ◌==◌, ◌&&◌, ◌++◌, Bool, true, false, List, [], ◌∷◌, length, map, None, Result, Ok, Err, ap, sym, subst, refl, arith, append_assoc, append-nil, length-append, if◌then◌else◌, codes, T, eq-eqb}
+use Rattle.std.proofs.Common.{ℕ, zero, suc, ◌≡◌, ◌∙◌, ◌+◌, ◌≤◌, ◌==◌, ◌&&◌, ◌++◌, Bool, true, false, List, [], ◌∷◌, length, map, None, Result}
+use Rattle.std.proofs.Common.{Ok, Err, ap, sym, subst, refl, arith, append_assoc, append-nil, length-append, if◌then◌else◌, codes, T, eq-eqb}
 use Rattle.std.proofs.lemmas.List.{length-map}
 use Rattle.std.specs.Cmp.Lexicographic.{pointwise}
 use Rattle.std.specs.FinMap.{is_sorted}
@@ -135,7 +136,8 @@ row_read columns item row of bytes =
 abbrev found : List (List Value) → List (Result (List Value) Refusal)
 found rows = map (λ row. Ok row) rows
 
-rows_read : (columns : List Column) (item : ℕ) (rows : List (List Value)) → AreOf columns rows → AllByRecursion (AllByRecursion HasOnlyBytes) rows → typed_from columns item (fields_of rows) ≡ found rows
+rows_read : (columns : List Column) (item : ℕ) (rows : List (List Value)) → AreOf columns rows → AllByRecursion (AllByRecursion HasOnlyBytes) rows
+    → typed_from columns item (fields_of rows) ≡ found rows
 rows_read columns item [] of bytes = refl
 rows_read columns item (row ∷ rows) of bytes = λ i. row_read columns item row of.0 bytes.0 i ∷ rows_read columns (item + 1) rows of.1 bytes.1 i
 
@@ -161,7 +163,8 @@ read_back-names [] some = absurd (omega (arith, some))
 read_back-names (c ∷ columns) some = refl
 
 -- the rows of a dump
-dumped_rows : (columns : List Column) (rows : List (List Value)) → 1 ≤ length columns → has_mark (header_line columns) ≡ false → AreOf columns rows → AllByRecursion (AllByRecursion HasOnlyBytes) rows → text_rows columns (dump_of columns rows) ≡ Ok rows
+dumped_rows : (columns : List Column) (rows : List (List Value)) → 1 ≤ length columns → has_mark (header_line columns) ≡ false → AreOf columns rows
+    → AllByRecursion (AllByRecursion HasOnlyBytes) rows → text_rows columns (dump_of columns rows) ≡ Ok rows
 dumped_rows columns rows some plain of bytes =
     let text = dump_of columns rows in
     let no_mark : has_mark text ≡ false = unmarked (record_text (names_of columns)) (flat_map record_line rows) plain in

@@ -46,7 +46,9 @@ some_column : (columns : Schema) → is_schema columns.columns columns.keys ≡ 
 some_column columns test = grind (arith, nat_tests)
 
 -- the image of a rebuilt tree of rows
-rows_image : (table : PlainTable) → IsStored table → image_after (Intact table) (Rebuild (codes "primary")) (codes "primary") ≡ Ok (row_image table.schema.columns (codes "primary") (packed table.shape table.rows))
+rows_image : (table : PlainTable) → IsStored table
+    → image_after (Intact table) (Rebuild (codes "primary")) (codes "primary")
+    ≡ Ok (row_image table.schema.columns (codes "primary") (packed table.shape table.rows))
 rows_image table stored = rebuilt_from_scratch table stored.sound (codes "primary") (Primary table) refl refl
 
 one_text : (first second : List ℕ) (read : Result (List ℕ) Refusal) → read ≡ Ok first → read ≡ Ok second → first ≡ second
@@ -73,6 +75,8 @@ told first second one two schema same =
     let bytes = subst (λ (rows : Rows (List Value)). AllByRecursion (λ row. AllByRecursion HasOnlyBytes row.1) rows) (sym (held first one)) one.bytes in
     let other_bytes = subst (λ (rows : Rows (List Value)). AllByRecursion (λ row. AllByRecursion HasOnlyBytes row.1) rows) (sym (held second two)) two.bytes in
     sym (held first one)
-    ∙ image_rows (change_text first.schema.columns) row_effect row_meaning.weigh first.shape second.shape first.schema (some_column first.schema one.schema) first_small.0 first_small.1 second_small.0 second_small.1
-    (codes "primary") (tree first one) (tree second two) (packed-dry first.shape first.rows) (packed-dry second.shape second.rows) first_fits.fits.sized second_fits.fits.sized stand other_stand bytes other_bytes texts
+    ∙ image_rows (change_text first.schema.columns) row_effect row_meaning.weigh first.shape second.shape first.schema (some_column first.schema one.schema)
+    first_small.0 first_small.1 second_small.0 second_small.1
+    (codes "primary") (tree first one) (tree second two) (packed-dry first.shape first.rows) (packed-dry second.shape second.rows) first_fits.fits.sized
+    second_fits.fits.sized stand other_stand bytes other_bytes texts
     ∙ held second two

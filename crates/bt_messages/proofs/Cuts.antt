@@ -1,5 +1,6 @@
 -- Sorted messages cut at keys, for `take_range` and `iter_from`.
-use Rattle.std.proofs.Common.{◌≡◌, ℕ, zero, suc, ◌<◌, ◌≤◌, Bool, true, false, not, ◌&&◌, cond, List, [], ◌∷◌, ◌++◌, ◌-◌, length, take, drop, get_or, Option, Some, None, refl, sym, ap, subst, ◌∙◌, true≢false, arith}
+use Rattle.std.proofs.Common.{◌≡◌, ℕ, zero, suc, ◌<◌, ◌≤◌, Bool, true, false, not, ◌&&◌, cond, List, [], ◌∷◌, ◌++◌, ◌-◌, length}
+use Rattle.std.proofs.Common.{take, drop, get_or, Option, Some, None, refl, sym, ap, subst, ◌∙◌, true≢false, arith}
 use Rattle.std.proofs.Math.Seq.{drop-length, take-length}
 use Rattle.std.proofs.lemmas.List.{take_rest}
 use Rattle.std.proofs.lemmas.List.Filters.{length-filter_both}
@@ -104,7 +105,8 @@ module _ {M : Type 0} where
 
   -- they are those before its first bound, and those from its second one on
   pub outside_is : (from to : Option (List ℕ)) (ms : Messages M) → IsSorted ms →
-      messages_outside from to ms ≡ filter (λ (m : List ℕ × M). is_before_lower from m.0) (filter (λ (m : List ℕ × M). is_before_upper to m.0) ms) ++ filter (λ (m : List ℕ × M). not (is_before_upper to m.0)) ms
+      messages_outside from to ms ≡ filter (λ (m : List ℕ × M). is_before_lower from m.0) (filter (λ (m : List ℕ × M). is_before_upper to m.0) ms) ++ filter
+      (λ (m : List ℕ × M). not (is_before_upper to m.0)) ms
   outside_is from to [] h = refl
   outside_is from to (m ∷ ms) h =
       let others = outside_is from to ms h.1 in
@@ -114,7 +116,8 @@ module _ {M : Type 0} where
       ++ cond (not s) (m ∷ filter (λ (n : List ℕ × M). not (is_before_upper to n.0)) ms) (filter (λ (n : List ℕ × M). not (is_before_upper to n.0)) ms)) [
         | true ↦ λ e. elim (is_before_lower from m.0) as (λ b.
             cond (not (not b && true)) (m ∷ messages_outside from to ms) (messages_outside from to ms)
-            ≡ cond b (m ∷ filter (λ (n : List ℕ × M). is_before_lower from n.0) (filter (λ (n : List ℕ × M). is_before_upper to n.0) ms)) (filter (λ (n : List ℕ × M). is_before_lower from n.0) (filter (λ (n : List ℕ × M). is_before_upper to n.0) ms))
+            ≡ cond b (m ∷ filter (λ (n : List ℕ × M). is_before_lower from n.0) (filter (λ (n : List ℕ × M). is_before_upper to n.0) ms))
+            (filter (λ (n : List ℕ × M). is_before_lower from n.0) (filter (λ (n : List ℕ × M). is_before_upper to n.0) ms))
             ++ filter (λ (n : List ℕ × M). not (is_before_upper to n.0)) ms) [
               | true ↦ ap (λ zs. m ∷ zs) others
               | false ↦ others

@@ -52,7 +52,8 @@ module _ {M : Type 0} where
   some_left o n l e = omega (arith, l, ap length e, length-with_messages n o)
 
   -- the runs of what is moved
-  pub moved_runs : (first moved o n older newer : Messages M) (runs : List (Messages M)) (count : ℕ) → moved ++ with_messages n o ≡ with_messages newer older → IsSorted older → first ≡ [] → AreSome runs →
+  pub moved_runs : (first moved o n older newer : Messages M) (runs : List (Messages M)) (count : ℕ) → moved ++ with_messages n o ≡ with_messages newer older
+      → IsSorted older → first ≡ [] → AreSome runs →
       concatenation runs ≡ moved → count ≡ length moved → count < 2 ^ 63 → AreRuns first runs count
   moved_runs first moved o n older newer runs count e h f s j l b =
       whole_runs first runs moved count f s (sorted_left moved (with_messages n o) (subst (IsSorted {X = M}) (sym e) (sorted-with_messages newer older h))) j l b
@@ -68,7 +69,8 @@ module _ {M : Type 0} where
       ap (λ z. a ++ z) (concatenation-append rs qs) ∙ sym (append_assoc a (concatenation rs) (concatenation qs)) ∙ ap (λ z. (a ++ concatenation rs) ++ z) e
 
   -- a packet with the lists of another one after its own
-  pub runs-append : (a b whole : Messages M) (rs qs new : List (Messages M)) (n m k : ℕ) → AreRuns a rs n → AreSome qs → concatenation qs ≡ b → m ≡ length b → a ++ concatenation rs ≡ whole → IsSorted (whole ++ b) →
+  pub runs-append : (a b whole : Messages M) (rs qs new : List (Messages M)) (n m k : ℕ) → AreRuns a rs n → AreSome qs → concatenation qs ≡ b → m ≡ length b
+      → a ++ concatenation rs ≡ whole → IsSorted (whole ++ b) →
       (k ≡ n + m) × (k < 2 ^ 63) → new ≡ rs ++ qs → AreRuns a new k × (a ++ concatenation new ≡ whole ++ b)
   runs-append a b whole rs qs new n m k h s e f w i c l =
       let is : a ++ concatenation new ≡ whole ++ b = ap (λ z. a ++ concatenation z) l ∙ whole-append a b rs qs e ∙ ap (λ z. z ++ b) w in (

@@ -1,5 +1,6 @@
 -- Runs: a place found among them, and the messages taken off them.
-use Rattle.std.proofs.Common.{◌≡◌, ◌==◌, ℕ, zero, suc, ◌<◌, ◌≤◌, ◌+◌, ◌-◌, ◌^◌, Bool, true, false, List, [], ◌∷◌, ◌++◌, append_assoc, append-nil, length, take, drop, get_or, refl, sym, ap, subst, ◌∙◌, Option, None, Some, true≢false, arith}
+use Rattle.std.proofs.Common.{◌≡◌, ◌==◌, ℕ, zero, suc, ◌<◌, ◌≤◌, ◌+◌, ◌-◌, ◌^◌, Bool, true, false, List, [], ◌∷◌, ◌++◌, append_assoc, append-nil}
+use Rattle.std.proofs.Common.{length, take, drop, get_or, refl, sym, ap, subst, ◌∙◌, Option, None, Some, true≢false, arith}
 use Rattle.std.proofs.lemmas.List.{length-append, length-take-le}
 use Rattle.std.specs.List.Sorted.{IsPartitionedBy, IsPartitionPoint}
 use Rattle.std.specs.Option.{MatchOption, option_to_list}
@@ -154,7 +155,8 @@ module _ {M : Type 0} where
   concatenation-cut : (rs : List (Messages M)) (n : ℕ) → n < length rs → concatenation rs ≡ concatenation (take n rs) ++ (get_or rs n [] ++ concatenation (drop (suc n) rs))
   concatenation-cut [] n l = absurd (omega (arith, l))
   concatenation-cut (r ∷ rs) zero l = refl
-  concatenation-cut (r ∷ rs) (suc n) l = ap (λ z. r ++ z) (concatenation-cut rs n (omega (arith, l))) ∙ sym (append_assoc r (concatenation (take n rs)) (get_or rs n [] ++ concatenation (drop (suc n) rs)))
+  concatenation-cut (r ∷ rs) (suc n) l = ap (λ z. r ++ z) (concatenation-cut rs n (omega (arith, l)))
+      ∙ sym (append_assoc r (concatenation (take n rs)) (get_or rs n [] ++ concatenation (drop (suc n) rs)))
 
   -- the messages of one more run
   pub one_more_run : (rs : List (Messages M)) (n : ℕ) (d : Messages M) → n < length rs → length (concatenation (take (suc n) rs)) ≡ length (concatenation (take n rs)) + length (get_or rs n d)
@@ -203,7 +205,8 @@ module _ {M : Type 0} where
   begins_first k [] b m l e = absurd (omega (arith, l))
   begins_first k (n ∷ a) b m l e = ap (λ (x : List ℕ × M). is_before x.0 k) e
 
-  pub begins_run : (k : List ℕ) (a : Messages M) (rs : List (Messages M)) (r : Messages M) → length a ≡ 0 → AreSome rs → 0 < length rs → r ≡ get_or rs 0 r → begins_before k r ≡ begins_before k (a ++ concatenation rs)
+  pub begins_run : (k : List ℕ) (a : Messages M) (rs : List (Messages M)) (r : Messages M) → length a ≡ 0 → AreSome rs → 0 < length rs → r ≡ get_or rs 0 r
+      → begins_before k r ≡ begins_before k (a ++ concatenation rs)
   begins_run k (m ∷ a) rs r z s l e = absurd (omega (arith, z))
   begins_run k [] [] r z s l e = absurd (omega (arith, l))
   begins_run k [] ([] ∷ rs) r z s l e = absurd (omega (arith, s.0))
@@ -243,7 +246,8 @@ module _ {M : Type 0} where
       )
 
   -- the first message of a list, if it has any
-  pub first_popped : (X Y : Type 0) (r : Option (List ℕ × M)) (whole a left rest : Messages M) (n : ℕ) → a ++ rest ≡ whole → a ≡ option_to_list r ++ left → (length a ≡ 0 → a ++ rest ≡ []) → n ≡ length a →
+  pub first_popped : (X Y : Type 0) (r : Option (List ℕ × M)) (whole a left rest : Messages M) (n : ℕ) → a ++ rest ≡ whole → a ≡ option_to_list r ++ left
+      → (length a ≡ 0 → a ++ rest ≡ []) → n ≡ length a →
       MatchOption r ((n ≡ 0) × X) (λ _. Y) → MatchOption r ((whole ≡ []) × (left ++ rest ≡ [])) (λ m. whole ≡ m ∷ (left ++ rest))
   first_popped X Y None whole a left rest n e f none l cases =
       let empty = none (omega (arith, l, cases.0)) in
@@ -274,10 +278,12 @@ module _ {M : Type 0} where
   none_left runs s wanted left zero l e f = (sym (append-nil (concatenation runs)) ∙ e, f)
   none_left runs s wanted left (suc n) l e f = absurd (omega (arith, l))
 
-  pub whole_runs : (first : Messages M) (runs : List (Messages M)) (s : Messages M) (n : ℕ) → first ≡ [] → AreSome runs → IsSorted s → concatenation runs ≡ s → n ≡ length s → n < 2 ^ 63 → AreRuns first runs n
+  pub whole_runs : (first : Messages M) (runs : List (Messages M)) (s : Messages M) (n : ℕ) → first ≡ [] → AreSome runs → IsSorted s → concatenation runs ≡ s
+      → n ≡ length s → n < 2 ^ 63 → AreRuns first runs n
   whole_runs first runs s n e h i f g b =
       let is : first ++ concatenation runs ≡ s = ap (λ z. z ++ concatenation runs) e ∙ f in
       record { some = h; sorted = subst IsSorted (sym is) i; count = g ∙ sym (ap length is); bound = b }
 
-  pub all_runs : (first : Messages M) (runs : List (Messages M)) (s : Messages M) (n c : ℕ) → first ≡ [] → AreSome runs → IsSorted s → concatenation runs ≡ take c s → c ≤ length s → n ≡ length s → n < 2 ^ 63 → AreRuns first runs c
+  pub all_runs : (first : Messages M) (runs : List (Messages M)) (s : Messages M) (n c : ℕ) → first ≡ [] → AreSome runs → IsSorted s
+      → concatenation runs ≡ take c s → c ≤ length s → n ≡ length s → n < 2 ^ 63 → AreRuns first runs c
   all_runs first runs s n c e h i f l g b = whole_runs first runs (take c s) c e h (sorted_take c s i) f (sym (length-take-le c s l)) (omega (arith, l, g, b))

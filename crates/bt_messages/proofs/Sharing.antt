@@ -1,5 +1,6 @@
 -- Shares of a stream moved to bins, one after the other, for the loops of `move_each` and `room_for_each`.
-use Rattle.std.proofs.Common.{◌≡◌, ℕ, zero, suc, ◌<◌, ◌≤◌, ◌+◌, ◌-◌, List, [], ◌∷◌, ◌++◌, Vec, Global, append_assoc, length, take, drop, get_or, set, vec_len, vec_capacity, Result, Ok, Err, IfOk, refl, sym, ap, subst, ◌∙◌, arith}
+use Rattle.std.proofs.Common.{◌≡◌, ℕ, zero, suc, ◌<◌, ◌≤◌, ◌+◌, ◌-◌, List, [], ◌∷◌, ◌++◌, Vec, Global, append_assoc, length, take}
+use Rattle.std.proofs.Common.{drop, get_or, set, vec_len, vec_capacity, Result, Ok, Err, IfOk, refl, sym, ap, subst, ◌∙◌, arith}
 use Rattle.std.proofs.lemmas.List.{drop-drop, drop-set-lt, length-drop, drop_more, take_more_set}
 use Rattle.bt_keycode.specs.Keys.{IsSorted}
 use Rattle.bt_messages.specs.Bins.{each_with}
@@ -43,7 +44,8 @@ module _ {M : Type 0} where
   new_room (Err e) n size ms f i c = tt
 
   -- it holds all
-  pub fits_all : (room merged older : Vec (List ℕ × M) Global) (ms : Messages M) (n : ℕ) → merged ≡ room → older.items ≡ ms → vec_len merged ≡ length merged.items → vec_len older ≡ length older.items →
+  pub fits_all : (room merged older : Vec (List ℕ × M) Global) (ms : Messages M) (n : ℕ) → merged ≡ room → older.items ≡ ms
+      → vec_len merged ≡ length merged.items → vec_len older ≡ length older.items →
       HasRoom n ms room → 0 < n → vec_len merged + vec_len older + n ≤ vec_capacity merged
   fits_all room merged older ms n e f l k h p =
       let none : length merged.items ≡ 0 = ap (λ (v : Vec (List ℕ × M) Global). length v.items) e ∙ ap length h.0 in

@@ -1,5 +1,6 @@
 -- The number of messages in all bins.
-use Rattle.std.proofs.Common.{◌≡◌, ℕ, zero, suc, ◌<◌, ◌≤◌, ◌+◌, ◌-◌, List, [], ◌∷◌, ◌++◌, append_assoc, replicate, get_or, set, length, map, take, drop, Result, Ok, Err, OnOk, OnErr, refl, sym, ap, ◌∙◌, arith}
+use Rattle.std.proofs.Common.{◌≡◌, ℕ, zero, suc, ◌<◌, ◌≤◌, ◌+◌, ◌-◌, List, [], ◌∷◌, ◌++◌, append_assoc, replicate, get_or}
+use Rattle.std.proofs.Common.{set, length, map, take, drop, Result, Ok, Err, OnOk, OnErr, refl, sym, ap, ◌∙◌, arith}
 use Rattle.bt_messages.specs.Parts.{total}
 
 module _ {X : Type 0} where

@@ -1,5 +1,6 @@
 -- Stored sums and weighed shares, for the steps of `gain`, `weigh_next` and `weighed_shares`.
-use Rattle.std.proofs.Common.{◌≡◌, ℕ, zero, suc, ◌<◌, ◌≤◌, ◌+◌, ◌-◌, List, [], ◌∷◌, ◌++◌, Option, None, Some, IfSome, append_assoc, drop, get_or, length, map, set, take, refl, sym, ap, subst, ◌∙◌, arith}
+use Rattle.std.proofs.Common.{◌≡◌, ℕ, zero, suc, ◌<◌, ◌≤◌, ◌+◌, ◌-◌, List, [], ◌∷◌, ◌++◌, Option, None, Some, IfSome}
+use Rattle.std.proofs.Common.{append_assoc, drop, get_or, length, map, set, take, refl, sym, ap, subst, ◌∙◌, arith}
 use Rattle.std.proofs.lemmas.List.{append-nil, drop-drop, drop-map, drop-set-lt, drop_all, drop_more, get_or-map, length-drop, length-take-le, take_all, take_more_set}
 use Rattle.bt_keycode.specs.Keys.{Key}
 use Rattle.bt_messages.specs.Messages.{Messages, with_messages}

@@ -15,5 +15,6 @@ module _ {S X : Type 0} (join : S → S → S) (one : X → S) (none : S) (assoc
   joined_as_one s xs ys = joined_fold (fold with_one s xs) none ys ∙ ap (λ z. fold with_one z ys) (unit (fold with_one s xs)) ∙ sym (fold-append with_one s xs ys)
 
 -- copies of rows
-pub copies_as_one : {X : Type 0} (copies rows behind : List X) → fold (λ all row. all ++ row ∷ []) copies rows ++ fold (λ all row. all ++ row ∷ []) [] behind ≡ fold (λ all row. all ++ row ∷ []) copies (rows ++ behind)
+pub copies_as_one : {X : Type 0} (copies rows behind : List X)
+    → fold (λ all row. all ++ row ∷ []) copies rows ++ fold (λ all row. all ++ row ∷ []) [] behind ≡ fold (λ all row. all ++ row ∷ []) copies (rows ++ behind)
 copies_as_one {X} copies rows behind = joined_as_one (λ (first second : List X). first ++ second) (λ x. x ∷ []) [] append_assoc append-nil copies rows behind

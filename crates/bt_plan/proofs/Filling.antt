@@ -102,7 +102,8 @@ module _ {V M : Type 0} (meaning : Meaning V M) (s : Shape) (leaf_some : 0 < s.l
       let cs = shared (children ns) all in
       let ss = slots meaning.weigh s mode cs in
       let are = slots-are levels low high ns b p lies sized within in
-      cond_both (has_room mode s (load meaning.weigh s.measure all)) (whole (inner ns all)) (opened_node meaning.weigh depth mode s place ss) (λ h. filled_with s (outcome meaning s) h ≡ f (inner ns b) p)
+      cond_both (has_room mode s (load meaning.weigh s.measure all)) (whole (inner ns all)) (opened_node meaning.weigh depth mode s place ss)
+      (λ h. filled_with s (outcome meaning s) h ≡ f (inner ns b) p)
       (λ room. sym (flush_recurs meaning mode s ns b p ∙ node-stays meaning.weigh mode s ns all room lies.3 (sorted-with_messages p b lies.1) fanout_some sized.1 f))
       (λ _. ap (λ xs. grouped s (shared xs (left_pending ss))) (children-filled depth levels (cut-filled depth levels) place 0 low high ss are.lie are.sized)
       ∙ ap (grouped s) (pass-divides levels low high ss are.lie ∙ sym (flushed-slots meaning.weigh s mode f cs))

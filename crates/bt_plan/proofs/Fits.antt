@@ -15,7 +15,8 @@ use Rattle.bt_node.specs.Marks.{has_room}
 use Rattle.bt_node.specs.Messages.{Meaning, Messages, load, with_messages}
 use Rattle.bt_node.specs.Trees.{Shape, Tree, leaf, inner, children}
 use Rattle.bt_node.specs.declared.form.mode.Mode.{Mode}
-use Rattle.bt_node.proofs.offered.FlushSteps.{ChildLies, ChildrenLie, ChildrenSized, all_pending, all_pending-shared, all_pending-within, divided-lie, flushed-fits, length-shared, names, start-lies, flushed-slots, names-slots, slots}
+use Rattle.bt_node.proofs.offered.FlushSteps.{ChildLies, ChildrenLie, ChildrenSized, all_pending, all_pending-shared, all_pending-within, divided-lie}
+use Rattle.bt_node.proofs.offered.FlushSteps.{flushed-fits, length-shared, names, start-lies, flushed-slots, names-slots, slots}
 use Rattle.bt_plan.specs.Pieces.{Holed, HoledChild, HoledFits, HoledNodes, IsSent, Place, hole, holed_nodes, opened, pivots_below, shared_below, whole, with_bins}
 use Rattle.bt_plan.specs.Cuts.{Job, child_place, cut_out, left_pending}
 use Rattle.bt_plan.specs.Laws.{JobFits}
@@ -124,7 +125,8 @@ module _ {V M : Type 0} (meaning : Meaning V M) (s : Shape) (leaf_some : 0 < s.l
       let cs = shared (children ns) all in
       let ss = slots meaning.weigh s mode cs in
       let are : AreSlots meaning.weigh s levels low high ss = slots-are meaning s leaf_some fanout_some mode levels low high ns b p lies sized within in
-      cond_both (has_room mode s (load meaning.weigh s.measure all)) (whole (inner ns all)) (opened_node meaning.weigh depth mode s place ss) (HoledFits meaning.weigh (JobFits meaning.weigh s) s (suc levels) low high)
+      cond_both (has_room mode s (load meaning.weigh s.measure all)) (whole (inner ns all)) (opened_node meaning.weigh depth mode s place ss)
+      (HoledFits meaning.weigh (JobFits meaning.weigh s) s (suc levels) low high)
       (λ room. record {
         lies = (
           subst (AllWithin low high) (all_pending-shared (children ns) all (omega (arith, sized.0)) sorted)

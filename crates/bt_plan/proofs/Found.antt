@@ -15,7 +15,8 @@ use Rattle.bt_node.specs.Flushes.{pivot_first, grouped, shared}
 use Rattle.bt_node.specs.Messages.{Meaning}
 use Rattle.bt_node.specs.Trees.{Shape, Siblings}
 use Rattle.bt_keycode.proofs.offered.Truths.{t_first, t_second, true_t}
-use Rattle.bt_plan.specs.Pieces.{Holed, HoledNodes, Pieces, child, childless, filled_below, filled_with, hole, holes, holes_below, node_place_cmp, opened, piece_at, whole, with_holes, with_holes_below}
+use Rattle.bt_plan.specs.Pieces.{Holed, HoledNodes, Pieces, child, childless, filled_below, filled_with, hole, holes}
+use Rattle.bt_plan.specs.Pieces.{holes_below, node_place_cmp, opened, piece_at, whole, with_holes, with_holes_below}
 use Rattle.bt_plan.specs.Cuts.{Job, hole_of, outcome, outcomes}
 use Rattle.bt_plan.proofs.Places.{Rise, by_place}
 use Rattle.bt_plan.proofs.offered.Each.{each-first, each-rest}

@@ -35,16 +35,19 @@ module _ {V M H G : Type 0} (weigh : Key × M → ℕ) (shape : Shape) (answer :
     abbrev Child : {K : Type 0} → (ℕ → Option Key → Option Key → K → Type 0) → ℕ → Option Key → Option Key → HoledChild V M K → Type 0
     Child P levels low high c = HoledFits weigh P shape levels low high c.node × AllWithin low high c.pending × IsSorted c.pending × IsSent c.node c.pending
 
-    child-with_holes : (levels : ℕ) → Tells V M weigh shape answer Asked Wanted levels → (low high : Option Key) (k : Key) (h : Holed V M H) (b : Messages M) → Each (Turns answer Asked Wanted) (holes h) →
+    child-with_holes : (levels : ℕ) → Tells V M weigh shape answer Asked Wanted levels → (low high : Option Key) (k : Key) (h : Holed V M H) (b : Messages M)
+        → Each (Turns answer Asked Wanted) (holes h) →
         Child Asked levels low high (record { pivot = k; node = h; pending = b }) → Child Wanted levels low high (record { pivot = k; node = with_holes answer h; pending = b })
     child-with_holes levels tells low high k h b e f = (tells low high h e f.0, f.1, f.2, sent-with_holes h b f.3)
 
-    children-with_holes : (levels : ℕ) → Tells V M weigh shape answer Asked Wanted levels → (low high : Option Key) (hs : HoledNodes V M H) (bs : List (Messages M)) → Each (Turns answer Asked Wanted) (holes_below hs) →
+    children-with_holes : (levels : ℕ) → Tells V M weigh shape answer Asked Wanted levels
+        → (low high : Option Key) (hs : HoledNodes V M H) (bs : List (Messages M)) → Each (Turns answer Asked Wanted) (holes_below hs) →
         SideBySide (λ c. c.pivot) (Child Asked levels) low high (with_bins hs bs) → SideBySide (λ c. c.pivot) (Child Wanted levels) low high (with_bins (with_holes_below answer hs) bs)
     children-with_holes levels tells low high childless bs e s = tt
     children-with_holes levels tells low high (child k h hs) [] e s = tt
     children-with_holes levels tells low high (child k h childless) (b ∷ bs) e s = child-with_holes levels tells low high k h b (each-first (Turns answer Asked Wanted) (holes h) [] e) s
-    children-with_holes levels tells low high (child k h (child j i hs)) (b ∷ []) e s = child-with_holes levels tells low high k h b (each-first (Turns answer Asked Wanted) (holes h) (holes_below (child j i hs)) e) s
+    children-with_holes levels tells low high (child k h (child j i hs)) (b ∷ []) e s =
+        child-with_holes levels tells low high k h b (each-first (Turns answer Asked Wanted) (holes h) (holes_below (child j i hs)) e) s
     children-with_holes levels tells low high (child k h (child j i hs)) (b ∷ c ∷ bs) e s = (
       s.0,
       s.1,

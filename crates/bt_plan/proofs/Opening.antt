@@ -26,7 +26,8 @@ use Rattle.bt_node.specs.declared.form.mode.Mode.{Mode}
 use Rattle.bt_node.specs.declared.flush.opening.Opened as code
 use Rattle.bt_node.specs.declared.flush.opening.Step.{Step}
 use Rattle.bt_node.specs.declared.flush.opening.Step.TheVariants.{Opens}
-use Rattle.bt_node.proofs.offered.FlushSteps.{bins-length, children-nodes, led-full, length-flush_marks, length-shared, pending-with_pending, pivots-with_pending, shares-length, some_length, with_pending-shared, from-back, from-joined, from-prefix}
+use Rattle.bt_node.proofs.offered.FlushSteps.{bins-length, children-nodes, led-full, length-flush_marks, length-shared, pending-with_pending}
+use Rattle.bt_node.proofs.offered.FlushSteps.{pivots-with_pending, shares-length, some_length, with_pending-shared, from-back, from-joined, from-prefix}
 use Rattle.bt_plan.specs.Cuts.{Job, child_place, cut_out, hole_of, left_pending}
 use Rattle.bt_plan.specs.Pieces.{Holed, Place, child, hole, holed_nodes, holes, holes_below, opened, whole, with_holes, with_holes_below}
 use Rattle.bt_plan.specs.inside.Cutting.{AreSizedNodes, cut_each, kept_bins}
@@ -138,7 +139,8 @@ module _ {V M : Type 0} where
 
 -- An inner node that is opened: its nodes, the pivots between them and its bins, what is left of the stream whose first messages enter it, its shares of
 -- them, and its marks.
-pub record IsOpen {V M : Type 0} (weigh : Key × M → ℕ) (mode : Mode) (s : Shape) (xs : Siblings V M) (bins : List (Messages M)) (stream : Messages M) (count : ℕ) (rest : Messages M) (ts : List (Tree V M))
+pub record IsOpen {V M : Type 0} (weigh : Key × M → ℕ) (mode : Mode) (s : Shape) (xs : Siblings V M) (bins : List (Messages M)) (stream : Messages M) (count
+    : ℕ) (rest : Messages M) (ts : List (Tree V M))
     (ks : List Key) (bs : List (Messages M)) (ss : List Share) (ms : List Bool) : Type 0 where
   pub led : IsLed xs
   pub lie : LieBetween (pivots_of xs) bins
@@ -155,7 +157,8 @@ pub record IsOpen {V M : Type 0} (weigh : Key × M → ℕ) (mode : Mode) (s : S
 
 -- so it is when the code opens it and takes its children apart
 module _ {V D : Type 0} {weigh : Key × Message V D → ℕ} (mode : Mode) {s : Shape} {xs : Siblings V (Message V D)} {bins : List (Messages (Message V D))} (stream : Messages (Message V D)) (count : ℕ)
-    {rest : Messages (Message V D)} {step : Step V D} {node : code.Opened V D} {ts : List (Tree V (Message V D))} {ks : List Key} {bs : List (Messages (Message V D))} {ss : List Share} {ms : List Bool} where
+    {rest : Messages (Message V D)} {step : Step V D} {node : code.Opened V D} {ts : List (Tree V (Message V D))} {ks : List Key} {bs
+    : List (Messages (Message V D))} {ss : List Share} {ms : List Bool} where
   pub is_open : step ≡ Opens node → IsStep weigh mode s xs bins stream count rest step → LieBetween (pivots_of xs) bins → IsSized weigh s (inner (nodes xs) (concatenation bins)) →
       ts ≡ map (λ c. c.tree) node.children → ks ≡ map (λ c. c.pivot) (drop 1 node.children) → bs ≡ map (λ c. c.pending) node.children →
       ss ≡ node.shares.items → ms ≡ node.marks.items → IsOpen weigh mode s xs bins stream count rest ts ks bs ss ms

@@ -128,7 +128,8 @@ module _ {V M : Type 0} where
     child-rises depth rising place (c, true) = rising place c.tree c.pending
     child-rises depth rising place (c, false) = tt
 
-    children-rise : (depth : ℕ) → Rising V weigh depth mode s → (place : Place) (i : ℕ) (ss : List (Child V M × Bool)) → Rise (holes_below (holed_nodes (opened_children weigh depth mode s place i ss)))
+    children-rise : (depth : ℕ) → Rising V weigh depth mode s → (place : Place) (i : ℕ) (ss : List (Child V M × Bool))
+        → Rise (holes_below (holed_nodes (opened_children weigh depth mode s place i ss)))
     children-rise depth rising place i [] = tt
     children-rise depth rising place i (c ∷ ss) =
         rise-append place i _ _ (child-rises depth rising (child_place place i) c) (child-jobs depth (jobs-under depth) (child_place place i) c)

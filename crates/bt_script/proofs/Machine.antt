@@ -1,12 +1,15 @@
 -- Steps of cutting lines into commands. Serves the parser, which goes from place to place in a script.
-use Rattle.std.proofs.Common.{ℕ, Bool, List, [], ◌∷◌, ◌++◌, ◌≡◌, ◌==◌, ◌∙◌, refl, sym, ap, subst, true, false, not, Option, Some, None, drop, length, map, filter, ◌<◌, ◌≤◌, arith, inl, inr, codes, true≢false}
+use Rattle.std.proofs.Common.{ℕ, Bool, List, [], ◌∷◌, ◌++◌, ◌≡◌, ◌==◌, ◌∙◌, refl, sym, ap, subst, true, false, not, Option}
+use Rattle.std.proofs.Common.{Some, None, drop, length, map, filter, ◌<◌, ◌≤◌, arith, inl, inr, codes, true≢false}
 use Rattle.std.proofs.lemmas.Bool.{cases_Bool, eqb-true}
 use Rattle.std.proofs.lemmas.List.{append-nil, drop_all, map-append}
 use Rattle.std.proofs.lemmas.List.Elements.{filter-append}
 use Rattle.std.specs.Prelude.{◌&&◌, if◌then◌else◌, is_none, is_some, option_map}
 use Rattle.bt_record.specs.Records.{record_of}
 use Rattle.bt_script.specs.inside.Blocks.{FindsHeaded, IsBlock, and_bound, and_line, block_answer, headed, is_closed, place_after, with_bound, with_last}
-use Rattle.bt_script.specs.Commands.{Answer, Finds, Inside, Outside, all_some, behind_prefix, bounds_between, bounds_from, bounds_of, closing_of, command_of, commands, commands_from, filled_lines, if_some, is_blank_line, is_word, item_of_line, items_of, line_step, load_command, lower_bound, or_syntax, text_of_line, unfinished, upper_bound}
+use Rattle.bt_script.specs.Commands.{Answer, Finds, Inside, Outside, all_some, behind_prefix, bounds_between, bounds_from, bounds_of, closing_of}
+use Rattle.bt_script.specs.Commands.{command_of, commands, commands_from, filled_lines, if_some, is_blank_line, is_word, item_of_line, items_of}
+use Rattle.bt_script.specs.Commands.{line_step, load_command, lower_bound, or_syntax, text_of_line, unfinished, upper_bound}
 use Rattle.bt_script.specs.Lines.{lines, words, without_return}
 use Rattle.bt_script.specs.declared.blocks.BlockEnd.{BlockEnd}
 use Rattle.bt_script.specs.declared.blocks.BlockEnd.TheVariants.{Closed, CutOff}
@@ -153,7 +156,8 @@ tested line inner closing found answer cut test is = ap (λ (l : List ℕ). is_w
 module _ (script : List ℕ) (start at : ℕ) (closing : List ℕ) (IsMade : List (List ℕ) → Type 0) (so_far : HasRead script start at closing IsMade) where
   -- one more line, and the fact that is true with it
   pub read-more : (next : ℕ) (line inner : List ℕ) (found : Bool) (IsMadeNow : List (List ℕ) → Type 0) → lines (drop at script) ≡ line ∷ lines (drop next script) → (at < next) × (next ≤ length script)
-      → inner ≡ without_return line → found ≡ is_word inner closing → found ≡ false → ((block : List (List ℕ)) → IsMade block → IsMadeNow (block ++ line ∷ [])) → HasRead script start next closing IsMadeNow
+      → inner ≡ without_return line → found ≡ is_word inner closing → found ≡ false → ((block : List (List ℕ)) → IsMade block → IsMadeNow (block ++ line ∷ []))
+      → HasRead script start next closing IsMadeNow
   read-more next line inner found IsMadeNow first moves cut test other makes =
       let block = so_far.so_far in
       record {
@@ -163,7 +167,8 @@ module _ (script : List ℕ) (start at : ℕ) (closing : List ℕ) (IsMade : Lis
       }
 
   -- up to the closing line
-  pub read-closed : (next : ℕ) (line inner : List ℕ) (found : Bool) → lines (drop at script) ≡ line ∷ lines (drop next script) → inner ≡ without_return line → found ≡ is_word inner closing → found ≡ true
+  pub read-closed : (next : ℕ) (line inner : List ℕ) (found : Bool) → lines (drop at script) ≡ line ∷ lines (drop next script) → inner ≡ without_return line
+      → found ≡ is_word inner closing → found ≡ true
       → (block : List (List ℕ)) × IsMade block × IsBlock script start closing block (Closed next)
   read-closed next line inner found first cut test closes =
       let block = so_far.so_far in
@@ -187,7 +192,8 @@ pub headed-line : (parsed : Parsed) (script head : List ℕ) (at : ℕ) (command
 headed-line parsed script head at command closes makes found = rw (closes, sym makes) found
 
 -- the text of a block that is not closed does not matter
-pub load-answer : (end : BlockEnd) (ws : List (List ℕ)) (found text : List ℕ) → (is_closed end ≡ true → found ≡ text) → block_answer end (load_command ws text) ≡ block_answer end (load_command ws found)
+pub load-answer : (end : BlockEnd) (ws : List (List ℕ)) (found text : List ℕ) → (is_closed end ≡ true → found ≡ text)
+    → block_answer end (load_command ws text) ≡ block_answer end (load_command ws found)
 load-answer (Closed next) ws found text same = ap (λ (t : List ℕ). or_syntax (load_command ws t)) (sym (same refl))
 load-answer (CutOff next) ws found text same = elim (cases_Bool (length ws == 1)) [
   | inl alone ↦ rw alone refl

@@ -12,7 +12,8 @@ use Rattle.std.proofs.lemmas.List.Elements.{All-from_recursion, All-head}
 use Rattle.std.proofs.lemmas.Slice.Eq.{bytes_eq-Decides}
 use Rattle.clap.specs.Built.{IsAuto, SameRules}
 use Rattle.clap.specs.Facts.{Entry, EntryPasses, HasReading, PassesArg, ValuesPass, parser_of_value}
-use Rattle.clap.specs.Words.{App, IsParsedFrom, IsUnsignedIn, ReadsOne, Rule, Text, app_of, args_of, first_of, first_value, found_of, groups_of, matched_of, one_text, parser_of, reading_of, rows_of, rule_of}
+use Rattle.clap.specs.Words.{App, IsParsedFrom, IsUnsignedIn, ReadsOne, Rule, Text, app_of, args_of, first_of, first_value}
+use Rattle.clap.specs.Words.{found_of, groups_of, matched_of, one_text, parser_of, reading_of, rows_of, rule_of}
 use Rattle.clap.specs.declared.builder.arg.Arg.{Arg}
 use Rattle.clap.specs.declared.builder.command.Command.{Command}
 use Rattle.clap.specs.declared.builder.value_parser.Reading.TheVariants.{AsWritten}

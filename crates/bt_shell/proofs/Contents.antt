@@ -1,6 +1,7 @@
 -- Commands other than images and loads read no tree, upkeep and shapes change no contents, and the cutting of batches does not show. Serves the laws of
 -- `run_commands`.
-use Rattle.std.proofs.Common.{ℕ, suc, zero, ◌≡◌, ◌∙◌, ◌+◌, ◌||◌, arith, Bool, true, false, not, List, [], ◌∷◌, ◌++◌, append_assoc, map, flat_map, refl, sym, ap, subst, length, get_or, set, take, drop, Option, Some, None, option_map, is_some, Result, Ok, Err, if◌then◌else◌, nat_le, codes}
+use Rattle.std.proofs.Common.{ℕ, suc, zero, ◌≡◌, ◌∙◌, ◌+◌, ◌||◌, arith, Bool, true, false, not, List, [], ◌∷◌, ◌++◌, append_assoc, map, flat_map, refl, sym, ap}
+use Rattle.std.proofs.Common.{subst, length, get_or, set, take, drop, Option, Some, None, option_map, is_some, Result, Ok, Err, if◌then◌else◌, nat_le, codes}
 use Rattle.std.proofs.lemmas.List.{drop-map, length-map, map-append, take-map}
 use Rattle.std.proofs.Math.Seq.{map-set_same}
 use Rattle.std.specs.FinMap.{find}
@@ -29,7 +30,9 @@ use Rattle.bt_script.specs.declared.command.Command.TheVariants as command
 use Rattle.bt_script.specs.declared.command.Command.TheVariants.{Batch, Build, Drain, Drop, Get, Image, Load, Rebuild, Scan, Sums, Table}
 use Rattle.bt_script.specs.declared.command.TableForm.{TableForm}
 use Rattle.bt_table.specs.Calls as call
-use Rattle.bt_table.specs.Calls.{NamedTree, Primary, Secondary, Upkeep, Draining, Rebuilding, after_build, built, dropped, is_primary, most_indexes, name_refusals, renewed_index, secondary, sent_counts, step, tree_named, unless_any, with_index, with_index_at, with_renewed, with_renewed_index, with_renewed_rows}
+use Rattle.bt_table.specs.Calls.{NamedTree, Primary, Secondary, Upkeep, Draining, Rebuilding, after_build, built, dropped, is_primary, most_indexes}
+use Rattle.bt_table.specs.Calls.{name_refusals, renewed_index, secondary, sent_counts, step, tree_named, unless_any, with_index, with_index_at, with_renewed}
+use Rattle.bt_table.specs.Calls.{with_renewed_index, with_renewed_rows}
 use Rattle.bt_table.specs.Indexes.{Index, built_index, empty_index, index_named, index_named_from, index_with, indexes_after, is_complete, is_name_of, packet_of, sent_count}
 use Rattle.bt_table.specs.Tables.{PlainTable, TableState, Intact, Lost, after_batch}
 use Rattle.bt_table.specs.declared.index.IndexHead.{IndexHead}
@@ -38,10 +41,12 @@ use Rattle.bt_table.specs.declared.reply.Reply.TheVariants as reply
 use Rattle.bt_view.specs.Groups.{sums_of}
 use Rattle.bt_view.specs.Ranges.{scan_with_keys_of}
 use Rattle.bt_shell.proofs.Records.{messages_of-append}
-use Rattle.bt_shell.specs.Contents.{AreAllTaken, AreAnsweredAlike, BatchesAreFolded, Contents, CutsDoNotShow, DifferInShape, HaveSameContents, NoTreeShows, ShapeIsNoContent, ShowNoTree, ShowsNoTree, UpkeepKeepsContents, batch_commands, contents, contents_of, head_of}
+use Rattle.bt_shell.specs.Contents.{AreAllTaken, AreAnsweredAlike, BatchesAreFolded, Contents, CutsDoNotShow, DifferInShape, HaveSameContents, NoTreeShows}
+use Rattle.bt_shell.specs.Contents.{ShapeIsNoContent, ShowNoTree, ShowsNoTree, UpkeepKeepsContents, batch_commands, contents, contents_of, head_of}
 use Rattle.bt_shell.specs.Replies.{count_line, refused_text, reply_text, scan_reply, sums_reply}
 use Rattle.bt_shell.specs.Runs.{after_commands, replies}
-use Rattle.bt_shell.specs.Steps.{Done, State, call_outcome, creation_outcome, definition_of, definition_or_least, done_or_refused, form_refusals, is_allowed, outcome, read_outcome, shape_of, table_of, turn}
+use Rattle.bt_shell.specs.Steps.{Done, State, call_outcome, creation_outcome, definition_of, definition_or_least, done_or_refused}
+use Rattle.bt_shell.specs.Steps.{form_refusals, is_allowed, outcome, read_outcome, shape_of, table_of, turn}
 
 -- ---- a state of given contents in which all trees are empty leaves of the same shape
 
@@ -150,7 +155,8 @@ bare_found = option_map (λ (f : ℕ × Index). (f.0, bare f.1))
 found-bare : (place : ℕ) (name : List ℕ) (is : List Index) → index_named_from place name (all_bare is) ≡ bare_found (index_named_from place name is)
 found-bare place name [] = refl
 found-bare place name (i ∷ is) =
-    elim (is_name_of name i) as (λ (b : Bool). (if b then Some (place, bare i) else index_named_from (suc place) name (all_bare is)) ≡ bare_found (if b then Some (place, i) else index_named_from (suc place) name is)) [
+    elim (is_name_of name i) as (λ (b : Bool). (if b then Some (place, bare i) else index_named_from (suc place) name (all_bare is))
+    ≡ bare_found (if b then Some (place, i) else index_named_from (suc place) name is)) [
       | true ↦ refl
       | false ↦ found-bare (suc place) name is
     ]
@@ -181,7 +187,8 @@ same_at table place a b same = same_indexes table (set (all_bare table.indexes) 
 built_alike : (table : PlainTable) (name : List ℕ) (n : ℕ) (o : Option (ℕ × Index)) → AreAlikeSteps (built (bared table) name n (bare_found o)) (built table name n o)
 built_alike table name n None = refl
 built_alike table name n (Some f) =
-    elim (is_complete f.1) as (λ (b : Bool). AreAlikeSteps (if b then Err AlreadyComplete else Ok (after_build (bared table) name n (f.0, bare f.1))) (if b then Err AlreadyComplete else Ok (after_build table name n f))) [
+    elim (is_complete f.1) as (λ (b : Bool). AreAlikeSteps (if b then Err AlreadyComplete else Ok (after_build (bared table) name n (f.0, bare f.1)))
+    (if b then Err AlreadyComplete else Ok (after_build table name n f))) [
       | true ↦ refl
       | false ↦ (refl, same_at table f.0 (built_index n table.rows (bare f.1)) (built_index n table.rows f.1) refl)
     ]
@@ -204,18 +211,21 @@ abbrev with_reply : Reply → Result PlainTable Refusal → Result (TableState �
 with_reply r after = map_ok (λ (t : PlainTable). (Intact t, r)) after
 
 renewed_found : (upkeep : Upkeep) (table : PlainTable) (r : Reply) (o : Option (ℕ × Index)) →
-    AreAlikeSteps (with_reply r (or_refused NoSuchTree (option_map (with_renewed_index upkeep (bared table)) (bare_found o)))) (with_reply r (or_refused NoSuchTree (option_map (with_renewed_index upkeep table) o)))
+    AreAlikeSteps (with_reply r (or_refused NoSuchTree (option_map (with_renewed_index upkeep (bared table)) (bare_found o))))
+    (with_reply r (or_refused NoSuchTree (option_map (with_renewed_index upkeep table) o)))
 renewed_found upkeep table r None = refl
 renewed_found upkeep table r (Some f) = (refl, same_at table f.0 (renewed_index upkeep (bare f.1)) (renewed_index upkeep f.1) refl)
 
-renewed_alike : (upkeep : Upkeep) (table : PlainTable) (name : List ℕ) (r : Reply) → AreAlikeSteps (with_reply r (with_renewed upkeep (bared table) name)) (with_reply r (with_renewed upkeep table name))
+renewed_alike : (upkeep : Upkeep) (table : PlainTable) (name : List ℕ) (r : Reply)
+    → AreAlikeSteps (with_reply r (with_renewed upkeep (bared table) name)) (with_reply r (with_renewed upkeep table name))
 renewed_alike upkeep table name r =
     let found : Option (ℕ × Index) → Result PlainTable Refusal = λ o. or_refused NoSuchTree (option_map (with_renewed_index upkeep (bared table)) o) in
     let own : Result PlainTable Refusal = or_refused NoSuchTree (option_map (with_renewed_index upkeep table) (index_named name table.indexes)) in
     elim (is_primary name) as (λ (b : Bool). AreAlikeSteps (with_reply r (if b then Ok (with_renewed_rows upkeep (bared table)) else found (index_named name (all_bare table.indexes))))
     (with_reply r (if b then Ok (with_renewed_rows upkeep table) else own))) [
       | true ↦ (refl, same_table table)
-      | false ↦ subst (λ (o : Option (ℕ × Index)). AreAlikeSteps (with_reply r (found o)) (with_reply r own)) (sym (found-bare 0 name table.indexes)) (renewed_found upkeep table r (index_named name table.indexes))
+      | false ↦ subst (λ (o : Option (ℕ × Index)). AreAlikeSteps (with_reply r (found o)) (with_reply r own)) (sym (found-bare 0 name table.indexes))
+          (renewed_found upkeep table r (index_named name table.indexes))
     ]
 
 -- ---- what is read
@@ -234,7 +244,8 @@ read_alike table a b same = subst (λ (x : Result (List ℕ) Refusal). AreAlike 
 
 -- what is reported of a tree by its table and the head of its index
 named_alike : {R : Type 0} (said : NamedTree → Result R Refusal) (table : PlainTable) → said (Primary (bared table)) ≡ said (Primary table)
-    → ((i : Index) → said (Secondary (bared table) (bare i)) ≡ said (Secondary table i)) → (name : List ℕ) → and_then said (tree_named (Intact (bared table)) name) ≡ and_then said (tree_named (Intact table) name)
+    → ((i : Index) → said (Secondary (bared table) (bare i)) ≡ said (Secondary table i)) → (name : List ℕ)
+    → and_then said (tree_named (Intact (bared table)) name) ≡ and_then said (tree_named (Intact table) name)
 named_alike {R} said table rows index name =
     elim (is_primary name) as (λ (b : Bool). and_then said (if b then Ok (Primary (bared table)) else secondary (bared table) (index_named name (all_bare table.indexes)))
     ≡ and_then said (if b then Ok (Primary table) else secondary table (index_named name table.indexes))) [
@@ -254,10 +265,12 @@ created_alike table name (Ok def) =
     let new : Index = empty_index table.shape name def in
     let bare_new : Index = empty_index no_shape name def in
     in_text (step (Intact (bared table)) (call.CreateIndex name def)) (step (Intact table) (call.CreateIndex name def))
-    (unless_alike (least (name_refusals (bared table) name)) (least (name_refusals table name)) (Intact (with_index (bared table) name def), reply.Created name) (Intact (with_index table name def), reply.Created name)
+    (unless_alike (least (name_refusals (bared table) name)) (least (name_refusals table name))
+    (Intact (with_index (bared table) name def), reply.Created name) (Intact (with_index table name def), reply.Created name)
     (ap least (same_names table name)) refl
     (same_indexes table (all_bare table.indexes ++ bare_new ∷ []) (table.indexes ++ new ∷ [])
-    (map-append head_of (all_bare table.indexes) (bare_new ∷ []) ∙ ap (λ (heads : List IndexHead). heads ++ head_of new ∷ []) (heads-bare table.indexes) ∙ sym (map-append head_of table.indexes (new ∷ [])))))
+    (map-append head_of (all_bare table.indexes) (bare_new ∷ []) ∙ ap (λ (heads : List IndexHead). heads ++ head_of new ∷ []) (heads-bare table.indexes)
+    ∙ sym (map-append head_of table.indexes (new ∷ [])))))
 
 -- ---- one command
 
@@ -275,19 +288,23 @@ of_table table (Batch items) shows =
     (Intact (after_batch table messages), reply.Batch (length items) (sent_counts table messages)) refl (ap (reply.Batch (length items)) (same_counts table messages)) (same_batch table messages))
 of_table table (Get fields) shows = in_text (step (Intact (bared table)) (call.Get fields)) (step (Intact table) (call.Get fields)) (got_alike table (read_key table.schema 1 fields))
 of_table table (Scan tree bounds) shows =
-    read_alike table _ _ (ap (λ (r : Result (Rows (List Value)) Refusal). map_ok scan_reply (map_ok (map (λ (row : Key × List Value). row.1)) r)) (named_alike (scan_with_keys_of bounds.from bounds.to) table refl (λ i. refl) tree))
+    read_alike table _ _ (ap (λ (r : Result (Rows (List Value)) Refusal). map_ok scan_reply (map_ok (map (λ (row : Key × List Value). row.1)) r))
+    (named_alike (scan_with_keys_of bounds.from bounds.to) table refl (λ i. refl) tree))
 of_table table (Sums form) shows =
     read_alike table _ _ (ap (map_ok sums_reply) (named_alike (sums_of form.columns form.column form.bounds.from form.bounds.to) table refl (λ i. refl) form.tree))
 of_table table (Image tree) shows = absurd shows
 of_table table (command.Index form) shows =
     subst (λ (d : Result Definition Refusal). AreAlike (creation_outcome (Intact (bared table)) form.name d) (creation_outcome (Intact table) form.name (definition_of (Intact table) form)))
-    (sym (ap (λ (rs : List Refusal). definition_or_least (definition_as table.schema form.on form.include form.filter) (least rs)) (same_names table form.name))) (created_alike table form.name (definition_of (Intact table) form))
+    (sym (ap (λ (rs : List Refusal). definition_or_least (definition_as table.schema form.on form.include form.filter) (least rs))
+    (same_names table form.name))) (created_alike table form.name (definition_of (Intact table) form))
 of_table table (Build name count) shows =
     in_text (step (Intact (bared table)) (call.BuildStep name count)) (step (Intact table) (call.BuildStep name count))
-    (subst (λ (o : Option (ℕ × Index)). AreAlikeSteps (built (bared table) name count o) (built table name count (index_named name table.indexes))) (sym (found-bare 0 name table.indexes)) (built_alike table name count (index_named name table.indexes)))
+    (subst (λ (o : Option (ℕ × Index)). AreAlikeSteps (built (bared table) name count o) (built table name count (index_named name table.indexes)))
+    (sym (found-bare 0 name table.indexes)) (built_alike table name count (index_named name table.indexes)))
 of_table table (Drop name) shows =
     in_text (step (Intact (bared table)) (call.DropIndex name)) (step (Intact table) (call.DropIndex name))
-    (subst (λ (o : Option (ℕ × Index)). AreAlikeSteps (dropped (bared table) name o) (dropped table name (index_named name table.indexes))) (sym (found-bare 0 name table.indexes)) (dropped_alike table name (index_named name table.indexes)))
+    (subst (λ (o : Option (ℕ × Index)). AreAlikeSteps (dropped (bared table) name o) (dropped table name (index_named name table.indexes)))
+    (sym (found-bare 0 name table.indexes)) (dropped_alike table name (index_named name table.indexes)))
 of_table table (Load text) shows = absurd shows
 of_table table (Drain tree) shows = in_text (step (Intact (bared table)) (call.Drain tree)) (step (Intact table) (call.Drain tree)) (renewed_alike Draining table tree (reply.Drained tree))
 of_table table (Rebuild tree) shows = in_text (step (Intact (bared table)) (call.Rebuild tree)) (step (Intact table) (call.Rebuild tree)) (renewed_alike Rebuilding table tree (reply.Rebuilt tree))
@@ -350,7 +367,9 @@ LeavesSame table (Err refusal) = Unit {0}
 
 renewed_keeps : (upkeep : Upkeep) (table : PlainTable) (name : List ℕ) (r : Reply) → LeavesSame table (with_reply r (with_renewed upkeep table name))
 renewed_keeps upkeep table name r =
-    elim (is_primary name) as (λ (b : Bool). LeavesSame table (with_reply r (if b then Ok (with_renewed_rows upkeep table) else or_refused NoSuchTree (option_map (with_renewed_index upkeep table) (index_named name table.indexes))))) [
+    elim (is_primary name) as (λ (b : Bool). LeavesSame table
+    (with_reply r (if b then Ok (with_renewed_rows upkeep table) else or_refused NoSuchTree
+    (option_map (with_renewed_index upkeep table) (index_named name table.indexes))))) [
       | true ↦ refl
       | false ↦ by_found (index_named name table.indexes) (found_stands 0 name table.indexes)
     ]
@@ -362,7 +381,8 @@ renewed_keeps upkeep table name r =
         ap (λ (heads : List IndexHead). Some (Some (record (contents_of table) { indexes = heads })))
         (heads-renewed upkeep table.indexes found.0 found.1 (subst (λ (n : ℕ). get_or table.indexes n found.1 ≡ found.1) place at.2))
 
-upkeep_keeps : (table : PlainTable) (after : Result (TableState × Reply) Refusal) → LeavesSame table after → HaveSameContents (done_or_refused (Some (Intact table)) (call_outcome after)).0 (Some (Intact table))
+upkeep_keeps : (table : PlainTable) (after : Result (TableState × Reply) Refusal) → LeavesSame table after
+    → HaveSameContents (done_or_refused (Some (Intact table)) (call_outcome after)).0 (Some (Intact table))
 upkeep_keeps table (Ok after) same = same
 upkeep_keeps table (Err refusal) same = refl
 
@@ -391,11 +411,17 @@ shape_is_no_content state form other differ =
     let refusals : List Column → ℕ → Bool → List Refusal = λ columns keys allowed. first ++ (one_if (not (is_schema columns keys)) BadSchema ++ one_if (not allowed) BadShape) in
     let Fact : List Column → ℕ → Bool → Bool → Type 0 = λ columns keys allowed other_allowed. AreAlike
     (unless_any (refusals form.columns form.keys allowed) (Some (table_of form), count_line (codes "table ") (length form.columns)))
-    (unless_any (refusals columns keys other_allowed) (Some (Intact (record { schema = record { columns = columns; keys = keys }; shape = other_shape; rows = []; tree = leaf []; indexes = [] })), count_line (codes "table ") (length columns))) in
-    let same : Fact form.columns form.keys true true = made_alike (least (refusals form.columns form.keys true)) form.columns form.keys (count_line (codes "table ") (length form.columns)) shape other_shape in
+    (unless_any (refusals columns keys other_allowed) (
+      Some (Intact (record { schema = record { columns = columns; keys = keys }; shape = other_shape; rows = []; tree = leaf []; indexes = [] })),
+      count_line (codes "table ") (length columns),
+    )) in
+    let same : Fact form.columns form.keys true true =
+    made_alike (least (refusals form.columns form.keys true)) form.columns form.keys (count_line (codes "table ") (length form.columns)) shape other_shape
+    in
     let allowed : Fact form.columns form.keys (is_allowed shape) (is_allowed other_shape) =
     subst (λ (b : Bool). Fact form.columns form.keys b (is_allowed other_shape)) (sym differ.2) (subst (λ (b : Bool). Fact form.columns form.keys true b) (sym differ.3) same) in
-    let columns : Fact other.columns form.keys (is_allowed shape) (is_allowed other_shape) = subst (λ (columns : List Column). Fact columns form.keys (is_allowed shape) (is_allowed other_shape)) differ.0 allowed in
+    let columns : Fact other.columns form.keys (is_allowed shape) (is_allowed other_shape) =
+    subst (λ (columns : List Column). Fact columns form.keys (is_allowed shape) (is_allowed other_shape)) differ.0 allowed in
     let keys : Fact other.columns other.keys (is_allowed shape) (is_allowed other_shape) = subst (λ (keys : ℕ). Fact other.columns keys (is_allowed shape) (is_allowed other_shape)) differ.1 columns in
     told state state (outcome state (Table form)) (outcome state (Table other)) refl keys
 
@@ -407,7 +433,8 @@ batches_are_folded (m ∷ first) second rows = batches_are_folded first second (
 
 -- a batch that is accepted leaves the table after it
 taken_leaves : (table : PlainTable) (items : List Item) (refusal : Option Refusal) (r : Reply) → refusal ≡ None
-    → (done_or_refused (Some (Intact table)) (call_outcome (unless refusal (Intact (after_batch table (messages_of table.schema items)), r)))).0 ≡ Some (Intact (after_batch table (messages_of table.schema items)))
+    → (done_or_refused (Some (Intact table)) (call_outcome (unless refusal (Intact (after_batch table (messages_of table.schema items)), r)))).0
+    ≡ Some (Intact (after_batch table (messages_of table.schema items)))
 taken_leaves table items None r none = refl
 taken_leaves table items (Some refusal) r none = absurd cc
 
@@ -419,18 +446,26 @@ heads-after rows batch (i ∷ is) = ap (λ (heads : List IndexHead). head_of i �
 abbrev after_messages : PlainTable → RowMessages → Option (Option Contents)
 after_messages table messages = Some (Some (record { schema = table.schema; rows = rows_after row_effect messages table.rows; indexes = map head_of table.indexes }))
 
-after_cut : (table : PlainTable) (cut : List (List Item)) → AreAllTaken table.schema cut → contents (after_commands (Some (Intact table)) (batch_commands cut)) ≡ after_messages table (messages_of table.schema (concatenation cut))
+after_cut : (table : PlainTable) (cut : List (List Item)) → AreAllTaken table.schema cut
+    → contents (after_commands (Some (Intact table)) (batch_commands cut)) ≡ after_messages table (messages_of table.schema (concatenation cut))
 unfolding after_commands
 after_cut table [] taken = refl
 after_cut table (items ∷ more) taken =
     let messages = messages_of table.schema items in
     let next = after_batch table messages in
     let others = messages_of table.schema (concatenation more) in
-    ap (λ (state : State). contents (after_commands state (batch_commands more))) (taken_leaves table items (least (batch_refusals table.schema items)) (reply.Batch (length items) (sent_counts table messages)) taken.0)
+    ap (λ (state : State). contents (after_commands state (batch_commands more)))
+    (taken_leaves table items (least (batch_refusals table.schema items)) (reply.Batch (length items) (sent_counts table messages)) taken.0)
     ∙ after_cut next more taken.1
-    ∙ ap (λ (heads : List IndexHead). Some (Some (record { schema = table.schema; rows = rows_after row_effect others (rows_after row_effect messages table.rows); indexes = heads }))) (heads-after table.rows messages table.indexes)
+    ∙ ap (λ (heads : List IndexHead). Some (Some (record {
+      schema = table.schema;
+      rows =
+          rows_after row_effect others (rows_after row_effect messages table.rows);
+      indexes = heads;
+    }))) (heads-after table.rows messages table.indexes)
     ∙ ap (λ (rows : Rows (List Value)). Some (Some (record { schema = table.schema; rows = rows; indexes = map head_of table.indexes }))) (sym (batches_are_folded messages others table.rows))
     ∙ ap (after_messages table) (sym (messages_of-append table.schema items (concatenation more)))
 
 pub cuts_do_not_show : CutsDoNotShow
-cuts_do_not_show table cut other taken other_taken same = after_cut table cut taken ∙ ap (λ (items : List Item). after_messages table (messages_of table.schema items)) same ∙ sym (after_cut table other other_taken)
+cuts_do_not_show table cut other taken other_taken same =
+    after_cut table cut taken ∙ ap (λ (items : List Item). after_messages table (messages_of table.schema items)) same ∙ sym (after_cut table other other_taken)

@@ -35,7 +35,8 @@ module _ {W : Type 0} {contents : W → Option (List ℕ)} {old new : Counted W}
   unfolding after_commands
   left_later left (inl kept) = inl (kept ∙ so_far.left ∙ ap (after_commands begin) (sym first_done))
   left_later left (inr (inl done)) =
-      inr (inl (done ∙ ap (λ (state : State). after_commands state (take 1 others)) so_far.left ∙ sym (after_commands-append begin so_far.done (take 1 others)) ∙ ap (after_commands begin) (sym first_and_next)))
+      inr (inl (done ∙ ap (λ (state : State). after_commands state (take 1 others)) so_far.left ∙ sym (after_commands-append begin so_far.done (take 1 others))
+      ∙ ap (after_commands begin) (sym first_and_next)))
   left_later left (inr (inr lost)) = inr (inr lost)
 
   -- the next command is carried out
@@ -58,7 +59,8 @@ module _ {W : Type 0} {contents : W → Option (List ℕ)} {old new : Counted W}
 
 -- ---- where a run stops
 
-module _ {W : Type 0} {contents : W → Option (List ℕ)} {old new : Counted W} {begin table : State} (script : List ℕ) {others : List Answer} (so_far : HasRun contents old new begin table (commands script) others) where
+module _ {W : Type 0} {contents : W → Option (List ℕ)} {old new : Counted W} {begin table : State} (script : List ℕ) {others : List Answer} (so_far
+    : HasRun contents old new begin table (commands script) others) where
   -- out of memory at the next command
   pub stops_between : (left : State) → IsLeftAfter table left others 0 → StopsBetweenReplies (Took contents old new) begin left script
   stops_between left next = (
@@ -86,7 +88,8 @@ module _ {W : Type 0} {contents : W → Option (List ℕ)} {old new : Counted W}
       )
 
   -- all replies are written, and the flush after them fails
-  pub stops_at_end : (last : Counted W) → others ≡ [] → Keeps (contents (source_of new)) (contents (source_of last)) → count_of last ≡ count_of new → StopsWithinReply (Took contents old last) begin table script
+  pub stops_at_end : (last : Counted W) → others ≡ [] → Keeps (contents (source_of new)) (contents (source_of last)) → count_of last ≡ count_of new
+      → StopsWithinReply (Took contents old last) begin table script
   stops_at_end last none kept count =
       let all = commands script in
       let text = replies begin all in
@@ -149,5 +152,6 @@ left_lost begin left answers n lost (inr (inl more)) = more ∙ ap (λ (state : 
 left_lost begin left answers n lost (inr (inr gone)) = gone
 
 -- a table that is left after a lost one is lost, and all its replies are refusals
-pub lost_is_left : (begin left : State) (answers : List Answer) (n : ℕ) → IsLeftAfter begin left answers n → begin ≡ Some Lost → (left ≡ Some Lost) × (replies begin answers ≡ flat_map lost_reply answers)
+pub lost_is_left : (begin left : State) (answers : List Answer) (n : ℕ) → IsLeftAfter begin left answers n → begin ≡ Some Lost → (left ≡ Some Lost)
+    × (replies begin answers ≡ flat_map lost_reply answers)
 lost_is_left begin left answers n is_left lost = (left_lost begin left answers n lost is_left, ap (λ (state : State). replies state answers) lost ∙ (stays_lost answers).1)

@@ -70,11 +70,13 @@ set_alike : (i j : ℕ) (argument : List ℕ) (column : Option (ℕ × Kind)) �
 set_alike i j argument None = refl
 set_alike i j argument (Some column) = ok_of_refused (BadField i) (BadField j) (option_map (Set column.0) (value_of column.1 argument))
 
-making_kind_alike : (arithmetic : Arithmetic) (i j : ℕ) (argument : List ℕ) (place : ℕ) (k : Kind) → result_ok (making_of_kind arithmetic i argument place k) ≡ result_ok (making_of_kind arithmetic j argument place k)
+making_kind_alike : (arithmetic : Arithmetic) (i j : ℕ) (argument : List ℕ) (place : ℕ) (k : Kind)
+    → result_ok (making_of_kind arithmetic i argument place k) ≡ result_ok (making_of_kind arithmetic j argument place k)
 making_kind_alike arithmetic i j argument place kind.Int = ok_of_refused (BadField i) (BadField j) (option_map (op_making arithmetic place) (int_of argument))
 making_kind_alike arithmetic i j argument place other = refl
 
-number_alike : (i j : ℕ) (argument : List ℕ) (column : Option (ℕ × Kind)) (arithmetic : Option Arithmetic) → result_ok (number_op_of i argument column arithmetic) ≡ result_ok (number_op_of j argument column arithmetic)
+number_alike : (i j : ℕ) (argument : List ℕ) (column : Option (ℕ × Kind)) (arithmetic : Option Arithmetic)
+    → result_ok (number_op_of i argument column arithmetic) ≡ result_ok (number_op_of j argument column arithmetic)
 number_alike i j argument column None = refl
 number_alike i j argument None (Some arithmetic) = refl
 number_alike i j argument (Some column) (Some arithmetic) = making_kind_alike arithmetic i j argument column.0 column.1
@@ -109,7 +111,8 @@ as_alike columns i j fields =
 ops_as_alike : (schema : Schema) (i j : ℕ) (fields : List (List ℕ)) → result_ok (ops_as schema i fields) ≡ result_ok (ops_as schema j fields)
 ops_as_alike schema i j fields =
     let ops = drop schema.keys fields in
-    elim (is_upsert schema.keys (length fields)) as (λ (b : Bool). result_ok (if b then all_read (ops_of schema i ops) else Err (BadLength i)) ≡ result_ok (if b then all_read (ops_of schema j ops) else Err (BadLength j))) [
+    elim (is_upsert schema.keys (length fields)) as (λ (b : Bool). result_ok (if b then all_read (ops_of schema i ops) else Err (BadLength i))
+    ≡ result_ok (if b then all_read (ops_of schema j ops) else Err (BadLength j))) [
       | true ↦ ok_of_all (ops_of schema i ops) ∙ ap all_some (ops_alike schema i j ops) ∙ sym (ok_of_all (ops_of schema j ops))
       | false ↦ refl
     ]
@@ -145,7 +148,8 @@ cons-append : {X : Type 0} (o : Option X) (xs ys : List X) → cons_option o (xs
 cons-append None xs ys = refl
 cons-append (Some x) xs ys = refl
 
-messages-from : (schema : Schema) (i : ℕ) (first second : List Item) → filter_map result_ok (read_batch schema i (first ++ second)) ≡ filter_map result_ok (read_batch schema i first) ++ messages_of schema second
+messages-from : (schema : Schema) (i : ℕ) (first second : List Item)
+    → filter_map result_ok (read_batch schema i (first ++ second)) ≡ filter_map result_ok (read_batch schema i first) ++ messages_of schema second
 messages-from schema i [] second = records_alike schema i 1 second
 messages-from schema i (item ∷ first) second =
     ap (cons_option (result_ok (read_message schema i item))) (messages-from schema (i + 1) first second)

@@ -18,7 +18,8 @@ use Rattle.bt_fanout.proofs.offered.Definitions.{definition_suits}
 use Rattle.bt_shell.specs.Faults.{IsLeftAfter}
 use Rattle.bt_shell.specs.Replies.{count_line}
 use Rattle.bt_shell.specs.Runs.{after_commands}
-use Rattle.bt_shell.specs.Steps.{Done, State, call_outcome, creation_outcome, definition_of, definition_or_least, done_or_refused, form_refusals, is_allowed, outcome, read_outcome, shape_of, table_of, turn}
+use Rattle.bt_shell.specs.Steps.{Done, State, call_outcome, creation_outcome, definition_of, definition_or_least, done_or_refused}
+use Rattle.bt_shell.specs.Steps.{form_refusals, is_allowed, outcome, read_outcome, shape_of, table_of, turn}
 use Rattle.bt_shell.proofs.Faults.{stays_lost}
 use Rattle.bt_table.specs.Calls as call
 use Rattle.bt_table.specs.Calls.{name_refusals, step}

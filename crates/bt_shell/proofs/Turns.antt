@@ -56,13 +56,15 @@ module _ {W : Type 0} (contents : W → Option (List ℕ)) (old : Counted W) (be
   run_prefix new table all others so_far = prefix-done contents old new (replies begin all) (replies begin so_far.done) (replies table others) so_far.took (whole new table all others so_far)
 
   -- the whole replies to the commands so far
-  pub run_replies : (new : Counted W) (table : State) (script : List ℕ) (others : List Answer) → HasRun contents old new begin table (commands script) others → TookReplies contents begin old new script
+  pub run_replies : (new : Counted W) (table : State) (script : List ℕ) (others : List Answer) → HasRun contents old new begin table (commands script) others
+      → TookReplies contents begin old new script
   run_replies new table script others so_far =
       let first : take (length so_far.done) (commands script) ≡ so_far.done = ap (take (length so_far.done)) so_far.split ∙ take_at so_far.done others (length so_far.done) refl in
       (length so_far.done, subst (λ (answers : List Answer). Took contents old new (replies begin answers)) (sym first) so_far.took)
 
   -- a prefix of the reply to the next one
-  pub run_breaks : (mid new : Counted W) (table after : State) (all others more : List Answer) (text : List ℕ) {refused : Bool} → HasRun contents old mid begin table all others → IsTurn table after others more text refused
+  pub run_breaks : (mid new : Counted W) (table after : State) (all others more : List Answer) (text : List ℕ) {refused : Bool}
+      → HasRun contents old mid begin table all others → IsTurn table after others more text refused
       → TookPrefix contents mid new text → TookPrefix contents old new (replies begin all)
   run_breaks mid new table after all others more text so_far next prefix =
       let said : replies table others ≡ text ++ replies (turn table next.answer).0 more =
@@ -71,7 +73,8 @@ module _ {W : Type 0} (contents : W → Option (List ℕ)) (old : Counted W) (be
       (whole mid table all others so_far ∙ ap (λ (l : List ℕ). replies begin so_far.done ++ l) said) prefix
 
   -- the replies to the commands so far and to the next one, and the table after these
-  module _ (mid : Counted W) (table after : State) (all others more : List Answer) (text : List ℕ) {refused : Bool} (so_far : HasRun contents old mid begin table all others) (next : IsTurn table after others more text refused) where
+  module _ (mid : Counted W) (table after : State) (all others more : List Answer) (text : List ℕ) {refused : Bool} (so_far
+      : HasRun contents old mid begin table all others) (next : IsTurn table after others more text refused) where
     pub said_with_next : replies begin (so_far.done ++ next.answer ∷ []) ≡ replies begin so_far.done ++ text
     said_with_next =
         replies-append begin so_far.done (next.answer ∷ [])
@@ -85,13 +88,15 @@ module _ {W : Type 0} (contents : W → Option (List ℕ)) (old : Counted W) (be
         ∙ sym (after_commands-append begin so_far.done (next.answer ∷ []) ∙ after-one (after_commands begin so_far.done) next.answer)
 
   -- the reply to the next one
-  pub run_goes_on : (mid new : Counted W) (table after : State) (all others more : List Answer) (text : List ℕ) {refused : Bool} → HasRun contents old mid begin table all others → IsTurn table after others more text refused
+  pub run_goes_on : (mid new : Counted W) (table after : State) (all others more : List Answer) (text : List ℕ) {refused : Bool}
+      → HasRun contents old mid begin table all others → IsTurn table after others more text refused
       → Took contents mid new text → HasRun contents old new begin after all more
   run_goes_on mid new table after all others more text so_far next took = record {
     done = so_far.done ++ next.answer ∷ [];
     split = so_far.split ∙ ap (λ (l : List Answer). so_far.done ++ l) next.first ∙ sym (append_assoc so_far.done (next.answer ∷ []) more);
     left = left_with_next mid table after all others more text so_far next;
-    took = subst (λ (l : List ℕ). Took contents old new l) (sym (said_with_next mid table after all others more text so_far next)) (Took-trans contents old mid new (replies begin so_far.done) text so_far.took took);
+    took = subst (λ (l : List ℕ). Took contents old new l) (sym (said_with_next mid table after all others more text so_far next))
+        (Took-trans contents old mid new (replies begin so_far.done) text so_far.took took);
   }
 
   -- no command is left

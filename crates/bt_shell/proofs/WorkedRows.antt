@@ -185,7 +185,8 @@ compound_key = refl
 
 -- a text with a zero byte and empty texts as keys, and the codes of the keys
 pub text_key_order : run (codes "table 4 3 8 2 name:text n:int\nbatch\nput a,1\nput a" ++ (0 ∷ codes ",0\nput ,-1\nput ,-9223372036854775808\nend\nscan primary\ngo\nimage primary\n"))
-    ≡ codes "table 2\nbatch 4\nrow ,-9223372036854775808\nrow ,-1\nrow a,1\nrow a" ++ (0 ∷ codes ",0\nrows 4\nimage primary height 1\nleaf 4\n  = 00010000000000000000 ,-9223372036854775808\n  = 00017fffffffffffffff ,-1\n  = 6100018000000000000001 a,1\n  = 6100ff00018000000000000000 a" ++ (0 ∷ codes ",0\nend\n"))
+    ≡ codes "table 2\nbatch 4\nrow ,-9223372036854775808\nrow ,-1\nrow a,1\nrow a" ++
+    (0 ∷ codes ",0\nrows 4\nimage primary height 1\nleaf 4\n  = 00010000000000000000 ,-9223372036854775808\n  = 00017fffffffffffffff ,-1\n  = 6100018000000000000001 a,1\n  = 6100ff00018000000000000000 a" ++ (0 ∷ codes ",0\nend\n"))
 unfolding replies commands_from line_step closing_of command_of bounds_of items_of item_of_line column_of table_command eight_bytes values_on_literals chars encode_utf8 is_utf8
 text_key_order = refl
 

@@ -19,7 +19,8 @@ module _ {W : Type 0} (contents : W → Option (List ℕ)) (old : Counted W) whe
   writing_begins all nothing = record { done = []; split = refl; took = nothing }
 
   -- the next piece
-  pub writing_goes_on : (mid new : Counted W) (all rest piece more : List ℕ) → HasWritten contents old mid all rest → rest ≡ piece ++ more → Took contents mid new piece → HasWritten contents old new all more
+  pub writing_goes_on : (mid new : Counted W) (all rest piece more : List ℕ) → HasWritten contents old mid all rest → rest ≡ piece ++ more
+      → Took contents mid new piece → HasWritten contents old new all more
   writing_goes_on mid new all rest piece more so_far next took = record {
     done = so_far.done ++ piece;
     split = so_far.split ∙ ap (λ (l : List ℕ). so_far.done ++ l) next ∙ sym (append_assoc so_far.done piece more);
@@ -27,7 +28,8 @@ module _ {W : Type 0} (contents : W → Option (List ℕ)) (old : Counted W) whe
   }
 
   -- a prefix of the next piece
-  pub writing_breaks : (mid new : Counted W) (all rest piece more : List ℕ) → HasWritten contents old mid all rest → rest ≡ piece ++ more → TookPrefix contents mid new piece → TookPrefix contents old new all
+  pub writing_breaks : (mid new : Counted W) (all rest piece more : List ℕ) → HasWritten contents old mid all rest → rest ≡ piece ++ more
+      → TookPrefix contents mid new piece → TookPrefix contents old new all
   writing_breaks mid new all rest piece more so_far next prefix =
       prefix-more contents old mid new all so_far.done piece more so_far.took (so_far.split ∙ ap (λ (l : List ℕ). so_far.done ++ l) next) prefix
 
@@ -38,7 +40,8 @@ module _ {W : Type 0} (contents : W → Option (List ℕ)) (old : Counted W) whe
       subst (λ (text : List ℕ). Took contents old new text) (sym all_done) so_far.took
 
 -- what is left of pieces begins with the next one
-pub piece_next : (pieces : List (Vec ℕ Global)) (i : ℕ) (piece : Vec ℕ Global) → i < length pieces → piece ≡ get_or pieces i piece → text_of_pieces (drop i pieces) ≡ piece.items ++ text_of_pieces (drop (i + 1) pieces)
+pub piece_next : (pieces : List (Vec ℕ Global)) (i : ℕ) (piece : Vec ℕ Global) → i < length pieces → piece ≡ get_or pieces i piece
+    → text_of_pieces (drop i pieces) ≡ piece.items ++ text_of_pieces (drop (i + 1) pieces)
 piece_next pieces i piece within is =
     let more = drop (i + 1) pieces in
     at_drop_more text_of_pieces pieces i piece within ∙ ap (λ (p : Vec ℕ Global). text_of_pieces (p ∷ more)) (sym is) ∙ flat_map-cons (λ (p : Vec ℕ Global). p.items) piece more

@@ -134,7 +134,8 @@ module _ {V M : Type 0} where
   find-new p [] xs e = cond-true _ (Some xs) None (ties_itself p)
   find-new p (q ∷ ps) xs e = go (find-new p ps xs) (eq_by_cmp node_place_cmp p q.0) refl
     where
-      go : (find node_place_cmp p ps ≡ None → find node_place_cmp p (ps ++ (p, xs) ∷ []) ≡ Some xs) → (b : Bool) → eq_by_cmp node_place_cmp p q.0 ≡ b → find node_place_cmp p ((q ∷ ps) ++ (p, xs) ∷ []) ≡ Some xs
+      go : (find node_place_cmp p ps ≡ None → find node_place_cmp p (ps ++ (p, xs) ∷ []) ≡ Some xs) → (b : Bool) → eq_by_cmp node_place_cmp p q.0 ≡ b
+          → find node_place_cmp p ((q ∷ ps) ++ (p, xs) ∷ []) ≡ Some xs
       go later true t = absurd (none-some q.1 (sym e ∙ cond-true _ (Some q.1) (find node_place_cmp p ps) t))
       go later false t = cond-false _ (Some q.1) (find node_place_cmp p (ps ++ (p, xs) ∷ [])) t ∙ later (sym (cond-false _ (Some q.1) (find node_place_cmp p ps) t) ∙ e)
 
@@ -168,7 +169,8 @@ module _ {V D : Type 0} (meaning : Meaning V (Message V D)) (shape : Shape) wher
     before-next left = subst (λ js. AreRunBefore meaning shape jobs js (pieces_of items) left) came
 
     pub run-step : (left : List Place) → AreRunBefore meaning shape jobs rest (pieces_of items) left → find node_place_cmp (node_place job.place) (pieces_of items) ≡ None →
-        (piece : code_place.Place × Siblings V (Message V D)) → piece ≡ (job.place, outcome meaning shape (job_of job)) → (more : List (code_place.Place × Siblings V (Message V D))) → more ≡ items ++ piece ∷ [] →
+        (piece : code_place.Place × Siblings V (Message V D)) → piece ≡ (job.place, outcome meaning shape (job_of job))
+        → (more : List (code_place.Place × Siblings V (Message V D))) → more ≡ items ++ piece ∷ [] →
         AreRunBefore meaning shape jobs coming (pieces_of more) left
     run-step left before free piece is more grew =
         let u = before-next left before in
@@ -190,7 +192,8 @@ module _ {V D : Type 0} (meaning : Meaning V (Message V D)) (shape : Shape) wher
   run-all jobs pieces left u = subst (λ js. AreRun meaning shape js pieces left) (sym (u.1 ∙ append-nil u.0)) u.2
 
   -- if there is no piece at the places that are left
-  pub run-odd : (jobs : List (code.Job V D)) (pieces : Pieces V (Message V D)) (left : List Place) → AreRun meaning shape jobs pieces left → Each (λ p. find node_place_cmp p pieces ≡ None) left → AreOdd meaning shape jobs pieces
+  pub run-odd : (jobs : List (code.Job V D)) (pieces : Pieces V (Message V D)) (left : List Place) → AreRun meaning shape jobs pieces left
+      → Each (λ p. find node_place_cmp p pieces ≡ None) left → AreOdd meaning shape jobs pieces
   run-odd [] pieces left u free = tt
   run-odd (job ∷ jobs) pieces left (inl e, u) free = ((λ xs found. sym (same_Some (outcome meaning shape (job_of job)) xs (sym e ∙ found))), run-odd jobs pieces left u free)
   run-odd (job ∷ jobs) pieces left (inr m, u) free =
@@ -212,7 +215,8 @@ module _ {V D : Type 0} (meaning : Meaning V (Message V D)) (shape : Shape) (roo
   fillable pieces found is all = cut-fillable meaning shape roomy c stand rise pieces (subst (λ ps. All (Answers meaning shape ps) c.jobs) (sym is) all)
 
   -- the results of the jobs in either order can fill the cut
-  pub turned-fillable : (js : List (code.Job V D)) → AreTurned jobs js → (pieces : Pieces V (Message V D)) → pieces ≡ outcomes meaning shape (map job_of js) → IsFillable meaning.weigh shape c.holed pieces
+  pub turned-fillable : (js : List (code.Job V D)) → AreTurned jobs js → (pieces : Pieces V (Message V D)) → pieces ≡ outcomes meaning shape (map job_of js)
+      → IsFillable meaning.weigh shape c.holed pieces
   turned-fillable js turned pieces is =
       let here = each-map job_of (λ j. Among j c.jobs) jobs (subst (Each (λ j. Among j c.jobs)) (sym are) (among-themselves c.jobs)) in
       fillable pieces (outcomes meaning shape (map job_of js)) is
@@ -224,7 +228,8 @@ module _ {V D : Type 0} (meaning : Meaning V (Message V D)) (shape : Shape) (roo
       fillable pieces pieces refl (subst (All (Answers meaning shape pieces)) are (All-from_recursion _ (map job_of jobs) (map-each job_of (Answers meaning shape pieces) jobs odd)))
 
 module _ {V D : Type 0} (meaning : Meaning V (Message V D)) (shape : Shape) (roomy : IsRoomy shape) (holed : Shape × Holed V (Message V D) Place) (jobs : List (code.Job V D))
-    (tree : Shape × Tree V (Message V D)) (same : shape ≡ tree.0) (number : ℕ) (packet : Messages (Message V D)) (depth : ℕ) (mode : Mode) (is : IsCut meaning.weigh holed jobs number tree packet depth mode)
+    (tree : Shape × Tree V (Message V D)) (same : shape ≡ tree.0) (number : ℕ) (packet : Messages (Message V D)) (depth : ℕ) (mode : Mode) (is
+    : IsCut meaning.weigh holed jobs number tree packet depth mode)
     (stand : StandInHoles meaning.weigh tree.0 (cut meaning.weigh number tree.0 tree.1 packet depth mode)) (rise : PlacesRise (cut meaning.weigh number tree.0 tree.1 packet depth mode)) where
   abbrev pieced : Pieced V (Message V D)
   pieced = cut meaning.weigh number tree.0 tree.1 packet depth mode
@@ -236,7 +241,8 @@ module _ {V D : Type 0} (meaning : Meaning V (Message V D)) (shape : Shape) (roo
   as-holed pieces f = subst (λ h. IsFillable meaning.weigh h.0 h.1 pieces) (sym is.0) f
 
   -- a cut can be filled by the results of its jobs, in either order
-  pub cut-turned : (js : List (code.Job V D)) → AreTurned jobs js → (pieces : Pieces V (Message V D)) → pieces ≡ outcomes meaning shape (map job_of js) → IsFillable meaning.weigh holed.0 holed.1 pieces
+  pub cut-turned : (js : List (code.Job V D)) → AreTurned jobs js → (pieces : Pieces V (Message V D)) → pieces ≡ outcomes meaning shape (map job_of js)
+      → IsFillable meaning.weigh holed.0 holed.1 pieces
   cut-turned js turned pieces are =
       as-holed pieces (turned-fillable meaning tree.0 (subst IsRoomy same roomy) pieced stand rise jobs is.1 js turned pieces (are ∙ ap (λ s. outcomes meaning s (map job_of js)) same))
 

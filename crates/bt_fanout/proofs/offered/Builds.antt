@@ -24,6 +24,8 @@ module _ (def : Definition) (kinds : List Kind) (rows : Rows (List Value)) (sort
       (stand-take (StandsUnder def kinds) n (covered (λ k. not (is_covered cover k)) rows) (stand-covered (StandsUnder def kinds) (λ k. not (is_covered cover k)) rows stand))
 
   -- so the index of the rows covered before the step becomes that of the rows covered after it
-  pub step_builds : (n : ℕ) (cover : Cover) → rows_after entry_effect (sorted_batch (puts_of (entry_of def) (next_rows n cover rows))) (index_of def cover rows) ≡ index_of def (cover_after n cover rows) rows
+  pub step_builds : (n : ℕ) (cover : Cover)
+      → rows_after entry_effect (sorted_batch (puts_of (entry_of def) (next_rows n cover rows))) (index_of def cover rows)
+      ≡ index_of def (cover_after n cover rows) rows
   step_builds n cover =
       ap (λ ms. rows_after entry_effect (sorted_batch ms) (index_of def cover rows)) (sym (step_puts n cover)) ∙ builds_from def (next_rows n cover rows) kinds n cover rows refl sorted stand

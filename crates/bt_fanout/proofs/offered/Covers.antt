@@ -72,7 +72,8 @@ effects-nothing batch rows = none (effects_of batch rows)
 
 not_sent : (def : Definition) (cover wide : Cover) → IsAmong cover wide → (effect : Effect) → is_covered wide effect.key ≡ false → sent_for def cover effect ≡ []
 not_sent def cover wide among effect none =
-    elim (is_covered cover effect.key) as (λ b. is_covered cover effect.key ≡ b → (if b then between {D = List Value} same_values (own_entry def effect.before) (own_entry def effect.after) else []) ≡ []) [
+    elim (is_covered cover effect.key) as (λ b. is_covered cover effect.key ≡ b
+    → (if b then between {D = List Value} same_values (own_entry def effect.before) (own_entry def effect.after) else []) ≡ []) [
       | true ↦ λ b. absurd (true≢false (sym (among effect.key b) ∙ none))
       | false ↦ λ b. refl
     ] refl
@@ -82,7 +83,8 @@ pub entry_changes-within : (def : Definition) (cover wide : Cover) → IsAmong c
 entry_changes-within def cover wide among [] = refl
 entry_changes-within def cover wide among (effect ∷ effects) =
     let others = filter (λ effect. is_covered wide effect.key) effects in
-    elim (is_covered wide effect.key) as (λ b. is_covered wide effect.key ≡ b → sent_for_all def cover (cond b (effect ∷ others) others) ≡ sent_for def cover effect ++ sent_for_all def cover effects) [
+    elim (is_covered wide effect.key) as (λ b. is_covered wide effect.key ≡ b
+    → sent_for_all def cover (cond b (effect ∷ others) others) ≡ sent_for def cover effect ++ sent_for_all def cover effects) [
       | true ↦ λ b. ap (λ ms. sent_for def cover effect ++ ms) (entry_changes-within def cover wide among effects)
       | false ↦ λ b. entry_changes-within def cover wide among effects ∙ sym (ap (λ ms. ms ++ sent_for_all def cover effects) (not_sent def cover wide among effect b))
     ] refl

@@ -14,7 +14,8 @@ use Rattle.bt_fanout.proofs.Naming.{parts_suit}
 abbrev definition_from : Schema → Option Condition × (List ℕ × List ℕ) → Definition
 definition_from schema read = record { on = read.1.0; include = read.1.1; condition = read.0; keys = schema.keys }
 
-pub definition_suits : (schema : Schema) (on include : List (List ℕ)) (filter : Option Filter) (def : Definition) → schema.keys ≤ length schema.columns → definition_as schema on include filter ≡ Ok def →
+pub definition_suits : (schema : Schema) (on include : List (List ℕ)) (filter : Option Filter) (def : Definition) → schema.keys ≤ length schema.columns
+    → definition_as schema on include filter ≡ Ok def →
     SuitsKinds def (kinds_of schema.columns) × (def.keys ≡ schema.keys)
 definition_suits schema on include filter def few is = by_read (both_read (condition_in schema.columns filter) (chosen schema.columns on include)) refl is
   where

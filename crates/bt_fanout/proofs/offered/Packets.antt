@@ -34,13 +34,14 @@ module _ {M : Type 0} where
 
   find-placed : (q : List ℕ) (m : List ℕ × M) (es : Messages M) → find key_cmp q (named (with_message m es)) ≡ cond (eq_by_cmp key_cmp q m.0) (Some tt) (find key_cmp q (named es))
   find-placed q m [] = find-put key_cmp total_keys q m.0 tt []
-  find-placed q m (e ∷ es) = elim (is_before m.0 e.0) as (λ b. find key_cmp q (named (if b then m ∷ e ∷ es else e ∷ with_message m es)) ≡ cond (eq_by_cmp key_cmp q m.0) (Some tt) (find key_cmp q (named (e ∷ es)))) [
-    | true ↦ find-put key_cmp total_keys q m.0 tt (named (e ∷ es))
-    | false ↦
-        find-put key_cmp total_keys q e.0 tt (named (with_message m es)) ∙ ap (cond (eq_by_cmp key_cmp q e.0) (Some tt)) (find-placed q m es)
-        ∙ swapped (eq_by_cmp key_cmp q e.0) (eq_by_cmp key_cmp q m.0) (Some tt) (find key_cmp q (named es))
-        ∙ ap (cond (eq_by_cmp key_cmp q m.0) (Some tt)) (sym (find-put key_cmp total_keys q e.0 tt (named es)))
-  ]
+  find-placed q m (e ∷ es) = elim (is_before m.0 e.0) as (λ b. find key_cmp q (named (if b then m ∷ e ∷ es else e ∷ with_message m es))
+      ≡ cond (eq_by_cmp key_cmp q m.0) (Some tt) (find key_cmp q (named (e ∷ es)))) [
+        | true ↦ find-put key_cmp total_keys q m.0 tt (named (e ∷ es))
+        | false ↦
+            find-put key_cmp total_keys q e.0 tt (named (with_message m es)) ∙ ap (cond (eq_by_cmp key_cmp q e.0) (Some tt)) (find-placed q m es)
+            ∙ swapped (eq_by_cmp key_cmp q e.0) (eq_by_cmp key_cmp q m.0) (Some tt) (find key_cmp q (named es))
+            ∙ ap (cond (eq_by_cmp key_cmp q m.0) (Some tt)) (sym (find-put key_cmp total_keys q e.0 tt (named es)))
+      ]
 
   find-all_placed : (q : List ℕ) (ms older : Messages M) → find key_cmp q (named (with_messages ms older)) ≡ joined q ms (find key_cmp q (named older))
   find-all_placed q [] older = refl

@@ -14,5 +14,6 @@ use Rattle.bt_fanout.specs.declared.cover.Cover.{Cover}
 use Rattle.bt_fanout.proofs.Turning.{turns_index}
 
 pub packet_turns : (def : Definition) (cover : Cover) (kinds : List Kind) (batch : Messages RowMessage) (rows : Rows (List Value)) → T (is_sorted key_cmp rows) →
-    EachStands (StandsUnder def kinds) rows → EachStands (StandsUnder def kinds) (rows_after row_effect batch rows) → Turns def cover batch rows (sorted_batch (sent_for_all def cover (effects_of batch rows)))
+    EachStands (StandsUnder def kinds) rows → EachStands (StandsUnder def kinds) (rows_after row_effect batch rows)
+    → Turns def cover batch rows (sorted_batch (sent_for_all def cover (effects_of batch rows)))
 packet_turns def cover kinds batch rows = turns_index def cover (effects_of batch rows) kinds batch rows refl

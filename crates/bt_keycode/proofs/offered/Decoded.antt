@@ -1,5 +1,6 @@
 -- The values that are decoded from bytes: those that the bytes encode, and none if they are no code. Used for the keys that an index prints.
-use Rattle.std.proofs.Common.{◌≡◌, ◌∙◌, ℕ, suc, ◌+◌, ◌-◌, ◌^◌, ◌<◌, ◌&&◌, arith, Bool, true, false, true≢false, List, [], ◌∷◌, ◌++◌, append_assoc, append-nil, drop, map, nat_le, take, Option, Some, None, refl, sym, ap, subst, ℤ, pos, negsuc, SFits, w64, if◌then◌else◌}
+use Rattle.std.proofs.Common.{◌≡◌, ◌∙◌, ℕ, suc, ◌+◌, ◌-◌, ◌^◌, ◌<◌, ◌&&◌, arith, Bool, true, false, true≢false, List, [], ◌∷◌, ◌++◌, append_assoc, append-nil}
+use Rattle.std.proofs.Common.{drop, map, nat_le, take, Option, Some, None, refl, sym, ap, subst, ℤ, pos, negsuc, SFits, w64, if◌then◌else◌}
 use Rattle.std.proofs.lemmas.Bool.Decides.{nat_tests}
 use Rattle.std.proofs.lemmas.Nat.{from_be_bytes-to_be_bytes_8}
 use Rattle.std.proofs.lemmas.Option.{none-some}
@@ -63,7 +64,8 @@ all_again : (values : List Value) (rest : List ℕ) → AreInRange values → fi
 unfolding first_values
 all_again [] rest fits = refl
 all_again (v ∷ values) rest fits =
-    ap (λ bytes. option_and_then (λ read. option_map (λ vs. read.0 ∷ vs) (first_values (map kind_of values) read.1)) (first_value (kind_of v) bytes)) (append_assoc (code_of_value v) (code_of values) rest)
+    ap (λ bytes. option_and_then (λ read. option_map (λ vs. read.0 ∷ vs) (first_values (map kind_of values) read.1)) (first_value (kind_of v) bytes))
+    (append_assoc (code_of_value v) (code_of values) rest)
     ∙ ap (option_and_then (λ read. option_map (λ vs. read.0 ∷ vs) (first_values (map kind_of values) read.1))) (value_again v (code_of values ++ rest) fits.0)
     ∙ ap (option_map (λ vs. v ∷ vs)) (all_again values rest fits.1)
 
@@ -148,7 +150,8 @@ module _ (kinds : List Kind) (bytes : List ℕ) where
   unfolding decoded
   decoded_code values = of_read (first_values kinds bytes)
     where
-      of_values : (found : List Value) (b : Bool) → (pointwise is_of_kind kinds found && bytes_eq (code_of found) bytes) ≡ b → (if b then Some found else None) ≡ Some values → IsCodeOf kinds bytes values
+      of_values : (found : List Value) (b : Bool) → (pointwise is_of_kind kinds found && bytes_eq (code_of found) bytes) ≡ b
+          → (if b then Some found else None) ≡ Some values → IsCodeOf kinds bytes values
       of_values found true test is = subst (IsCodeOf kinds bytes) (ap (or_values found) is) (coded found test)
       of_values found false test is = absurd (none-some values is)
 

@@ -1,5 +1,6 @@
 -- The values that records encode are within the ranges of their kinds, also after operations. Used for the codes of a table's rows.
-use Rattle.std.proofs.Common.{ℕ, zero, suc, ◌==◌, Bool, true, false, List, [], ◌∷◌, ◌++◌, arith, length, take, drop, get_or, set, subst, sym, codes, map, Option, Some, None, IfSome, IfOk, Result, Ok, Err, ℤ, pos, if◌then◌else◌}
+use Rattle.std.proofs.Common.{ℕ, zero, suc, ◌==◌, Bool, true, false, List, [], ◌∷◌, ◌++◌, arith, length, take, drop, get_or, set}
+use Rattle.std.proofs.Common.{subst, sym, codes, map, Option, Some, None, IfSome, IfOk, Result, Ok, Err, ℤ, pos, if◌then◌else◌}
 use Rattle.std.specs.Cmp.Lexicographic.{pointwise}
 use Rattle.std.specs.Int.{w64}
 use Rattle.std.specs.List.{filter_map}
@@ -7,7 +8,8 @@ use Rattle.std.specs.Prelude.{FitsSigned, option_map}
 use Rattle.std.specs.Result.{result_err, result_ok}
 use Rattle.bt_row.specs.Arithmetic.{Action, Makes, Sets, action_of, arithmetic_of_word, op_making, new_value}
 use Rattle.bt_value.specs.Ints.{int_of}
-use Rattle.bt_row.specs.Ops.{after_action, after_op, after_ops, argument_in, argument_of, at_column, default_row, is_upsert, key_as, making_of, making_of_kind, number_op_of, op_of, open_column, ops_as, ops_of, set_of, upsert_as}
+use Rattle.bt_row.specs.Ops.{after_action, after_op, after_ops, argument_in, argument_of, at_column, default_row, is_upsert, key_as}
+use Rattle.bt_row.specs.Ops.{making_of, making_of_kind, number_op_of, op_of, open_column, ops_as, ops_of, set_of, upsert_as}
 use Rattle.bt_value.specs.Results.{all_read, both_read, unless, or_refused}
 use Rattle.bt_value.specs.Values.{AreInRange, IsInRange, default_of, value_of}
 use Rattle.bt_row.specs.Schemas.{read_as, values_of, with_first, Schema}
@@ -85,7 +87,8 @@ set_in_range item argument column =
     or_refused_ok (BadField item) (option_map (Set column.0) (value_of column.1 argument)) OpInRange (set_made column.0 (value_of column.1 argument) (value_in_range column.1 argument))
 
 making_in_range : (how : Arithmetic) (item : ℕ) (argument : List ℕ) (place : ℕ) (k : Kind) → IfOk (making_of_kind how item argument place k) OpInRange
-making_in_range how item argument place kind.Int = or_refused_ok (BadField item) (option_map (op_making how place) (int_of argument)) OpInRange (number_op how place (int_of argument) (int_in_range argument))
+making_in_range how item argument place kind.Int =
+    or_refused_ok (BadField item) (option_map (op_making how place) (int_of argument)) OpInRange (number_op how place (int_of argument) (int_in_range argument))
 making_in_range how item argument place other = tt
 
 at_column_ok : {T : Type 0} (read : ℕ × Kind → Result T Refusal) (found : Option (ℕ × Kind)) (P : T → Type 0) → ((column : ℕ × Kind) → IfOk (read column) P) → IfOk (at_column read found) P
@@ -116,7 +119,8 @@ unless_holds : {T : Type 0} (refusal : Option Refusal) (x : T) (P : T → Type 0
 unless_holds None x P h = h
 unless_holds (Some refusal) x P h = tt
 
-both_hold : {S T : Type 0} (first : Result S Refusal) (second : Result T Refusal) (P : S → Type 0) (Q : T → Type 0) → IfOk first P → IfOk second Q → IfOk (both_read first second) (λ both. P both.0 × Q both.1)
+both_hold : {S T : Type 0} (first : Result S Refusal) (second : Result T Refusal) (P : S → Type 0) (Q : T → Type 0) → IfOk first P → IfOk second Q
+    → IfOk (both_read first second) (λ both. P both.0 × Q both.1)
 both_hold (Ok x) (Ok y) P Q p q = (p, q)
 both_hold (Ok x) (Err e) P Q p q = tt
 both_hold (Err e) (Ok y) P Q p q = tt

@@ -1,7 +1,8 @@
 -- Reading bytes piece by piece, with anything after them: the steps of `decoded`.
 use Rattle.std.specs.Cmp.Lexicographic.{pointwise}
 use Rattle.std.specs.Int.{from_be_bytes, w64}
-use Rattle.std.specs.Prelude.{ℕ, zero, suc, ◌==◌, ◌-◌, ◌^◌, ◌&&◌, ◌++◌, Bool, true, List, [], ◌∷◌, drop, get_or, nat_le, nat_lt, take, Option, Some, None, option_and_then, option_map, if◌then◌else◌, ℤ, pos, negsuc}
+use Rattle.std.specs.Prelude.{ℕ, zero, suc, ◌==◌, ◌-◌, ◌^◌, ◌&&◌, ◌++◌, Bool, true, List, [], ◌∷◌, drop, get_or, nat_le, nat_lt}
+use Rattle.std.specs.Prelude.{take, Option, Some, None, option_and_then, option_map, if◌then◌else◌, ℤ, pos, negsuc}
 use Rattle.std.specs.Str.{bytes_eq}
 use Rattle.bt_value.specs.Kinds.{Content, Number, Bytes, Bit, content_of, form_of, value_with}
 use Rattle.bt_value.specs.Values.{fits_kind}

@@ -41,7 +41,8 @@ module _ {V M : Type 0} (effect : Option V → M → Option V) where
   value_before q k (m ∷ ms) o e h =
       ap (λ b. value_after effect q ms (if b then effect o m.1 else o)) (apart q k m.0 e h.0) ∙ value_before q k ms o e h.1
 
-  value_after-with_message : (q : List ℕ) (m : List ℕ × M) (es : Messages M) (o : Option V) → IsSorted es → value_after effect q (with_message m es) o ≡ value_after effect q (m ∷ []) (value_after effect q es o)
+  value_after-with_message : (q : List ℕ) (m : List ℕ × M) (es : Messages M) (o : Option V) → IsSorted es
+      → value_after effect q (with_message m es) o ≡ value_after effect q (m ∷ []) (value_after effect q es o)
   value_after-with_message q m [] o h = refl
   value_after-with_message q m (e ∷ es) o h = elim (is_before m.0 e.0) as (λ t. is_before m.0 e.0 ≡ t →
       value_after effect q (if t then m ∷ e ∷ es else e ∷ with_message m es) o ≡ value_after effect q (m ∷ []) (value_after effect q (e ∷ es) o)) [
@@ -57,7 +58,8 @@ module _ {V M : Type 0} (effect : Option V → M → Option V) where
       ] refl
 
   -- at each key older messages come before newer ones
-  pub value_after-with_messages : (q : List ℕ) (ms older : Messages M) (o : Option V) → IsSorted older → value_after effect q (with_messages ms older) o ≡ value_after effect q ms (value_after effect q older o)
+  pub value_after-with_messages : (q : List ℕ) (ms older : Messages M) (o : Option V) → IsSorted older
+      → value_after effect q (with_messages ms older) o ≡ value_after effect q ms (value_after effect q older o)
   value_after-with_messages q [] older o h = refl
   value_after-with_messages q (m ∷ ms) older o h =
       value_after-with_messages q ms (with_message m older) o (sorted-with_messages (m ∷ []) older h) ∙ ap (value_after effect q ms) (value_after-with_message q m older o h)
@@ -76,7 +78,8 @@ module _ {V M : Type 0} (effect : Option V → M → Option V) where
   same_rows rows others = same_entries key_cmp total_keys (slice_cmp-IsAntisymmetric nat_cmp-IsAntisymmetric) rows others
 
   -- a buffer with a packet does what the buffer does, and then the packet
-  pub rows_after-with_messages : (ms older : Messages M) (rows : Rows V) → IsSorted older → T (is_sorted key_cmp rows) → rows_after effect (with_messages ms older) rows ≡ rows_after effect ms (rows_after effect older rows)
+  pub rows_after-with_messages : (ms older : Messages M) (rows : Rows V) → IsSorted older → T (is_sorted key_cmp rows)
+      → rows_after effect (with_messages ms older) rows ≡ rows_after effect ms (rows_after effect older rows)
   rows_after-with_messages ms older rows h r =
       same_rows (rows_after effect (with_messages ms older) rows) (rows_after effect ms (rows_after effect older rows))
       (sorted-rows_after (with_messages ms older) rows r) (sorted-rows_after ms (rows_after effect older rows) (sorted-rows_after older rows r))

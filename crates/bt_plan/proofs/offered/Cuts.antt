@@ -54,7 +54,8 @@ module _ {V M : Type 0} (meaning : Meaning V M) (number : ℕ) (shape : Shape) (
       has.fits.lies has.fits.sized (anywhere packet)
 
   -- running each job and filling the holes gives the result for the tree
-  pub cut-outcome : filled shape (cut meaning.weigh number shape root packet depth mode).holed (outcomes meaning shape (cut meaning.weigh number shape root packet depth mode).jobs) ≡ flush_in meaning mode shape root packet
+  pub cut-outcome : filled shape (cut meaning.weigh number shape root packet depth mode).holed
+      (outcomes meaning shape (cut meaning.weigh number shape root packet depth mode).jobs) ≡ flush_in meaning mode shape root packet
   cut-outcome = cut-fills_up _ (all-stand meaning shape _ cut-places_rise)
 
 -- any piece at the place of a job is its result
@@ -73,7 +74,8 @@ module _ {V M : Type 0} (meaning : Meaning V M) (shape : Shape) (roomy : IsRoomy
       ((λ levels low high fits xs found. subst (SiblingsFit meaning.weigh shape levels low high) (sym (e.0 xs found)) (outcome-fits job levels low high fits)), each-fits pieces jobs e.1)
 
   -- so each piece fits its hole
-  pub pieces-fit : (c : Pieced V M) (stand : StandInHoles meaning.weigh shape c) (pieces : Pieces V M) → All (Answers meaning shape pieces) c.jobs → HoledFits meaning.weigh (FitsHole meaning.weigh shape pieces) shape stand.levels None None c.holed
+  pub pieces-fit : (c : Pieced V M) (stand : StandInHoles meaning.weigh shape c) (pieces : Pieces V M) → All (Answers meaning shape pieces) c.jobs
+      → HoledFits meaning.weigh (FitsHole meaning.weigh shape pieces) shape stand.levels None None c.holed
   pieces-fit c stand pieces all =
       subst (HoledFits meaning.weigh (FitsHole meaning.weigh shape pieces) shape stand.levels None None) (sym stand.holed)
       (with_holes-fits meaning.weigh shape hole_of (JobFits meaning.weigh shape) (FitsHole meaning.weigh shape pieces) stand.levels None None stand.tree

@@ -1,6 +1,7 @@
 -- The results of the parts of the parser, in terms of the commands.
 use Rattle.std.specs.Prelude.{ℕ, ◌<◌, ◌≡◌, ◌&&◌, Bool, true, false, List, [], ◌∷◌, ◌++◌, Option, Some, None, if◌then◌else◌, codes, drop, is_none, is_some, option_map}
-use Rattle.bt_script.specs.Commands.{Answer, Finds, Inside, NextPast, behind_prefix, bounds_between, closing_of, command_of, commands, commands_from, if_some, item_from, lower_bound, opened, or_syntax, unfinished, upper_bound}
+use Rattle.bt_script.specs.Commands.{Answer, Finds, Inside, NextPast, behind_prefix, bounds_between, closing_of, command_of, commands}
+use Rattle.bt_script.specs.Commands.{commands_from, if_some, item_from, lower_bound, opened, or_syntax, unfinished, upper_bound}
 use Rattle.bt_script.specs.Lines.{is_blank, lines, without_spaces, words}
 use Rattle.bt_script.specs.declared.blocks.BlockEnd.{BlockEnd}
 use Rattle.bt_script.specs.declared.blocks.BlockEnd.TheVariants.{Closed, CutOff}

@@ -18,7 +18,8 @@ loop-place-preserved c =
     let others = read_batch schema (before + (place + 1) + 1) (drop (place + 1) lines) in
     let more : read_batch schema (before + place + 1) (drop place lines) ≡ read ∷ others =
     read_next schema before place lines c.index-lines-place.result c.loop-place-test.true
-    ∙ ap (λ (answer : Result KeyedMessage Refusal). answer ∷ others) (ap (read_message schema (before + place + 1)) (sym c.index-lines-place.is) ∙ is_answer _ read c.read_message.ensures c.in_ok-add.ensures.memory)
+    ∙ ap (λ (answer : Result KeyedMessage Refusal). answer ∷ others) (ap (read_message schema (before + place + 1)) (sym c.index-lines-place.is)
+    ∙ is_answer _ read c.read_message.ensures c.in_ok-add.ensures.memory)
     in
     record {
       messages = c.loop-place.invariant.messages

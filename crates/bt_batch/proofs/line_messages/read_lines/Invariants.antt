@@ -9,5 +9,6 @@ use Rattle.bt_batch.proofs.line_messages.read_lines.Given as goal
 abbrev pub invariant-loop-place : goal.invariant-loop-place
 invariant-loop-place l = record {
   messages : filter_map result_ok (read_batch l.schema (l.before + 1) l.lines) ≡ l.reading.values ++ filter_map result_ok (read_batch l.schema (l.before + l.place + 1) (drop l.place l.lines));
-  refusal : least (filter_map result_err (read_batch l.schema (l.before + 1) l.lines)) ≡ least_from l.reading.refusal (filter_map result_err (read_batch l.schema (l.before + l.place + 1) (drop l.place l.lines)));
+  refusal : least (filter_map result_err (read_batch l.schema (l.before + 1) l.lines))
+      ≡ least_from l.reading.refusal (filter_map result_err (read_batch l.schema (l.before + l.place + 1) (drop l.place l.lines)));
 }

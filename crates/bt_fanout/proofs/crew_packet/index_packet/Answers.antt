@@ -19,7 +19,8 @@ returns-clause-packet g c =
     let pieces = c.in_ok-pieces.pieces.items in
     let packets = c.in_ok-packets.packets.items in
     let made = c.in_ok-packets.ensures.values (λ piece. sorted_batch (sent_for_all def cover piece.items.now)) (λ piece packet is. is) in
-    IfOk-weaker c.merged_pieces.result _ _ (λ packet is. is ∙ packet_of_pieces def cover (λ piece. piece.items.now) pieces packets c.args.effects.now c.in_ok-pieces.ensures.whole made) c.merged_pieces.ensures
+    IfOk-weaker c.merged_pieces.result _ _ (λ packet is. is
+    ∙ packet_of_pieces def cover (λ piece. piece.items.now) pieces packets c.args.effects.now c.in_ok-pieces.ensures.whole made) c.merged_pieces.ensures
 
 pub returns-clause-turns : goal.returns-clause-turns
 returns-clause-turns g c =

@@ -12,13 +12,15 @@ use Rattle.bt_fanout.proofs.row_effects.effects.Goals as goal
 pub values-requires-clause-rising : goal.values-requires-clause-rising
 values-requires-clause-rising g c κs within =
     subst (λ ks. AreRising (map (λ k. k.now) ks)) (sym c.as_slice.ensures.value)
-    (keys_rise (λ k. k.now) c.args.cover.now c.args.packet.now c.in_ok-named.named.keys.items c.in_ok-named.named.others.items c.in_ok-named.ensures.keys c.in_ok-named.ensures.others c.in_ok-named.ensures.sorted)
+    (keys_rise (λ k. k.now) c.args.cover.now c.args.packet.now c.in_ok-named.named.keys.items c.in_ok-named.named.others.items c.in_ok-named.ensures.keys
+    c.in_ok-named.ensures.others c.in_ok-named.ensures.sorted)
 
 pub returns : goal.returns
 returns g c =
     let rows = holds row_effect c.args.tree.now.1 in
     let found = c.in_ok-rows.ensures ∙ ap (map (λ k. find key_cmp k.now rows)) c.as_slice.ensures.value in
     IfOk-weaker c.effects_on.result _ _
-    (λ effects is. is ∙ effects_are (λ k. k.now) c.args.cover.now c.args.packet.now c.in_ok-named.named.keys.items c.in_ok-named.named.others.items c.in_ok-named.ensures.keys c.in_ok-named.ensures.others c.in_ok-named.ensures.sorted
+    (λ effects is. is ∙ effects_are (λ k. k.now) c.args.cover.now c.args.packet.now c.in_ok-named.named.keys.items c.in_ok-named.named.others.items
+    c.in_ok-named.ensures.keys c.in_ok-named.ensures.others c.in_ok-named.ensures.sorted
     rows c.in_ok-rows.rows.items found)
     c.effects_on.ensures

@@ -10,8 +10,10 @@ use Rattle.bt_fanout.proofs.row_effects.effects_alone.Goals as goal
 pub returns : goal.returns
 returns c =
     let rows = holds row_effect c.args.tree.now.1 in
-    let found = c.in_ok-rows.ensures ∙ ap (map (λ k. find key_cmp k.now (holds row_effect c.walk.result))) c.as_slice.ensures.value ∙ ap (λ t. map (λ k. find key_cmp k.now (holds row_effect t)) c.in_ok-named.named.keys.items) c.walk.ensures.root in
+    let found = c.in_ok-rows.ensures ∙ ap (map (λ k. find key_cmp k.now (holds row_effect c.walk.result))) c.as_slice.ensures.value
+    ∙ ap (λ t. map (λ k. find key_cmp k.now (holds row_effect t)) c.in_ok-named.named.keys.items) c.walk.ensures.root in
     IfOk-weaker c.effects_on.result _ _
-    (λ effects is. is ∙ effects_are (λ k. k.now) c.args.cover.now c.args.packet.now c.in_ok-named.named.keys.items c.in_ok-named.named.others.items c.in_ok-named.ensures.keys c.in_ok-named.ensures.others c.in_ok-named.ensures.sorted
+    (λ effects is. is ∙ effects_are (λ k. k.now) c.args.cover.now c.args.packet.now c.in_ok-named.named.keys.items c.in_ok-named.named.others.items
+    c.in_ok-named.ensures.keys c.in_ok-named.ensures.others c.in_ok-named.ensures.sorted
     rows c.in_ok-rows.rows.items found)
     c.effects_on.ensures

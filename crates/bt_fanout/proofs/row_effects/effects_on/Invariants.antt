@@ -8,5 +8,6 @@ abbrev pub invariant-loop-before : goal.invariant-loop-before
 invariant-loop-before l = record {
   many : length l.effects.items + length (into_iter_items l.before-iterator) ≡ length l.fn.rows.items;
   effects : effects_in (map (λ k. k.now) l.named.keys.items) l.named.others.items l.fn.rows.items l.packet
-      ≡ l.effects.items ++ effects_in (map (λ k. k.now) (drop (length l.effects.items) l.named.keys.items)) (drop (length l.effects.items) l.named.others.items) (into_iter_items l.before-iterator) l.messages;
+      ≡ l.effects.items ++ effects_in (map (λ k. k.now) (drop (length l.effects.items) l.named.keys.items))
+      (drop (length l.effects.items) l.named.others.items) (into_iter_items l.before-iterator) l.messages;
 }

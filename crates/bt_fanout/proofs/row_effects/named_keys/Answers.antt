@@ -6,11 +6,15 @@ use Rattle.bt_fanout.proofs.row_effects.named_keys.Goals as goal
 
 pub returns-then-not-covers-clause-keys : goal.returns-then-not-covers-clause-keys
 returns-then-not-covers-clause-keys c =
-    none_left_covered (λ g. g.0) c.args.cover.now (c.in-Some.key.now, c.in-Some._message.now) c.loop-next.messages _ _ _ (ap (λ next. with_next (option_map (λ m. (m.0.now, m.1.now)) next) c.loop-next.messages) c.in-Some.is) c.loop-next.invariant.sorted (search rules) c.loop-next.invariant.keys
+    none_left_covered (λ g. g.0) c.args.cover.now (c.in-Some.key.now, c.in-Some._message.now) c.loop-next.messages _ _ _
+    (ap (λ next. with_next (option_map (λ m. (m.0.now, m.1.now)) next) c.loop-next.messages) c.in-Some.is) c.loop-next.invariant.sorted (search rules)
+    c.loop-next.invariant.keys
 
 pub returns-then-not-covers-clause-others : goal.returns-then-not-covers-clause-others
 returns-then-not-covers-clause-others c =
-    none_left_covered (λ g. g.1) c.args.cover.now (c.in-Some.key.now, c.in-Some._message.now) c.loop-next.messages _ _ _ (ap (λ next. with_next (option_map (λ m. (m.0.now, m.1.now)) next) c.loop-next.messages) c.in-Some.is) c.loop-next.invariant.sorted (search rules) c.loop-next.invariant.others
+    none_left_covered (λ g. g.1) c.args.cover.now (c.in-Some.key.now, c.in-Some._message.now) c.loop-next.messages _ _ _
+    (ap (λ next. with_next (option_map (λ m. (m.0.now, m.1.now)) next) c.loop-next.messages) c.in-Some.is) c.loop-next.invariant.sorted (search rules)
+    c.loop-next.invariant.others
 
 pub loop-next-smaller : goal.loop-next-smaller
 loop-next-smaller c =
@@ -22,7 +26,9 @@ loop-next-preserved c =
     let covered : is_covered c.args.cover.now c.in-Some.key.now ≡ true = search rules in
     let is = ap (λ next. with_next (option_map (λ m. (m.0.now, m.1.now)) next) c.loop-next.messages) c.in-Some.is in
     let fewer = fewer_left (c.in-Some.key.now, c.in-Some._message.now) c.loop-next.messages _ _ is c.messages_behind-count.ensures.rest in
-    let now = one_key (λ k. k.now) c.args.cover.now (c.in-Some.key.now, c.in-Some._message.now) c.loop-next.messages _ _ c.in-Some.key c.messages_behind-count.result.0 c.loop-next.keys.items c.push.new.self.items
-    c.loop-next.others.items c.push-in-Some.new.self.items (groups_within c.args.cover.now c.args.packet.now) is c.loop-next.invariant.sorted refl covered c.messages_behind-count.ensures.count c.messages_behind-count.ensures.rest
+    let now = one_key (λ k. k.now) c.args.cover.now (c.in-Some.key.now, c.in-Some._message.now) c.loop-next.messages _ _ c.in-Some.key
+    c.messages_behind-count.result.0 c.loop-next.keys.items c.push.new.self.items
+    c.loop-next.others.items c.push-in-Some.new.self.items (groups_within c.args.cover.now c.args.packet.now) is c.loop-next.invariant.sorted refl covered
+    c.messages_behind-count.ensures.count c.messages_behind-count.ensures.rest
     c.loop-next.invariant.keys c.loop-next.invariant.others (search rules) (search rules) in
     record { few = omega (arith, fewer, c.loop-next.invariant.few); sorted = now.0; keys = now.1.0; others = now.1.1 }

@@ -15,7 +15,8 @@ finish-requires c =
 
 pub returns-clause-packet : goal.returns-clause-packet
 returns-clause-packet c =
-    let sent = messages_are c.args.def.now c.args.cover.now (holds row_effect c.args.tree.now.1) c.args.count c.new-builder.result c.read_next.new.builder c.new-builder.ensures c.in_ok-read_next.ensures c.requires in
+    let sent = messages_are c.args.def.now c.args.cover.now (holds row_effect c.args.tree.now.1) c.args.count c.new-builder.result c.read_next.new.builder
+    c.new-builder.ensures c.in_ok-read_next.ensures c.requires in
     IfOk-weaker c.finish.result _ _ (λ step e. e ∙ ap sorted_batch sent) c.finish.ensures.packet
 
 pub returns-clause-builds : goal.returns-clause-builds
@@ -27,10 +28,12 @@ returns-clause-builds c =
 
 pub returns-clause-cover : goal.returns-clause-cover
 returns-clause-cover c =
-    let moved = cover_is c.args.def.now c.args.cover.now (holds row_effect c.args.tree.now.1) c.args.count c.new-builder.result c.read_next.new.builder c.new-builder.ensures c.in_ok-read_next.ensures in
+    let moved = cover_is c.args.def.now c.args.cover.now (holds row_effect c.args.tree.now.1) c.args.count c.new-builder.result c.read_next.new.builder
+    c.new-builder.ensures c.in_ok-read_next.ensures in
     IfOk-weaker c.finish.result _ _ (λ step e. e ∙ moved) c.finish.ensures.cover
 
 pub returns-clause-read : goal.returns-clause-read
 returns-clause-read c =
-    let counted = count_is c.args.def.now c.args.cover.now (holds row_effect c.args.tree.now.1) c.args.count c.new-builder.result c.read_next.new.builder c.new-builder.ensures c.in_ok-read_next.ensures in
+    let counted = count_is c.args.def.now c.args.cover.now (holds row_effect c.args.tree.now.1) c.args.count c.new-builder.result c.read_next.new.builder
+    c.new-builder.ensures c.in_ok-read_next.ensures in
     IfOk-weaker c.finish.result _ _ (λ step e. e ∙ counted) c.finish.ensures.read

@@ -30,7 +30,8 @@ loop-portion-init g c =
 
 pub add_job-requires : goal.add_job-requires
 add_job-requires g c =
-    subst (λ ks. AreRising (map (λ k. k.now) ks)) (sym c.owned_from-count.ensures.keys) (first_rise (λ k. k.now) c.owned_from-count.result.1 (drop c.loop-portion.done c.args.keys.now) c.loop-portion.invariant.rising)
+    subst (λ ks. AreRising (map (λ k. k.now) ks)) (sym c.owned_from-count.ensures.keys)
+    (first_rise (λ k. k.now) c.owned_from-count.result.1 (drop c.loop-portion.done c.args.keys.now) c.loop-portion.invariant.rising)
 
 pub loop-portion-preserved : goal.loop-portion-preserved
 loop-portion-preserved g c =
@@ -46,8 +47,10 @@ loop-portion-preserved g c =
     let chain = subst (λ ps. Chained so_far.beside.0 ps None) steps so_far.beside.1 in
     let from = subst (λ l. NoneBefore l (map (λ k. k.now) rest)) (sym chain.0) so_far.beside.2 in
     record {
-      values = λ value have. values_behind (λ k. k.now) p effect value (λ q own. (subst (HaveThere effect q (value q)) steps (so_far.have value have q)).0 own) rest count c.owned_from-count.result.0.now left
-          (flat_map (values_there effect) c.loop-portion.jobs.items) (flat_map (values_there effect) c.add_job.new.jobs.items) _ c.owned_from-count.ensures.count c.owned_from-count.ensures.keys left_is c.in_ok-add_job.ensures.values (so_far.values value have);
+      values = λ value have. values_behind (λ k. k.now) p effect value (λ q own. (subst (HaveThere effect q (value q)) steps (so_far.have value have q)).0 own)
+          rest count c.owned_from-count.result.0.now left
+          (flat_map (values_there effect) c.loop-portion.jobs.items) (flat_map (values_there effect) c.add_job.new.jobs.items) _
+          c.owned_from-count.ensures.count c.owned_from-count.ensures.keys left_is c.in_ok-add_job.ensures.values (so_far.values value have);
       have = λ value have key. (subst (HaveThere effect key (value key)) steps (so_far.have value have key)).1;
       beside = (p.high, chain.1, subst (λ l. NoneBefore p.high (map (λ k. k.now) l)) (sym behind) (rest_behind (λ k. k.now) p rest from so_far.rising));
       last = λ none. behind ∙ none_left (λ k. k.now) p (subst (λ ps. Chained p.high ps None) none chain.1) rest from;

@@ -32,5 +32,6 @@ returns g c =
     let lists : c.in_ok-lists.lists.items ≡ map there jobs = c.in_ok-lists.ensures.values there (λ job d is. is) in
     let found = c.in_ok-jobs.ensures.values (λ q. find key_cmp q (holds (effect_of g.V.Merge.terms.merged) c.walk-2.result)) c.in_ok-portions.ensures.values in
     IfOk-weaker c.all_values.result _ _
-    (λ values all. all ∙ ap concatenation lists ∙ joined_map there jobs ∙ found ∙ ap (λ t. map (λ k. find key_cmp k.now (holds (effect_of g.V.Merge.terms.merged) t)) c.args.keys.now) c.walk-2.ensures.root)
+    (λ values all. all ∙ ap concatenation lists ∙ joined_map there jobs ∙ found
+    ∙ ap (λ t. map (λ k. find key_cmp k.now (holds (effect_of g.V.Merge.terms.merged) t)) c.args.keys.now) c.walk-2.ensures.root)
     c.all_values.ensures

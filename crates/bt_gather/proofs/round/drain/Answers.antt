@@ -11,12 +11,14 @@ use Rattle.bt_gather.proofs.round.drain.Goals as goal
 
 pub whole_tree-requires : goal.whole_tree-requires
 whole_tree-requires g c =
-    (tree-outcome (meaning_of g.V.Merge.terms) c.in_ok-tree.tree c.in_ok-tree.jobs.items _ c.in_ok-tree.ensures.jobs (into_iter_items c.into_iter-pieces.result) (c.into_iter-pieces.ensures.rest ∙ c.in_ok-pieces.ensures.rows)).0
+    (tree-outcome (meaning_of g.V.Merge.terms) c.in_ok-tree.tree c.in_ok-tree.jobs.items _ c.in_ok-tree.ensures.jobs
+    (into_iter_items c.into_iter-pieces.result) (c.into_iter-pieces.ensures.rest ∙ c.in_ok-pieces.ensures.rows)).0
 
 pub returns-clause-tree : goal.returns-clause-tree
 returns-clause-tree g c =
     let meaning = meaning_of g.V.Merge.terms in
-    let whole = (tree-outcome meaning c.in_ok-tree.tree c.in_ok-tree.jobs.items _ c.in_ok-tree.ensures.jobs (into_iter_items c.into_iter-pieces.result) (c.into_iter-pieces.ensures.rest ∙ c.in_ok-pieces.ensures.rows)).1 in
+    let whole = (tree-outcome meaning c.in_ok-tree.tree c.in_ok-tree.jobs.items _ c.in_ok-tree.ensures.jobs (into_iter_items c.into_iter-pieces.result)
+    (c.into_iter-pieces.ensures.rest ∙ c.in_ok-pieces.ensures.rows)).1 in
     subst (λ t. IfOk c.whole_tree.result (λ tree. tree ≡ t))
     (whole ∙ ap (λ p. (c.args.tree.0, crown c.args.tree.0 (drain meaning c.args.tree.0 c.args.tree.1 p))) c.new.ensures)
     c.whole_tree.ensures.tree

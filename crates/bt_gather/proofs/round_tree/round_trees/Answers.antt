@@ -17,12 +17,18 @@ loop-tree-preserved g c =
     let i = c.loop-tree.invariant in
     let one = c.in-Some.ensures.steps.0 in
     let us = trees_with c.loop-tree.list.items (all_pieces meaning c.loop-tree.jobs.items) in
-    let all = more-jobs meaning c.loop-tree.list.items c.loop-tree.jobs.items us (record { runnable = i.runnable; fill = i.fill; give = refl }) _ _ (sunk_tree meaning c.in-Some.tree) c.in_ok-next.ensures.jobs
+    let all = more-jobs meaning c.loop-tree.list.items c.loop-tree.jobs.items us (record {
+      runnable = i.runnable;
+      fill = i.fill;
+      give =
+          refl;
+    }) _ _ (sunk_tree meaning c.in-Some.tree) c.in_ok-next.ensures.jobs
     _ c.push_reserved.ensures.items _ c.in_ok-append.ensures.items in record {
       runnable = all.runnable;
       fill = all.fill;
       give = sunk-next meaning us _ (sunk_tree meaning c.in-Some.tree) all.give c.in-Some.tree _ _ one refl _ i.give;
-      fit = λ rest. i.fit (All-same (λ x. HasShape (weigh_of g.V.Merge.terms) x.0.0 x.0.1) _ _ one (All-cons (λ x. HasShape (weigh_of g.V.Merge.terms) x.0.0 x.0.1) c.in-Some.tree _ c.in_ok-next.ensures.fits rest));
+      fit = λ rest. i.fit (All-same (λ x. HasShape (weigh_of g.V.Merge.terms) x.0.0 x.0.1) _ _ one
+          (All-cons (λ x. HasShape (weigh_of g.V.Merge.terms) x.0.0 x.0.1) c.in-Some.tree _ c.in_ok-next.ensures.fits rest));
       number = search rules;
       space = search rules;
       room = search rules;

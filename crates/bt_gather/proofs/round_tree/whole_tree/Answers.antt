@@ -15,14 +15,17 @@ next_pieces-own-requires-clause-enough g c =
 
 pub filled_tree-requires-clause-fillable : goal.filled_tree-requires-clause-fillable
 filled_tree-requires-clause-fillable g c =
-    (own-fill (weigh_of g.V.Merge.terms) c.args.tree c.in-Cut.holed c.in-Cut.jobs c.in-Cut.room c.in-Cut.is (into_iter_items c.args.pieces.now) c.requires c.next_pieces-own.result.items c.next_pieces-own.ensures.next).fillable
+    (own-fill (weigh_of g.V.Merge.terms) c.args.tree c.in-Cut.holed c.in-Cut.jobs c.in-Cut.room c.in-Cut.is (into_iter_items c.args.pieces.now) c.requires
+    c.next_pieces-own.result.items c.next_pieces-own.ensures.next).fillable
 
 pub filled_tree-requires-clause-fit : goal.filled_tree-requires-clause-fit
 filled_tree-requires-clause-fit g c =
-    (own-fill (weigh_of g.V.Merge.terms) c.args.tree c.in-Cut.holed c.in-Cut.jobs c.in-Cut.room c.in-Cut.is (into_iter_items c.args.pieces.now) c.requires c.next_pieces-own.result.items c.next_pieces-own.ensures.next).fit
+    (own-fill (weigh_of g.V.Merge.terms) c.args.tree c.in-Cut.holed c.in-Cut.jobs c.in-Cut.room c.in-Cut.is (into_iter_items c.args.pieces.now) c.requires
+    c.next_pieces-own.result.items c.next_pieces-own.ensures.next).fit
 
 pub returns-in-Cut-clause-tree : goal.returns-in-Cut-clause-tree
 returns-in-Cut-clause-tree g c =
     subst (λ t. IfOk c.filled_tree.result (λ tree. tree ≡ t))
-    (own-tree (weigh_of g.V.Merge.terms) c.args.tree c.in-Cut.holed c.in-Cut.jobs c.in-Cut.room c.in-Cut.is (into_iter_items c.args.pieces.now) c.requires c.next_pieces-own.result.items c.next_pieces-own.ensures.next)
+    (own-tree (weigh_of g.V.Merge.terms) c.args.tree c.in-Cut.holed c.in-Cut.jobs c.in-Cut.room c.in-Cut.is (into_iter_items c.args.pieces.now) c.requires
+    c.next_pieces-own.result.items c.next_pieces-own.ensures.next)
     c.filled_tree.ensures

@@ -9,7 +9,8 @@ loop-tree-preserved g c =
     let i = c.loop-tree.invariant in
     let one = c.in-Some.ensures.steps.0 in
     let whole = c.in_ok-whole_tree.ensures in record {
-      whole = next-trees c.in-Some.tree _ _ one (into_iter_items c.loop-tree.pieces) _ whole.left c.loop-tree.whole.items _ c.in_ok-whole_tree.field-0 c.push_reserved.ensures.items whole.tree _ i.whole;
+      whole = next-trees c.in-Some.tree _ _ one (into_iter_items c.loop-tree.pieces) _ whole.left c.loop-tree.whole.items _ c.in_ok-whole_tree.field-0
+          c.push_reserved.ensures.items whole.tree _ i.whole;
       fill = (next-fill c.in-Some.tree _ _ one (into_iter_items c.loop-tree.pieces) _ whole.left (weigh_of g.V.Merge.terms) i.fill).1;
       space = search rules;
     }

@@ -7,7 +7,8 @@ use Rattle.bt_keycode.proofs.decoder.decode_onto.Goals as goal
 
 pub returns-in_default-clause-none : goal.returns-in_default-clause-none
 returns-in_default-clause-none c = λ _. no_values c.args.kinds.now c.args.bytes.now
-    (none_begins c.args.kinds.now c.loop-kind.kind-index kind.Int c.args.bytes.now c.loop-kind.invariant.0 c.loop-kind.code.now c.loop-kind-test.true c.loop-kind.invariant.1.1 c.in_default.ensures.none)
+    (none_begins c.args.kinds.now c.loop-kind.kind-index kind.Int c.args.bytes.now c.loop-kind.invariant.0 c.loop-kind.code.now c.loop-kind-test.true
+    c.loop-kind.invariant.1.1 c.in_default.ensures.none)
 
 pub loop-kind-preserved : goal.loop-kind-preserved
 loop-kind-preserved c =

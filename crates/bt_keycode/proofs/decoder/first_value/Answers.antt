@@ -13,10 +13,12 @@ returns-then-takes-clause-found c =
     let content = content_of_ref c.in_ok-content.content in
     let rest = c.in_ok-content.rest.now in
     rw c.with.ensures
-    (value_found c.args.kind c.args.bytes.now content rest (subst (λ f. BeginsWithContent f c.args.bytes.now content rest) c.form.ensures c.in_ok-content.ensures.found) (sym c.takes.ensures ∙ c.if-takes.true))
+    (value_found c.args.kind c.args.bytes.now content rest
+    (subst (λ f. BeginsWithContent f c.args.bytes.now content rest) c.form.ensures c.in_ok-content.ensures.found) (sym c.takes.ensures ∙ c.if-takes.true))
 
 pub returns-else-takes-clause-none : goal.returns-else-takes-clause-none
 returns-else-takes-clause-none c =
     let content = content_of_ref c.in_ok-content.content in
     let rest = c.in_ok-content.rest.now in
-    not_taken c.args.kind c.args.bytes.now content rest (subst (λ f. BeginsWithContent f c.args.bytes.now content rest) c.form.ensures c.in_ok-content.ensures.found) (sym c.takes.ensures ∙ c.if-takes.false)
+    not_taken c.args.kind c.args.bytes.now content rest
+    (subst (λ f. BeginsWithContent f c.args.bytes.now content rest) c.form.ensures c.in_ok-content.ensures.found) (sym c.takes.ensures ∙ c.if-takes.false)

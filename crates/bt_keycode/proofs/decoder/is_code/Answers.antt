@@ -23,7 +23,9 @@ all_begun c =
     of_all c.args.kinds.now c.loop-kind.kind-index c.args.bytes.now c.loop-kind.invariant.0 c.loop-kind.code.now all c.loop-kind.invariant.1
 
 pub returns-clause-yes : goal.returns-clause-yes
-returns-clause-yes c = λ empty. nothing_past c.args.kinds.now c.args.bytes.now c.loop-kind.invariant.0 c.loop-kind.code.now (all_begun c) (nothing c.loop-kind.code.now (eqb-true (length c.loop-kind.code.now) 0 (sym c.is_empty.ensures ∙ empty)))
+returns-clause-yes c = λ empty. nothing_past c.args.kinds.now c.args.bytes.now c.loop-kind.invariant.0 c.loop-kind.code.now (all_begun c)
+    (nothing c.loop-kind.code.now (eqb-true (length c.loop-kind.code.now) 0 (sym c.is_empty.ensures ∙ empty)))
 
 pub returns-clause-no : goal.returns-clause-no
-returns-clause-no c = λ more. goes_past c.args.kinds.now c.args.bytes.now c.loop-kind.invariant.0 c.loop-kind.code.now (all_begun c) (λ none. eqb-false (length c.loop-kind.code.now) 0 (sym c.is_empty.ensures ∙ more) (ap length none))
+returns-clause-no c = λ more. goes_past c.args.kinds.now c.args.bytes.now c.loop-kind.invariant.0 c.loop-kind.code.now (all_begun c)
+    (λ none. eqb-false (length c.loop-kind.code.now) 0 (sym c.is_empty.ensures ∙ more) (ap length none))

@@ -10,7 +10,8 @@ returns-then-first-second-clause-apart c =
     let low : first < 2 ^ 64 = search rules in
     let under : second < 2 ^ 64 = search rules in
     let few : c.args.place + 8 ≤ 22 = omega (arith, c.requires.within) in
-    let decided = first_decided c.args.place 22 first second c.args.left.now c.args.right.now few low under c.requires.before c.eight_at-first.ensures c.eight_at-second.ensures c.if-first-second.true in
+    let decided = first_decided c.args.place 22 first second c.args.left.now c.args.right.now few low under c.requires.before c.eight_at-first.ensures
+    c.eight_at-second.ensures c.if-first-second.true in
     cc
 
 pub returns-clause-same : goal.returns-clause-same

@@ -12,7 +12,8 @@ pub returns-clause-whole : goal.returns-clause-whole
 returns-clause-whole c = λ table sound complete. whole_from_scratch table sound complete
 
 pub returns-clause-alike : goal.returns-clause-alike
-returns-clause-alike c = λ first second name sound other_sound same tree other seen other_seen one all other_all. images_alike first second sound other_sound same name tree other seen other_seen one all other_all
+returns-clause-alike c = λ first second name sound other_sound same tree other seen other_seen one all other_all. images_alike first second sound other_sound
+    same name tree other seen other_seen one all other_all
 
 pub returns-clause-told : goal.returns-clause-told
 returns-clause-told c = λ first second one two schema same. told first second one two schema same

@@ -5,7 +5,8 @@ pub returns-clause-rows : goal.returns-clause-rows
 returns-clause-rows c = λ table other stored header can rows seen. same_rows table other stored header can rows seen
 
 pub returns-clause-images : goal.returns-clause-images
-returns-clause-images c = λ table other stored header can sound shape rows name tree loaded seen first second one all. same_images table other stored header can rows seen sound shape name tree loaded first second one all
+returns-clause-images c = λ table other stored header can sound shape rows name tree loaded seen first second one all. same_images table other stored header
+    can rows seen sound shape name tree loaded first second one all
 
 pub returns-clause-visited : goal.returns-clause-visited
 returns-clause-visited c = λ rows. visited rows

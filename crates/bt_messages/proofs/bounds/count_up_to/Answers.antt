@@ -6,6 +6,7 @@ use Rattle.bt_messages.proofs.bounds.count_up_to.Goals as goal
 
 pub returns : goal.returns
 returns g c =
-    let point = IsPartitionPoint-from_clause (λ m. not (is_before c.args.key.now m.0)) _ _ c.partition_point.ensures.partitioned (parted_up c.args.key.now c.args.messages.now c.requires) (λ a r q k. search rules) in
+    let point = IsPartitionPoint-from_clause (λ m. not (is_before c.args.key.now m.0)) _ _ c.partition_point.ensures.partitioned
+    (parted_up c.args.key.now c.args.messages.now c.requires) (λ a r q k. search rules) in
     let parts = up_to_parts c.args.key.now c.args.messages.now c.partition_point.result point in
     record { bound = search rules; up_to = parts.0; past = parts.1 }

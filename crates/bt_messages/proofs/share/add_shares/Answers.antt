@@ -25,7 +25,8 @@ returns-in-Some-clause-added g c =
     let within : i < length (counts ss) = omega (arith, c.in-Some.ensures.bound, length-counts ss) in
     let here = count_here ss i none n c.in-Some.ensures.bound refl in
     on_ok_weaker c.add_front.result
-    (λ gained. one_gained (counts ss) c.args.stream.now c.args.buffers.now.items i n c.index_mut.result.now c.add_front.new.self same within here c.index_mut.ensures.value c.in-Some.ensures.only gained)
+    (λ gained. one_gained (counts ss) c.args.stream.now c.args.buffers.now.items i n c.index_mut.result.now c.add_front.new.self same within here
+    c.index_mut.ensures.value c.in-Some.ensures.only gained)
     c.add_front.ensures.added
 
 pub returns-in-Some-clause-left : goal.returns-in-Some-clause-left

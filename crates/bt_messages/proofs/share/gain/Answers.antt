@@ -26,6 +26,7 @@ with_sum-requires g c =
     let merged = c.merge_front.ensures.merged in
     record {
       sorted = gained_sorted c.replace-merged.result.items c.merge_front.new.merged.items more c.into_messages.result.items merged none c.into_messages.ensures.sorted;
-      kept = subst (λ ms. IsSum (weigh_of g.V.Merge.terms) ms c.sum_with-sum.result) (sym (merged ∙ ap (λ ms. ms ++ with_messages more c.into_messages.result.items) none ∙ ap (with_messages more) older))
+      kept = subst (λ ms. IsSum (weigh_of g.V.Merge.terms) ms c.sum_with-sum.result)
+          (sym (merged ∙ ap (λ ms. ms ++ with_messages more c.into_messages.result.items) none ∙ ap (with_messages more) older))
           (c.sum_with-sum.ensures more c.requires.share.1);
     }

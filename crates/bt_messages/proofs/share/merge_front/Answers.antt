@@ -52,7 +52,8 @@ loop-preserved g c = elim c.match-pop.branch [
       let merged : c.match-pop.merged.items ≡ w.move_up_to.new.merged.items ++ (w.in-Some.key, w.in-Some.message) ∷ [] = ap (λ v. v.items) w.merged-is ∙ w.push_reserved.ensures.items in
       let wanted = c.args.merged.now.items ++ with_messages (take c.args.count c.args.stream.now) c.args.older.items in
       record {
-        wanted = front_step (w.in-Some.key, w.in-Some.message) c.pop.new.self c.loop.stream c.loop.older.items c.match-pop.older.items wanted c.loop.merged.items w.move_up_to.new.merged.items c.match-pop.merged.items
+        wanted = front_step (w.in-Some.key, w.in-Some.message) c.pop.new.self c.loop.stream c.loop.older.items c.match-pop.older.items wanted
+            c.loop.merged.items w.move_up_to.new.merged.items c.match-pop.merged.items
             c.args.count c.loop.counter c.loop-test.true e c.pop.ensures.sorted c.loop.invariant.wanted w.move_up_to.ensures.moved older merged;
         left = sym (one_taken c.loop.stream c.pop.new.self (w.in-Some.key, w.in-Some.message) c.args.count c.loop.counter c.loop-test.true e).1 ∙ c.loop.invariant.left;
         len = omega (arith, ap length e, c.loop.invariant.len);

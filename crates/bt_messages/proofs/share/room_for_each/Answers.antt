@@ -44,6 +44,8 @@ push_reserved-requires g c =
 
 pub returns : goal.returns
 returns g c = record {
-  room = subst (λ shares. HaveRoom shares c.args.buffers.now c.loop-place.rooms.items) (take_all c.loop-place.place (counts c.args.shares.now) (omega (arith, c.loop-place-test.false, length-counts c.args.shares.now))) c.loop-place.invariant.room;
+  room = subst (λ shares. HaveRoom shares c.args.buffers.now c.loop-place.rooms.items)
+      (take_all c.loop-place.place (counts c.args.shares.now) (omega (arith, c.loop-place-test.false, length-counts c.args.shares.now)))
+      c.loop-place.invariant.room;
   len = omega (arith, c.loop-place.invariant.len, c.loop-place-test.false, c.loop-place.auto.place-end);
 }

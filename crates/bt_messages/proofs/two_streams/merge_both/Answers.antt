@@ -6,7 +6,9 @@ use Rattle.bt_messages.proofs.offered.Placed.{sorted-with_messages}
 use Rattle.bt_messages.proofs.two_streams.merge_both.Goals as goal
 
 pub room_for_one-requires-clause-sorted : goal.room_for_one-requires-clause-sorted
-room_for_one-requires-clause-sorted g c = run_sorted (concatenation c.loop-runs.runs.items) c.loop-runs.run.items _ _ c.loop-runs.invariant.wanted (sorted-with_messages c.args.newer.now c.args.older.now c.len.ensures.sorted)
+room_for_one-requires-clause-sorted g c =
+    run_sorted (concatenation c.loop-runs.runs.items) c.loop-runs.run.items _ _ c.loop-runs.invariant.wanted
+    (sorted-with_messages c.args.newer.now c.args.older.now c.len.ensures.sorted)
 
 pub loop-runs-smaller-in-Some : goal.loop-runs-smaller-in-Some
 loop-runs-smaller-in-Some g c = fewer_left c.loop-runs.older c.loop-runs.newer c.pop_first.new.older c.pop_first.new.newer c.in-Some.entry c.in-Some.ensures
@@ -18,7 +20,8 @@ pub loop-runs-preserved : goal.loop-runs-preserved
 loop-runs-preserved g c = absurd (some_left c.loop-runs.older c.loop-runs.newer (c.are_both.ensures.both c.loop-runs-test.true) c.in_default.ensures)
 
 pub add_run-requires-clause-sorted : goal.add_run-requires-clause-sorted
-add_run-requires-clause-sorted g c = run_sorted (concatenation c.loop-runs.runs.items) c.loop-runs.run.items _ _ c.loop-runs.invariant.wanted (sorted-with_messages c.args.newer.now c.args.older.now c.len.ensures.sorted)
+add_run-requires-clause-sorted g c = run_sorted (concatenation c.loop-runs.runs.items) c.loop-runs.run.items _ _ c.loop-runs.invariant.wanted
+    (sorted-with_messages c.args.newer.now c.args.older.now c.len.ensures.sorted)
 
 pub overflow_sub-count : goal.overflow_sub-count
 overflow_sub-count g c =

@@ -89,12 +89,15 @@ no_fewer_from : (low : Option Key) (q : Key) (ps : List Key) → is_before_lower
 no_fewer_from None q ps from = omega arith
 no_fewer_from (Some k) q ps from = no_fewer k q ps from
 
-no_more_below : (to : Option Key) (ps : List Key) (place : ℕ) (q : Key) (at : Option Key) → slice_get ps place ≡ at → is_before_upper (option_or (where_before to at) to) q ≡ true → pivots_up_to q ps ≤ place
+no_more_below : (to : Option Key) (ps : List Key) (place : ℕ) (q : Key) (at : Option Key) → slice_get ps place ≡ at
+    → is_before_upper (option_or (where_before to at) to) q ≡ true → pivots_up_to q ps ≤ place
 no_more_below to ps place q None none below = omega (arith, none_there ps place none, few_up_to q ps)
-no_more_below to ps place q (Some p) is below = elim (is_before_upper to p) as (λ b. is_before_upper to p ≡ b → is_before_upper (option_or (cond b (Some p) None) to) q ≡ true → pivots_up_to q ps ≤ place) [
-  | true ↦ λ e before. no_more q p ps place is before
-  | false ↦ λ e before. no_more q p ps place is (under to e before)
-] refl below
+no_more_below to ps place q (Some p) is below =
+    elim (is_before_upper to p) as (λ b. is_before_upper to p ≡ b → is_before_upper (option_or (cond b (Some p) None) to) q ≡ true
+    → pivots_up_to q ps ≤ place) [
+      | true ↦ λ e before. no_more q p ps place is before
+      | false ↦ λ e before. no_more q p ps place is (under to e before)
+    ] refl below
   where
     under : (to : Option Key) → is_before_upper to p ≡ false → is_before_upper to q ≡ true → is_before q p ≡ true
     under None e before = absurd (true≢false e)

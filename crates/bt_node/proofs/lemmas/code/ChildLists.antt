@@ -1,5 +1,6 @@
 -- Children are their nodes with their pivots and their bins.
-use Rattle.std.proofs.Common.{◌≡◌, ◌≤◌, ◌<◌, ◌+◌, ◌-◌, ◌==◌, ℕ, zero, suc, Bool, true, false, List, [], ◌∷◌, ◌++◌, drop, length, map, replicate, refl, sym, ap, subst, ◌∙◌, append-nil, append_assoc, arith, length-append}
+use Rattle.std.proofs.Common.{◌≡◌, ◌≤◌, ◌<◌, ◌+◌, ◌-◌, ◌==◌, ℕ, zero, suc, Bool, true, false, List, [], ◌∷◌, ◌++◌, drop, length}
+use Rattle.std.proofs.Common.{map, replicate, refl, sym, ap, subst, ◌∙◌, append-nil, append_assoc, arith, length-append}
 use Rattle.std.proofs.lemmas.Bool.{ne_eqb}
 use Rattle.std.proofs.lemmas.List.{nil_from_length}
 use Rattle.std.specs.List.{zip}
@@ -77,7 +78,8 @@ module _ {V M : Type 0} where
   still_long ts us all bs cs ds long same nodes_are bins_are = omega (arith, long, same, ap length nodes_are, ap length bins_are, length-append ts us, length-append bs cs)
 
   -- one child more
-  pub one_more : (first : Key) (ps : List Key) (ts : List (Tree V M)) (bs : List (Messages M)) (k now : Key) (qs : List Key) (t : Tree V M) (b : Messages M) (us : List (Tree V M)) (cs : List (Messages M)) →
+  pub one_more : (first : Key) (ps : List Key) (ts : List (Tree V M)) (bs : List (Messages M)) (k now : Key) (qs : List Key) (t : Tree V M) (b
+      : Messages M) (us : List (Tree V M)) (cs : List (Messages M)) →
       length bs ≡ length ts → length ps ≡ length ts - 1 → IsNext first ps ts k now qs → us ≡ ts ++ t ∷ [] → cs ≡ bs ++ b ∷ [] →
       with_pending (zip (now ∷ qs) us) cs ≡ with_pending (zip (first ∷ ps) ts) bs ++ record { pivot = k; tree = t; pending = b } ∷ []
   one_more first ps ts bs k now qs t b us cs long fewer next nodes_are bins_are =
@@ -108,7 +110,8 @@ module _ {V M : Type 0} where
 
   -- the siblings of a child more
   pub siblings_more : (first : Key) (ps : List Key) (ts : List (Tree V M)) (bs : List (Messages M)) (k now : Key) (qs js : List Key) (xs : Siblings V M) (ls : List Key) (us all : List (Tree V M))
-      (p : Messages M) (cs : List (Messages M)) (count : ℕ) → length bs ≡ length ts → length ps ≡ length ts - 1 → IsNext first ps ts k now qs → xs ≡ with_pivots ls us → length us ≡ length ls + 1 → count ≡ length us →
+      (p : Messages M) (cs : List (Messages M)) (count : ℕ) → length bs ≡ length ts → length ps ≡ length ts - 1 → IsNext first ps ts k now qs
+      → xs ≡ with_pivots ls us → length us ≡ length ls + 1 → count ≡ length us →
       all ≡ ts ++ us → js ≡ qs ++ ls → cs ≡ bs ++ p ∷ replicate (count - 1) [] → with_pending (zip (now ∷ js) all) cs ≡ with_pending (zip (first ∷ ps) ts) bs ++ behind_pivot k p xs
   siblings_more first ps ts bs k now qs js xs ls us all p cs count long fewer next apart one counted nodes_are pivots_are bins_are =
       ap (λ ws. with_pending (zip (now ∷ js) ws) cs) nodes_are
@@ -175,7 +178,8 @@ module _ {V M : Type 0} where
     pub bins_lie : (xs : Siblings V M) → xs ≡ with_pivots ps ts → AreDivided (with_pending (zip (first ∷ ps) ts) bs) → LieBetween (pivots_of xs) bs
     bins_lie xs children h = subst (λ ys. LieBetween (pivots_of ys) bs) (sym children) (of ts bs long one h)
       where
-        of : (ts : List (Tree V M)) (bs : List (Messages M)) → length bs ≡ length ts → length ts ≡ length ps + 1 → AreDivided (with_pending (zip (first ∷ ps) ts) bs) → LieBetween (pivots_of (with_pivots ps ts)) bs
+        of : (ts : List (Tree V M)) (bs : List (Messages M)) → length bs ≡ length ts → length ts ≡ length ps + 1
+            → AreDivided (with_pending (zip (first ∷ ps) ts) bs) → LieBetween (pivots_of (with_pivots ps ts)) bs
         of [] bs long one h = absurd (omega (arith, one))
         of (t ∷ ts) [] long one h = absurd (omega (arith, long))
         of (t ∷ ts) (b ∷ bs) long one h =

@@ -71,12 +71,15 @@ pub record FirstChild {V D : Type 0} (portion : Portion V (Message V D)) : Type 
   pub merged_is : merged ≡ with_messages above own
 
 -- from what the code knows about it
-abbrev pub first_child : {V D : Type 0} {portion : Portion V (Message V D)} {low to next high : Option Key} {tree child : Tree V (Message V D)} {newer above own merged : Messages (Message V D)} {kind : NodeKind V D}
+abbrev pub first_child : {V D : Type 0} {portion : Portion V (Message V D)} {low to next high : Option Key} {tree child
+    : Tree V (Message V D)} {newer above own merged : Messages (Message V D)} {kind : NodeKind V D}
     {xs : Siblings V (Message V D)} {bins : List (Messages (Message V D))} {ts : List (Tree V (Message V D))} {ps : List Key} {place : ℕ} →
     portion_of low to tree newer ≡ portion → IsInOrder tree × IsSorted newer × AllWithin low to newer → tree ≡ tree_of kind → HasBins kind → kind ≡ Inner xs bins →
-    ts ≡ map (λ x. x.1) xs → ps ≡ pivots_of xs → 1 ≤ length xs → place ≡ first_place low ps → place ≤ length ps → next ≡ next_bound to place ps → high ≡ option_or next to → child ≡ get_or ts place child →
+    ts ≡ map (λ x. x.1) xs → ps ≡ pivots_of xs → 1 ≤ length xs → place ≡ first_place low ps → place ≤ length ps → next ≡ next_bound to place ps
+    → high ≡ option_or next to → child ≡ get_or ts place child →
     above ≡ between None high newer → own ≡ between low high (get_or bins place []) → IsSorted own → merged ≡ with_messages above own → FirstChild portion
-first_child {low = low} {to = to} {next = next} {high = high} {tree = tree} {child = child} {newer = newer} {above = above} {own = own} {merged = merged} {xs = xs} {bins = bins} {ts = ts} {ps = ps} {place = place}
+first_child {low = low} {to = to} {next = next} {high = high} {tree = tree} {child = child} {newer = newer} {above = above} {own = own} {merged = merged} {xs =
+    xs} {bins = bins} {ts = ts} {ps = ps} {place = place}
     seen meets tree_is divided kind_is items pivots some begins bound next_is high_is at above_is own_is own_sorted merged_is = record {
       low = low;
       to = to;

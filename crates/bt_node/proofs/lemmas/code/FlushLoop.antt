@@ -69,7 +69,9 @@ pub record UnderWay {V D : Type 0} (meaning : Meaning V (Message V D)) (mode : M
 module _ {V D : Type 0} {meaning : Meaning V (Message V D)} {mode : Mode} {s : Shape} {wanted done all cs : List (Child V (Message V D))} {over stream ms : Messages (Message V D)} {bound : ℕ}
     {those others : List Share} {bs marks_left : List Bool} {c : Child V (Message V D)} {share : Share} {m : Bool} (before : UnderWay meaning mode s wanted over bound done all those stream bs)
     (child : all ≡ c ∷ cs) (first : those ≡ share ∷ others) (mark : bs ≡ m ∷ marks_left) (rest_is : ms ≡ drop share.count stream) where
-  stepped : (now : List (Child V (Message V D))) → now ++ pass meaning mode s (zip (with_shares cs (counts others) ms) marks_left) ≡ done ++ pass meaning mode s (zip (with_shares all (counts those) stream) bs) →
+  stepped : (now : List (Child V (Message V D)))
+      → now ++ pass meaning mode s (zip (with_shares cs (counts others) ms) marks_left)
+      ≡ done ++ pass meaning mode s (zip (with_shares all (counts those) stream) bs) →
       UnderWay meaning mode s wanted over bound now cs others ms marks_left
   stepped now same = record {
     parts = same ∙ before.parts;
@@ -87,9 +89,11 @@ module _ {V D : Type 0} {meaning : Meaning V (Message V D)} {mode : Mode} {s : S
   -- after one that was flushed
   pub after_flushed : m ≡ true → (now : List (Child V (Message V D))) → now ≡ done ++ flushed (flush_in meaning mode s) given → UnderWay meaning mode s wanted over bound now cs others ms marks_left
   after_flushed on now pushed =
-      stepped now (one_flushed meaning mode s c cs all share.count (counts others) (counts those) ms stream marks_left child (ap counts first) rest_is done now bs (mark ∙ ap (λ b. b ∷ marks_left) on) pushed)
+      stepped now (one_flushed meaning mode s c cs all share.count (counts others) (counts those) ms stream marks_left child (ap counts first) rest_is done now
+      bs (mark ∙ ap (λ b. b ∷ marks_left) on) pushed)
 
   -- after one that took its share
   pub after_kept : m ≡ false → (now : List (Child V (Message V D))) → now ≡ done ++ given ∷ [] → UnderWay meaning mode s wanted over bound now cs others ms marks_left
   after_kept off now pushed =
-      stepped now (one_kept meaning mode s c cs all share.count (counts others) (counts those) ms stream marks_left child (ap counts first) rest_is done now bs (mark ∙ ap (λ b. b ∷ marks_left) off) pushed)
+      stepped now (one_kept meaning mode s c cs all share.count (counts others) (counts those) ms stream marks_left child (ap counts first) rest_is done now bs
+      (mark ∙ ap (λ b. b ∷ marks_left) off) pushed)

@@ -90,7 +90,8 @@ module _ {V D : Type 0} where
   more_leaves made k part left e =
       append_assoc made ((k, leaf part) ∷ []) (map (as_leaf (Message V D)) left) ∙ ap (λ j. made ++ (j, leaf part) ∷ map (as_leaf (Message V D)) left) e
 
-  pub leaves_done : (s : Shape) (rows : Rows V) (parts : List (Rows V)) (first : Rows V) (rest left : List (Rows V)) (start made : Siblings V (Message V D)) → parts ≡ deal s.leaf rows → parts ≡ first ∷ rest →
+  pub leaves_done : (s : Shape) (rows : Rows V) (parts : List (Rows V)) (first : Rows V) (rest left : List (Rows V)) (start made : Siblings V (Message V D))
+      → parts ≡ deal s.leaf rows → parts ≡ first ∷ rest →
       start ≡ ([], leaf first) ∷ [] → made ++ map (as_leaf (Message V D)) left ≡ start ++ map (as_leaf (Message V D)) rest → left ≡ [] → made ≡ leaves s rows
   leaves_done s rows parts first rest left start made dealt split begun kept empty =
       sym (append-nil made) ∙ ap (λ ps. made ++ map (as_leaf (Message V D)) ps) (sym empty) ∙ kept

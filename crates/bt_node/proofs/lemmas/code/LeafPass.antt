@@ -114,8 +114,10 @@ module _ {V M : Type 0} (effect : Option V → M → Option V) where
       ∙ ap (λ b. row_at m.0 (value_after effect m.0 ms (cond b (effect old m.1) old)) ++ rows_after effect (messages_past m.0 (m ∷ ms)) (with_value m.0 None later)) (ties m.0 m.0 refl)
       ∙ ap (λ b. row_at m.0 (value_after effect m.0 ms (effect old m.1)) ++ rows_after effect (cond b (m ∷ ms) (messages_past m.0 ms)) (with_value m.0 None later)) (not_before_itself m.0))
 
-  module _ {S : Type 0} (visited : S → Key × V → S) (m : Key × M) (ms messages : Messages M) (rs earlier : Rows V) (start first_shown wanted : S) (here : messages ≡ m ∷ ms) (sorted : IsSorted messages)
-      (rising : is_sorted key_cmp rs ≡ true) (so_far : wanted ≡ fold visited start (rows_after effect messages rs)) (at_first : earlier ≡ before m.0 rs) (show_first : first_shown ≡ fold visited start earlier) where
+  module _ {S : Type 0} (visited : S → Key × V → S) (m : Key × M) (ms messages : Messages M) (rs earlier : Rows V) (start first_shown wanted : S) (here
+      : messages ≡ m ∷ ms) (sorted : IsSorted messages)
+      (rising : is_sorted key_cmp rs ≡ true) (so_far : wanted ≡ fold visited start (rows_after effect messages rs)) (at_first
+      : earlier ≡ before m.0 rs) (show_first : first_shown ≡ fold visited start earlier) where
     -- the rows after the messages, from the key of the first message on
     abbrev from_first : Rows V
     from_first = row_at m.0 (value_after effect m.0 ms (effect (find key_cmp m.0 (from m.0 rs)) m.1)) ++ rows_after effect (messages_past m.0 ms) (with_value m.0 None (from m.0 rs))
@@ -144,7 +146,8 @@ module _ {V M : Type 0} (effect : Option V → M → Option V) where
         let others_is : others ≡ with_value m.0 None (from m.0 rs) = is_others ∙ ap (with_value m.0 None) at_last in
         let rest = rows_after effect left_messages others in
         past_first
-        ∙ ap (λ zs. fold visited first_shown (row_at m.0 (value_after effect m.0 ms (effect (find key_cmp m.0 (from m.0 rs)) m.1)) ++ rows_after effect zs (with_value m.0 None (from m.0 rs)))) (sym is_left)
+        ∙ ap (λ zs. fold visited first_shown (row_at m.0 (value_after effect m.0 ms (effect (find key_cmp m.0 (from m.0 rs)) m.1)) ++ rows_after effect zs
+        (with_value m.0 None (from m.0 rs)))) (sym is_left)
         ∙ ap (λ zs. fold visited first_shown (row_at m.0 (value_after effect m.0 ms (effect (find key_cmp m.0 (from m.0 rs)) m.1)) ++ rows_after effect left_messages zs)) (sym others_is)
         ∙ ap (λ v. fold visited first_shown (row_at m.0 v ++ rest)) (sym value_is)
         ∙ fold-append visited first_shown (row_at m.0 value) rest

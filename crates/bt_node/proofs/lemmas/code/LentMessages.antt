@@ -1,5 +1,6 @@
 -- Borrowed messages, taken off one by one and merged with others.
-use Rattle.std.proofs.Common.{◌≡◌, ◌<◌, ◌≤◌, ◌+◌, ◌-◌, ℕ, zero, suc, Bool, true, false, not, cond, List, [], ◌∷◌, ◌++◌, append_assoc, append-nil, arith, drop, get_or, length, map, refl, sym, ap, subst, take, ◌∙◌, true≢false}
+use Rattle.std.proofs.Common.{◌≡◌, ◌<◌, ◌≤◌, ◌+◌, ◌-◌, ℕ, zero, suc, Bool, true, false, not, cond, List, [], ◌∷◌, ◌++◌, append_assoc}
+use Rattle.std.proofs.Common.{append-nil, arith, drop, get_or, length, map, refl, sym, ap, subst, take, ◌∙◌, true≢false}
 use Rattle.std.proofs.lemmas.List.{at_drop_more, map-append, take_rest}
 use Rattle.std.specs.List.Sorted.{IsPartitionedBy, IsPartitionPoint}
 use Rattle.std.specs.Cmp.{tied_itself}
@@ -100,10 +101,11 @@ module _ {M : Type 0} where
   -- the messages past a key are among those from it on
   pub past_from : (k : Key) (ms : Messages M) → IsSorted ms → messages_past k (from k ms) ≡ messages_past k ms
   past_from k [] sorted = refl
-  past_from k (m ∷ ms) sorted = elim (is_before m.0 k) as (λ b. is_before m.0 k ≡ b → messages_past k (cond (not b) (m ∷ from k ms) (from k ms)) ≡ cond (is_before k m.0) (m ∷ ms) (messages_past k ms)) [
-    | true ↦ λ e. past_from k ms sorted.1 ∙ sym (ap (λ b. cond b (m ∷ ms) (messages_past k ms)) (not_after m.0 k e))
-    | false ↦ λ e. ap (λ zs. messages_past k (m ∷ zs)) (none_before_all k ms (from_earlier k m.0 ms e sorted.0)).1
-  ] refl
+  past_from k (m ∷ ms) sorted = elim (is_before m.0 k) as (λ b. is_before m.0 k ≡ b
+      → messages_past k (cond (not b) (m ∷ from k ms) (from k ms)) ≡ cond (is_before k m.0) (m ∷ ms) (messages_past k ms)) [
+        | true ↦ λ e. past_from k ms sorted.1 ∙ sym (ap (λ b. cond b (m ∷ ms) (messages_past k ms)) (not_after m.0 k e))
+        | false ↦ λ e. ap (λ zs. messages_past k (m ∷ zs)) (none_before_all k ms (from_earlier k m.0 ms e sorted.0)).1
+      ] refl
 
   -- the newer messages before the first older one, that one, and then the others
   merged_at : (o : Key × M) (os newer : Messages M) → IsSorted newer → with_messages newer (o ∷ os) ≡ before o.0 newer ++ o ∷ with_messages (from o.0 newer) os
@@ -190,7 +192,8 @@ module _ {R M : Type 0} (seen : R → Key × M) where
     pub halves : (rs : List R) → IsSorted (map seen rs) → IsPartitionedBy (λ r. is_before (seen r).0 k) rs
     halves [] sorted i j d up within e = absurd (omega (arith, within))
     halves (r ∷ rs) sorted zero zero d up within e = e
-    halves (r ∷ rs) sorted zero (suc j) d up within e = earlier_too (seen r).0 (seen (get_or rs j d)).0 (is_before (seen r).0 k) refl (none_earlier (seen r).0 rs j d sorted.0 (omega (arith, within))) e
+    halves (r ∷ rs) sorted zero (suc j) d up within e =
+        earlier_too (seen r).0 (seen (get_or rs j d)).0 (is_before (seen r).0 k) refl (none_earlier (seen r).0 rs j d sorted.0 (omega (arith, within))) e
     halves (r ∷ rs) sorted (suc i) zero d up within e = absurd (omega (arith, up))
     halves (r ∷ rs) sorted (suc i) (suc j) d up within e = halves rs sorted.1 i j d (omega (arith, up)) (omega (arith, within)) e
 
@@ -208,5 +211,6 @@ module _ {R M : Type 0} (seen : R → Key × M) where
         from_point rs n ((λ j d up within. point.0 (suc j) d (omega arith) (omega (arith, within))), (λ j d up within. point.1 (suc j) d (omega (arith, up)) (omega (arith, within))))
         ∙ sym (ap (λ b. cond (not b) (seen r ∷ from k (map seen rs)) (from k (map seen rs))) (point.0 0 r (omega arith) (omega arith)))
 
-    pub slice_from : (rs : List R) (n : ℕ) → IsPartitionPoint (λ r. is_before (seen r).0 k ≡ true) (λ r. is_before (seen r).0 k ≡ false) rs n → map seen (take (length rs - n) (drop n rs)) ≡ from k (map seen rs)
+    pub slice_from : (rs : List R) (n : ℕ) → IsPartitionPoint (λ r. is_before (seen r).0 k ≡ true) (λ r. is_before (seen r).0 k ≡ false) rs n
+        → map seen (take (length rs - n) (drop n rs)) ≡ from k (map seen rs)
     slice_from rs n point = ap (map seen) (take_rest rs n) ∙ from_point rs n point

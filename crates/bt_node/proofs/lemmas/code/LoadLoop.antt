@@ -150,7 +150,8 @@ module _ {V D : Type 0} {weigh : Key × Message V D → ℕ} {s : Shape} {xs : S
   after_joined made is = ap concatenation (is ∙ bins_after) ∙ concatenation-added (pivots_of xs) (take count stream) bins come.lie
 
   -- the load of each child then, and their total
-  pub loads_after : (made : List ℕ) → made ≡ map (load weigh measure) (each_with (parted (counts shares) stream) bins) → made ≡ of_children weigh s (shared xs (with_messages (take count stream) (concatenation bins)))
+  pub loads_after : (made : List ℕ) → made ≡ map (load weigh measure) (each_with (parted (counts shares) stream) bins)
+      → made ≡ of_children weigh s (shared xs (with_messages (take count stream) (concatenation bins)))
   loads_after made is =
       is ∙ ap (λ m. map (load weigh m) (each_with (parted (counts shares) stream) bins)) come.measured
       ∙ loads-are weigh s xs bins (counts shares) stream (take count stream) come.lie at_pivots bin_each (omega (arith, length-map shares (λ (s : Share). s.count), share_each))
@@ -158,16 +159,19 @@ module _ {V D : Type 0} {weigh : Key × Message V D → ℕ} {s : Shape} {xs : S
   pub loads_total : total (of_children weigh s (shared xs (with_messages (take count stream) (concatenation bins)))) ≡ load weigh s.measure (with_messages (take count stream) (concatenation bins))
   loads_total =
       total-loads weigh s (shared xs (with_messages (take count stream) (concatenation bins)))
-      ∙ ap (load weigh s.measure) (all_pending-shared xs (with_messages (take count stream) (concatenation bins)) come.some (sorted-with_messages (take count stream) (concatenation bins) (concatenation_sorted (pivots_of xs) bins come.lie)))
+      ∙ ap (load weigh s.measure) (all_pending-shared xs (with_messages (take count stream) (concatenation bins)) come.some
+      (sorted-with_messages (take count stream) (concatenation bins) (concatenation_sorted (pivots_of xs) bins come.lie)))
 
   -- the code's test whether there is room for all
   pub room_test : (made : List ℕ) (room : ℕ) (test : Bool) → made ≡ map (load weigh measure) (each_with (parted (counts shares) stream) bins) → room ≡ s.buffer → test ≡ nat_le (total made) room →
       nat_le (load weigh s.measure (with_messages (take count stream) (concatenation bins))) s.buffer ≡ test
   room_test made room test is same tested =
-      sym (tested ∙ ap (λ ns. nat_le (total ns) room) (loads_after made is) ∙ ap (λ n. nat_le n room) loads_total ∙ ap (nat_le (load weigh s.measure (with_messages (take count stream) (concatenation bins)))) same)
+      sym (tested ∙ ap (λ ns. nat_le (total ns) room) (loads_after made is) ∙ ap (λ n. nat_le n room) loads_total
+      ∙ ap (nat_le (load weigh s.measure (with_messages (take count stream) (concatenation bins)))) same)
 
   -- the code's marks of the children
-  pub marks_planned : (mode : Mode) (made : List ℕ) (room : ℕ) (marks : List Bool) → mode ≡ Absorb → made ≡ map (load weigh measure) (each_with (parted (counts shares) stream) bins) → room ≡ s.buffer →
+  pub marks_planned : (mode : Mode) (made : List ℕ) (room : ℕ) (marks : List Bool) → mode ≡ Absorb
+      → made ≡ map (load weigh measure) (each_with (parted (counts shares) stream) bins) → room ≡ s.buffer →
       marks ≡ flush_marks Absorb room made → marks ≡ flush_marks mode s.buffer (of_children weigh s (shared xs (with_messages (take count stream) (concatenation bins))))
   marks_planned mode made room marks absorbs is same marked =
       marked ∙ ap (λ n. flush_marks Absorb n made) same ∙ ap (flush_marks Absorb s.buffer) (loads_after made is)

@@ -46,8 +46,10 @@ module _ {V D : Type 0} (effect : Option V → Message V D → Option V) where
   child_at k (x ∷ xs) d some = one_child k x xs d
 
   -- the value at a key in an inner node, from the value in that child
-  pub along : (k : Key) (xs : Siblings V (Message V D)) (buffer : Messages (Message V D)) (node : Tree V (Message V D)) (ts : List (Tree V (Message V D))) (ps : List Key) (place : ℕ) (child : Tree V (Message V D)) (old : Option V) →
-      node ≡ inner (nodes xs) buffer → ts ≡ map (λ y. y.1) xs → ps ≡ map (λ y. y.0) (drop 1 xs) → 1 ≤ length xs → place ≡ pivots_up_to k ps → child ≡ get_or ts place child → old ≡ tree_value effect k child →
+  pub along : (k : Key) (xs : Siblings V (Message V D)) (buffer : Messages (Message V D)) (node : Tree V (Message V D)) (ts : List (Tree V (Message V D))) (ps
+      : List Key) (place : ℕ) (child : Tree V (Message V D)) (old : Option V) →
+      node ≡ inner (nodes xs) buffer → ts ≡ map (λ y. y.1) xs → ps ≡ map (λ y. y.0) (drop 1 xs) → 1 ≤ length xs → place ≡ pivots_up_to k ps
+      → child ≡ get_or ts place child → old ≡ tree_value effect k child →
       value_after effect k buffer old ≡ tree_value effect k node
   along k xs buffer node ts ps place child old here items pivots some is at below =
       ap (value_after effect k buffer)

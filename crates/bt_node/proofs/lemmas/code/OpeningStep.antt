@@ -29,7 +29,8 @@ use Rattle.bt_node.specs.inside.Flushing.{AreReady, IsReady, with_shares}
 use Rattle.bt_node.specs.Passes.{after_pass}
 use Rattle.bt_node.proofs.lemmas.deals.Parts.{NonEmpty}
 use Rattle.bt_node.proofs.lemmas.flushes.Children.{ChildrenLie}
-use Rattle.bt_node.proofs.lemmas.flushes.Divisions.{bins-length, divided-lie, divided-none, joined-pending, length-with_pending, shares-length, stripped-with_pending, with_pending-ready, with_shares-shared}
+use Rattle.bt_node.proofs.lemmas.flushes.Divisions.{bins-length, divided-lie, divided-none, joined-pending, length-with_pending, shares-length}
+use Rattle.bt_node.proofs.lemmas.flushes.Divisions.{stripped-with_pending, with_pending-ready, with_shares-shared}
 use Rattle.bt_node.proofs.lemmas.flushes.Drains.{all_pending-flushed}
 use Rattle.bt_node.proofs.lemmas.flushes.EmptyPackets.{still-here}
 use Rattle.bt_node.proofs.lemmas.flushes.Groups.{children-nodes, led-full, some_length, stripped}
@@ -54,7 +55,8 @@ pub among : {V M : Type 0} (c : Child V M) (cs ds : List (Child V M)) (bound : �
 among c cs ds bound e h = let all = ap highest e in (omega (arith, all, h), omega (arith, all, h))
 
 -- an inner node that takes the first messages of a stream, and a shape whose nodes have room for two children and for a row
-pub record Enters {V D : Type 0} (mode : Mode) (s : Shape) (xs : Siblings V (Message V D)) (bins : List (Messages (Message V D))) (ms : Messages (Message V D)) (count : ℕ) (node : Tree V (Message V D)) : Type 0 where
+pub record Enters {V D : Type 0} (mode : Mode) (s : Shape) (xs : Siblings V (Message V D)) (bins : List (Messages (Message V D))) (ms
+    : Messages (Message V D)) (count : ℕ) (node : Tree V (Message V D)) : Type 0 where
   pub fanout : 2 ≤ s.fanout
   pub leaf : 1 ≤ s.leaf
   pub here : node ≡ inner (nodes xs) (concatenation bins)
@@ -90,10 +92,12 @@ module _ {V D : Type 0} (meaning : Meaning V (Message V D)) {mode : Mode} {s : S
       let ns = nodes xs in
       let same = children-nodes xs in
       ap (λ ys. grouped s (flushed_in meaning.weigh s Absorb flush (shared ys after))) (sym same)
-      ∙ still-here meaning.weigh s ns after (subst IsLed (sym same) kept.led) after-sorted (omega (arith, entered.fanout)) (subst (λ ys. length ys ≤ s.fanout) (sym same) kept.few) (leb-true _ _ kept.room) flush
+      ∙ still-here meaning.weigh s ns after (subst IsLed (sym same) kept.led) after-sorted (omega (arith, entered.fanout))
+      (subst (λ ys. length ys ≤ s.fanout) (sym same) kept.few) (leb-true _ _ kept.room) flush
       ∙ ap (λ u. ([], u) ∷ []) (sym kept.node)
 
-  pub stays_here : (left : Messages (Message V D)) {step : Step V D} (t : Tree V (Message V D)) → step ≡ Stays t → IsStep meaning.weigh mode s xs bins ms count left step → ([], t) ∷ [] ≡ f node (take count ms)
+  pub stays_here : (left : Messages (Message V D)) {step : Step V D} (t : Tree V (Message V D)) → step ≡ Stays t
+      → IsStep meaning.weigh mode s xs bins ms count left step → ([], t) ∷ [] ≡ f node (take count ms)
   stays_here left t is done = sym (becomes ∙ still mode t f (subst (IsStep meaning.weigh mode s xs bins ms count left) is done).1)
 
   -- ---- it is opened
@@ -181,7 +185,9 @@ module _ {V D : Type 0} (meaning : Meaning V (Message V D)) {mode : Mode} {s : S
               let keeps : Keeps meaning.effect side.0 f =
               λ low high t p lies within. flush-keeps meaning mode s (omega (arith, entered.leaf)) (omega (arith, entered.fanout)) side.0 low high t p lies within in
               subst AreDivided (sym passed_are)
-              (divided-lie side.0 None None (pass meaning mode s (slots meaning.weigh s mode cs)) (after_pass-lie meaning.effect side.0 f keeps None None (slots meaning.weigh s mode cs) (subst (ChildrenLie side.0 None None) (sym (names-slots meaning.weigh s mode cs)) placed)))
+              (divided-lie side.0 None None (pass meaning mode s (slots meaning.weigh s mode cs))
+              (after_pass-lie meaning.effect side.0 f keeps None None (slots meaning.weigh s mode cs)
+              (subst (ChildrenLie side.0 None None) (sym (names-slots meaning.weigh s mode cs)) placed)))
 
       pub grouped_anew : grouped s made ≡ f node (take count ms)
       grouped_anew = ap (grouped s) flushed_are ∙ sym becomes

@@ -147,10 +147,12 @@ module _ {V D : Type 0} (effect : Option V → Message V D → Option V) (newer 
   values_past k [] olds rising = refl
   values_past k (j ∷ ks) [] rising = refl
   values_past k (j ∷ ks) (old ∷ olds) rising =
-      ap (λ v. v ∷ values_after effect (messages_past k newer) ks olds) (value_past effect k j newer old rising.0) ∙ ap (λ vs. value_after effect j newer old ∷ vs) (values_past k ks olds (rises_past k j ks rising))
+      ap (λ v. v ∷ values_after effect (messages_past k newer) ks olds) (value_past effect k j newer old rising.0)
+      ∙ ap (λ vs. value_after effect j newer old ∷ vs) (values_past k ks olds (rises_past k j ks rising))
 
   -- one more key has its value, and the messages up to it are taken off
-  pub value_more : {K H : Type 0} (key : K → Key) (value : H → Option V) (rest others : List K) (k : K) (olds later : List H) (old : H) (now : Option V) (left : Messages (Message V D)) (values more wanted : List (Option V)) →
+  pub value_more : {K H : Type 0} (key : K → Key) (value : H → Option V) (rest others : List K) (k : K) (olds later : List H) (old : H) (now : Option V) (left
+      : Messages (Message V D)) (values more wanted : List (Option V)) →
       rest ≡ k ∷ others → olds ≡ old ∷ later → now ≡ value_after effect (key k) newer (value old) → left ≡ messages_past (key k) newer → more ≡ values ++ now ∷ [] → AreRising (map key rest) →
       values ++ values_after effect newer (map key rest) (map value olds) ≡ wanted → more ++ values_after effect left (map key others) (map value later) ≡ wanted
   value_more key value rest others k olds later old now left values more wanted rest_is olds_is now_is left_is more_is rising so_far =

@@ -1,5 +1,6 @@
 -- One pass that applies messages to rows.
-use Rattle.std.proofs.Common.{◌≡◌, ◌∙◌, ◌-◌, ◌≤◌, ℕ, zero, suc, Bool, true, false, not, ◌&&◌, cond, T, List, [], ◌∷◌, ◌++◌, append_assoc, length, get_or, take, drop, append-nil, refl, sym, ap, subst, true≢false, arith, option_to_list, option_map}
+use Rattle.std.proofs.Common.{◌≡◌, ◌∙◌, ◌-◌, ◌≤◌, ℕ, zero, suc, Bool, true, false, not, ◌&&◌, cond, T, List, [], ◌∷◌, ◌++◌, append_assoc, length}
+use Rattle.std.proofs.Common.{get_or, take, drop, append-nil, refl, sym, ap, subst, true≢false, arith, option_to_list, option_map}
 use Rattle.std.proofs.lemmas.Bool.{and_parts}
 use Rattle.std.proofs.lemmas.List.{take_rest}
 use Rattle.std.specs.Ordering.{is_eq, is_lt, ordering_reverse}
@@ -224,7 +225,8 @@ module _ {V M : Type 0} (effect : Option V → M → Option V) where
   effect_is : (m : Key × M) (rs later : Rows V) (old new : Option V) → later ≡ from m.0 rs → old ≡ find key_cmp m.0 later → new ≡ effect old m.1 → new ≡ effect (find key_cmp m.0 (from m.0 rs)) m.1
   effect_is m rs later old new l f e = e ∙ ap (λ o. effect o m.1) (f ∙ ap (find key_cmp m.0) l)
 
-  with_row : (m : Key × M) (rs later others changed : Rows V) (old new : Option V) (v : V) → is_sorted key_cmp rs ≡ true → later ≡ from m.0 rs → old ≡ find key_cmp m.0 later → new ≡ effect old m.1 → new ≡ Some v →
+  with_row : (m : Key × M) (rs later others changed : Rows V) (old new : Option V) (v : V) → is_sorted key_cmp rs ≡ true → later ≡ from m.0 rs
+      → old ≡ find key_cmp m.0 later → new ≡ effect old m.1 → new ≡ Some v →
       others ≡ with_value m.0 None later → changed ≡ (m.0, v) ∷ others → changed ≡ changed_by m rs
   with_row m rs later others changed old new v s l f e is o c =
       c ∙ ap (λ zs. (m.0, v) ∷ zs) (o ∙ ap (with_value m.0 None) l) ∙ put_first m.0 v (from m.0 rs) (sorted_from m.0 rs s) (none_before_from m.0 rs)

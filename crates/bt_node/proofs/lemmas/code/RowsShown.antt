@@ -32,7 +32,8 @@ module _ {V D : Type 0} (effect : Option V → Message V D → Option V) where
   after-sorted ms t order = rows_after-sorted effect ms (holds effect t) (held-sorted t order)
 
   -- at a leaf: messages between the bounds change only rows between them
-  pub leaf_part : (from to : Option Key) (ms : Messages (Message V D)) (t : Tree V (Message V D)) (rows part : Rows V) → AllWithin from to ms → IsInOrder t → holds effect t ≡ rows → part ≡ between from to rows →
+  pub leaf_part : (from to : Option Key) (ms : Messages (Message V D)) (t : Tree V (Message V D)) (rows part : Rows V) → AllWithin from to ms → IsInOrder t
+      → holds effect t ≡ rows → part ≡ between from to rows →
       rows_after effect ms part ≡ between from to (rows_after effect ms (holds effect t))
   leaf_part from to ms t rows part within order same is =
       ap (rows_after effect ms) (is ∙ ap (between from to) (sym same))
@@ -60,7 +61,8 @@ module _ {V D : Type 0} (effect : Option V → Message V D → Option V) where
           ∙ ap (λ ys. find key_cmp q (all_hold effect ys)) (children-nodes xs)
 
       module _ (low high : Option Key) (newer above own merged : Messages (Message V D)) (belongs : (q : Key) → is_between low high q ≡ true → place ≡ pivots_up_to q ps)
-          (own_does : (q : Key) → is_between low high q ≡ true → (old : Option V) → value_after effect q own old ≡ value_after effect q buffer old) (own_sorted : IsSorted own) (above_is : above ≡ between None high newer) (merged_is : merged ≡ with_messages above own) where
+          (own_does : (q : Key) → is_between low high q ≡ true → (old : Option V) → value_after effect q own old ≡ value_after effect q buffer old) (own_sorted
+          : IsSorted own) (above_is : above ≡ between None high newer) (merged_is : merged ≡ with_messages above own) where
         -- at a key between its bounds, a child after the messages to it has the same value as the node after the newer messages
         pub child_found : (q : Key) → is_between low high q ≡ true → find key_cmp q (rows_after effect merged (holds effect child)) ≡ find key_cmp q (rows_after effect newer (holds effect t))
         child_found q inside =
@@ -93,7 +95,8 @@ module _ {V D : Type 0} (effect : Option V → Message V D → Option V) where
               ∙ sym (find-rows effect q newer (holds effect t))
 
           pub next_rows : is_before_lower low p ≡ false → is_before_upper to p ≡ true →
-              between low high (rows_after effect merged (holds effect child)) ++ between (Some p) to (rows_after effect rest (holds effect t)) ≡ between low to (rows_after effect newer (holds effect t))
+              between low high (rows_after effect merged (holds effect child)) ++ between (Some p) to (rows_after effect rest (holds effect t))
+              ≡ between low to (rows_after effect newer (holds effect t))
           next_rows from_low below_to =
               let all = rows_after effect newer (holds effect t) in
               let sorted = after-sorted newer t order in
@@ -112,6 +115,7 @@ pub copied_all : {R : Type 0} (start rows : List R) → start ≡ [] → fold (�
 copied_all start rows none = copied_after start rows ∙ ap (λ zs. zs ++ rows) none
 
 -- the rows of a tree in order between bounds are sorted
-pub held_between-sorted : {V D : Type 0} (effect : Option V → Message V D → Option V) (from to : Option Key) (t : Tree V (Message V D)) (rows : Rows V) → IsInOrder t → rows ≡ between from to (holds effect t) →
+pub held_between-sorted : {V D : Type 0} (effect : Option V → Message V D → Option V) (from to : Option Key) (t : Tree V (Message V D)) (rows : Rows V)
+    → IsInOrder t → rows ≡ between from to (holds effect t) →
     is_sorted key_cmp rows ≡ true
 held_between-sorted effect from to t rows order is = ap (is_sorted key_cmp) is ∙ true_t _ (between-sorted from to (holds effect t) (held-sorted effect t order))

@@ -86,7 +86,8 @@ read_at f (x ∷ xs) ys (suc i) y e within is =
     read_at f xs (map f xs) i y refl (omega (arith, within, ap length e)) (is ∙ ap (λ zs. get_or zs (suc i) y) e)
 
 -- a pivot read at a place
-pub pivot_at : {X : Type 0} (xs : List (Key × X)) (ks : List Key) (i : ℕ) (k : Key) → ks ≡ map (λ x. x.0) (drop 1 xs) → 0 < i → i < length xs → k ≡ get_or ks (i - 1) k → option_map (λ x. x.0) (slice_get xs i) ≡ Some k
+pub pivot_at : {X : Type 0} (xs : List (Key × X)) (ks : List Key) (i : ℕ) (k : Key) → ks ≡ map (λ x. x.0) (drop 1 xs) → 0 < i → i < length xs
+    → k ≡ get_or ks (i - 1) k → option_map (λ x. x.0) (slice_get xs i) ≡ Some k
 pivot_at xs ks zero k e some within is = absurd (omega (arith, some))
 pivot_at [] ks (suc i) k e some within is = absurd (omega (arith, within))
 pivot_at (x ∷ xs) ks (suc i) k e some within is =

@@ -54,14 +54,17 @@ or_nothing None = refl
 or_nothing (Some k) = refl
 
 -- keys from one that belongs to a child up to the next pivot belong to it
-belong : (first : Key) (ps : List Key) (place : ℕ) (next : Option Key) → place ≡ pivots_up_to first ps → next ≡ slice_get ps place → (ks : List Key) → AreBetween (Some first) next ks → AllBelong ps place ks
+belong : (first : Key) (ps : List Key) (place : ℕ) (next : Option Key) → place ≡ pivots_up_to first ps → next ≡ slice_get ps place → (ks : List Key)
+    → AreBetween (Some first) next ks → AllBelong ps place ks
 belong first ps place next here is [] h = tt
 belong first ps place next here is (k ∷ ks) h =
     (belongs (Some first) None next next ps place k here (is ∙ unlimited (slice_get ps place)) (or_nothing next) h.0, belong first ps place next here is ks h.1)
 
 -- the first key with those after it that belong to its child
-pub run_belongs : {K : Type 0} (key : K → Key) (first : K) (keys others own : List K) (ps : List Key) (place c count : ℕ) (next : Option Key) → 0 < length keys → first ≡ get_or keys 0 first → others ≡ drop 1 keys →
-    place ≡ pivots_up_to (key first) ps → next ≡ slice_get ps place → c ≡ count_between (Some (key first)) next (map key others) → count ≡ c + 1 → own ≡ take count keys → AllBelong ps place (map key own)
+pub run_belongs : {K : Type 0} (key : K → Key) (first : K) (keys others own : List K) (ps : List Key) (place c count : ℕ) (next : Option Key) → 0 < length keys
+    → first ≡ get_or keys 0 first → others ≡ drop 1 keys →
+    place ≡ pivots_up_to (key first) ps → next ≡ slice_get ps place → c ≡ count_between (Some (key first)) next (map key others) → count ≡ c + 1
+    → own ≡ take count keys → AllBelong ps place (map key own)
 run_belongs key first [] others own ps place c count next some is behind here next_is c_is count_is own_is = absurd (omega (arith, some))
 run_belongs key first (k ∷ ks) others own ps place c count next some is behind here next_is c_is count_is own_is =
     let more : count ≡ suc c = omega (arith, count_is) in
@@ -94,11 +97,13 @@ module _ {V D : Type 0} (effect : Option V → Message V D → Option V) (xs : S
       new_is ∙ ap (λ b. values ++ values_after effect (get_or bins place []) (map key own) b) below_is ∙ ap (λ vs. values ++ vs) (values_above (map key own) all) in
       ap (λ vs. vs ++ tree_values effect (map key later) node) here_are
       ∙ append_assoc values (tree_values effect (map key own) node) (tree_values effect (map key later) node)
-      ∙ ap (λ vs. values ++ vs) (sym (map-append (λ k. tree_value effect k node) (map key own) (map key later)) ∙ ap (λ ks. tree_values effect ks node) (sym (map-append key own later) ∙ ap (map key) parts))
+      ∙ ap (λ vs. values ++ vs) (sym (map-append (λ k. tree_value effect k node) (map key own) (map key later))
+      ∙ ap (λ ks. tree_values effect ks node) (sym (map-append key own later) ∙ ap (map key) parts))
       ∙ so_far
 
 -- one more value, and one key fewer
-pub one_after : {V D K H : Type 0} (effect : Option V → Message V D → Option V) (bin ms : Messages (Message V D)) (key : K → Key) (value : H → Option V) (rest others : List K) (k : K) (olds : List H) (old now : H) (values new : List H) (wanted : List (Option V)) →
+pub one_after : {V D K H : Type 0} (effect : Option V → Message V D → Option V) (bin ms : Messages (Message V D)) (key : K → Key) (value : H
+    → Option V) (rest others : List K) (k : K) (olds : List H) (old now : H) (values new : List H) (wanted : List (Option V)) →
     rest ≡ k ∷ others → ms ≡ from (key k) bin → value now ≡ value_after effect (key k) ms (value old) → new ≡ values ++ now ∷ [] →
     wanted ≡ map value values ++ values_after effect bin (map key rest) (map value (old ∷ olds)) → wanted ≡ map value new ++ values_after effect bin (map key others) (map value olds)
 one_after effect bin ms key value rest others k olds old now values new wanted is from_key is_now more so_far =
@@ -118,16 +123,19 @@ pub none_pending : {V D K H : Type 0} (effect : Option V → Message V D → Opt
     bin ≡ [] → length below ≡ length ks → new ≡ values ++ below → map value new ≡ map value values ++ values_after effect bin (map key ks) (map value below)
 none_pending effect key value bin ks values new below none same is =
     ap (map value) is ∙ map-append value values below
-    ∙ ap (λ vs. map value values ++ vs) (sym (ap (λ b. values_after effect b (map key ks) (map value below)) none ∙ unchanged effect (map key ks) (map value below) (length-map below value ∙ same ∙ sym (length-map ks key))))
+    ∙ ap (λ vs. map value values ++ vs) (sym (ap (λ b. values_after effect b (map key ks) (map value below)) none
+    ∙ unchanged effect (map key ks) (map value below) (length-map below value ∙ same ∙ sym (length-map ks key))))
 
 -- there are as many values as keys
-pub as_many : {V D K H : Type 0} (effect : Option V → Message V D → Option V) (key : K → Key) (value : H → Option V) (ks : List K) (below : List H) (t : Tree V (Message V D)) → map value below ≡ tree_values effect (map key ks) t →
+pub as_many : {V D K H : Type 0} (effect : Option V → Message V D → Option V) (key : K → Key) (value : H
+    → Option V) (ks : List K) (below : List H) (t : Tree V (Message V D)) → map value below ≡ tree_values effect (map key ks) t →
     length below ≡ length ks
 as_many effect key value ks below t is =
     sym (length-map below value) ∙ ap length is ∙ length-map (map key ks) (λ k. tree_value effect k t) ∙ length-map ks key
 
 -- no value is left
-pub none_after : {V D : Type 0} (effect : Option V → Message V D → Option V) (bin : Messages (Message V D)) (ks : List Key) (values wanted : List (Option V)) → wanted ≡ values ++ values_after effect bin ks [] → values ≡ wanted
+pub none_after : {V D : Type 0} (effect : Option V → Message V D → Option V) (bin : Messages (Message V D)) (ks : List Key) (values wanted : List (Option V))
+    → wanted ≡ values ++ values_after effect bin ks [] → values ≡ wanted
 none_after effect bin [] values wanted e = sym (e ∙ append-nil values)
 none_after effect bin (k ∷ ks) values wanted e = sym (e ∙ append-nil values)
 
@@ -138,7 +146,8 @@ first_of (y ∷ ys) x some is = ap (λ z. z ∷ ys) (sym is) ∙ ap (λ zs. x �
 
 -- items from a place on, of which the first are taken
 pub from_there : {X : Type 0} (xs own : List X) (done : ℕ) → own ≡ take (length own) (drop done xs) → own ++ drop (done + length own) xs ≡ drop done xs
-from_there xs own done is = ap (λ zs. zs ++ drop (done + length own) xs) is ∙ ap (λ zs. take (length own) (drop done xs) ++ zs) (sym (drop-drop (length own) done xs)) ∙ take-append-drop (length own) (drop done xs)
+from_there xs own done is = ap (λ zs. zs ++ drop (done + length own) xs) is
+    ∙ ap (λ zs. take (length own) (drop done xs) ++ zs) (sym (drop-drop (length own) done xs)) ∙ take-append-drop (length own) (drop done xs)
 
 -- the values of a leaf at keys
 pub leaf_values : {V D K : Type 0} (effect : Option V → Message V D → Option V) (key : K → Key) (ks : List K) (rows : Rows V) (t : Tree V (Message V D)) → t ≡ leaf rows →
@@ -152,7 +161,8 @@ pub all_held : {V D K : Type 0} (effect : Option V → Message V D → Option V)
     tree_values effect (map key ks) t ≡ map (λ k. find key_cmp (key k) (holds effect t)) ks
 all_held effect key levels low high t [] lies = refl
 all_held effect key levels low high t (k ∷ ks) lies =
-    ap (λ v. v ∷ tree_values effect (map key ks) t) (tree_value-held effect levels low high t (key k) lies) ∙ ap (λ vs. find key_cmp (key k) (holds effect t) ∷ vs) (all_held effect key levels low high t ks lies)
+    ap (λ v. v ∷ tree_values effect (map key ks) t) (tree_value-held effect levels low high t (key k) lies)
+    ∙ ap (λ vs. find key_cmp (key k) (holds effect t) ∷ vs) (all_held effect key levels low high t ks lies)
 
 pub run_within : {X : Type 0} (xs left own : List X) (done : ℕ) → done ≤ length xs → left ≡ drop done xs → length own ≤ length left → done + length own ≤ length xs
 run_within xs left own done within is few = omega (arith, within, few, ap length is, length-drop done xs)

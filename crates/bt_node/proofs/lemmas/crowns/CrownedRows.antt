@@ -18,7 +18,8 @@ module _ {V M : Type 0} (weigh : Key × M → ℕ) (s : Shape) (roomy : IsRoomy 
   raised-shared : (x y : Key × Tree V M) (xs : Siblings V M) → raised x y xs ≡ grouped s (shared (x ∷ y ∷ xs) [])
   raised-shared x y xs = ap (grouped s) (sym (shared-nothing (x ∷ y ∷ xs)))
 
-  raised-fit : (levels : ℕ) (low high : Option Key) (x y : Key × Tree V M) (xs : Siblings V M) → SiblingsFit weigh s levels low high (x ∷ y ∷ xs) → SiblingsFit weigh s (suc levels) low high (raised x y xs)
+  raised-fit : (levels : ℕ) (low high : Option Key) (x y : Key × Tree V M) (xs : Siblings V M) → SiblingsFit weigh s levels low high (x ∷ y ∷ xs)
+      → SiblingsFit weigh s (suc levels) low high (raised x y xs)
   raised-fit levels low high x y xs fit =
       subst (SiblingsFit weigh s (suc levels) low high) (sym (raised-shared x y xs))
       (grouped_fits weigh s roomy levels low high (x ∷ y ∷ xs) [] (omega arith) fit.lie tt tt fit.sized (omega (arith, load-none weigh s.measure)))
@@ -26,7 +27,8 @@ module _ {V M : Type 0} (weigh : Key × M → ℕ) (s : Shape) (roomy : IsRoomy 
   raised-fewer : (x y : Key × Tree V M) (xs : Siblings V M) → length (raised x y xs) < length (x ∷ y ∷ xs)
   raised-fewer x y xs = raised-shorter s (omega (arith, roomy.fanout)) (x ∷ y ∷ xs) (omega arith)
 
-  crown_within-fits : (bound levels : ℕ) (low high : Option Key) (xs : Siblings V M) → SiblingsFit weigh s levels low high xs → length xs ≤ suc bound → (top : ℕ) × NodeFits weigh s top low high (crown_within bound s xs)
+  crown_within-fits : (bound levels : ℕ) (low high : Option Key) (xs : Siblings V M) → SiblingsFit weigh s levels low high xs → length xs ≤ suc bound
+      → (top : ℕ) × NodeFits weigh s top low high (crown_within bound s xs)
   crown_within-fits bound levels low high [] fit few = absurd fit.led
   crown_within-fits bound levels low high (x ∷ []) fit few = (levels, record { lies = fit.lie; sized = fit.sized.0 })
   crown_within-fits zero levels low high (x ∷ y ∷ xs) fit few = absurd (omega arith)
@@ -37,11 +39,13 @@ module _ {V M : Type 0} (weigh : Key × M → ℕ) (s : Shape) (roomy : IsRoomy 
   crown-fits levels low high xs fit = crown_within-fits (length xs) levels low high xs fit (omega arith)
 
   module _ (effect : Option V → M → Option V) where
-    raised-holds : (levels : ℕ) (low high : Option Key) (x y : Key × Tree V M) (xs : Siblings V M) → SiblingsFit weigh s levels low high (x ∷ y ∷ xs) → all_hold effect (raised x y xs) ≡ all_hold effect (x ∷ y ∷ xs)
+    raised-holds : (levels : ℕ) (low high : Option Key) (x y : Key × Tree V M) (xs : Siblings V M) → SiblingsFit weigh s levels low high (x ∷ y ∷ xs)
+        → all_hold effect (raised x y xs) ≡ all_hold effect (x ∷ y ∷ xs)
     raised-holds levels low high x y xs fit =
         ap (all_hold effect) (raised-shared x y xs) ∙ grouped_holds weigh s roomy levels low high (x ∷ y ∷ xs) [] (omega arith) fit.lie tt tt effect
 
-    crown_within-holds : (bound levels : ℕ) (low high : Option Key) (xs : Siblings V M) → SiblingsFit weigh s levels low high xs → length xs ≤ suc bound → holds effect (crown_within bound s xs) ≡ all_hold effect xs
+    crown_within-holds : (bound levels : ℕ) (low high : Option Key) (xs : Siblings V M) → SiblingsFit weigh s levels low high xs → length xs ≤ suc bound
+        → holds effect (crown_within bound s xs) ≡ all_hold effect xs
     crown_within-holds bound levels low high [] fit few = absurd fit.led
     crown_within-holds bound levels low high (x ∷ []) fit few = sym (append-nil (holds effect x.1))
     crown_within-holds zero levels low high (x ∷ y ∷ xs) fit few = absurd (omega arith)

@@ -1,5 +1,6 @@
 -- How many parts a deal makes, and how large they are.
-use Rattle.std.proofs.Common.{◌≡◌, ℕ, zero, suc, ◌+◌, ◌-◌, ◌*◌, ◌/◌, ◌%◌, max, min, ◌<◌, ◌≤◌, List, [], ◌∷◌, ◌++◌, map, replicate, length, take, drop, length-take, length-drop, length-append, refl, ap, ◌∙◌, arith, inl, inr}
+use Rattle.std.proofs.Common.{◌≡◌, ℕ, zero, suc, ◌+◌, ◌-◌, ◌*◌, ◌/◌, ◌%◌, max, min, ◌<◌, ◌≤◌, List, [], ◌∷◌, ◌++◌, map, replicate}
+use Rattle.std.proofs.Common.{length, take, drop, length-take, length-drop, length-append, refl, ap, ◌∙◌, arith, inl, inr}
 use Rattle.std.specs.Int.{div_ceil}
 use Rattle.std.proofs.Math.Nat.{mul-le-mul_left}
 use Rattle.std.proofs.Math.Seq.{take-length}
@@ -45,7 +46,8 @@ pub sizes-at_most : (n m : ℕ) → 0 < m → Each (λ x. x ≤ m) (sizes n m)
 sizes-at_most n m l =
     let k = max 1 (div_ceil n m) in
     let fits = at_most k (n / k) (n % k) n m (omega arith) (omega arith) (enough n m (n / m) (n % m) (omega arith) (omega arith)) in
-    each-append (λ x. x ≤ m) (replicate (n % k) (n / k + 1)) (replicate (k - n % k) (n / k)) (each-replicate (λ x. x ≤ m) (n % k) (n / k + 1) fits.1) (each-replicate (λ x. x ≤ m) (k - n % k) (n / k) (λ _. fits.0))
+    each-append (λ x. x ≤ m) (replicate (n % k) (n / k + 1)) (replicate (k - n % k) (n / k)) (each-replicate (λ x. x ≤ m) (n % k) (n / k + 1) fits.1)
+    (each-replicate (λ x. x ≤ m) (k - n % k) (n / k) (λ _. fits.0))
 
 -- no part of two items or more has fewer than two, if a part may have three
 halves : (k q r n : ℕ) → k * q + r ≡ n → r < k → 2 * k ≤ n → 2 ≤ q

@@ -41,7 +41,8 @@ module _ {V M : Type 0} (effect : Option V → M → Option V) where
   abbrev pub below : List (Child V M) → Rows V
   below = flat_map (λ c. holds effect c.tree)
 
-  all_pending-outside : (levels : ℕ) (q : Key) (low high : Option Key) (cs : List (Child V M)) (o : Option V) → ChildrenLie levels low high cs → Outside low high q → value_after effect q (all_pending cs) o ≡ o
+  all_pending-outside : (levels : ℕ) (q : Key) (low high : Option Key) (cs : List (Child V M)) (o : Option V) → ChildrenLie levels low high cs
+      → Outside low high q → value_after effect q (all_pending cs) o ≡ o
   all_pending-outside levels q low high [] o p out = refl
   all_pending-outside levels q low high (c ∷ []) o p out = ap (λ w. value_after effect q w o) (append-nil c.pending) ∙ value-outside effect q low high c.pending o out p.1
   all_pending-outside levels q low high (c ∷ d ∷ cs) o p out =
@@ -68,7 +69,8 @@ module _ {V M : Type 0} (effect : Option V → M → Option V) where
       ∙ seen_in-outside levels q (Some d.pivot) high (d ∷ cs) p.3 (outside-rest low d.pivot q high p.0 out)
 
   -- All pending messages, applied to the rows of the children together, give the same as each child's share, applied to its rows.
-  pub value-below-seen : (levels : ℕ) (q : Key) (low high : Option Key) (cs : List (Child V M)) → ChildrenLie levels low high cs → value_after effect q (all_pending cs) (find key_cmp q (below cs)) ≡ seen_in q cs
+  pub value-below-seen : (levels : ℕ) (q : Key) (low high : Option Key) (cs : List (Child V M)) → ChildrenLie levels low high cs
+      → value_after effect q (all_pending cs) (find key_cmp q (below cs)) ≡ seen_in q cs
   value-below-seen levels q low high [] p = refl
   value-below-seen levels q low high (c ∷ []) p =
       ap (λ w. value_after effect q w (find key_cmp q (below (c ∷ [])))) (append-nil c.pending)

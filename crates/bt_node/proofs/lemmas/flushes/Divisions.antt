@@ -104,7 +104,8 @@ module _ {V M : Type 0} where
       parts-long (k ∷ ks) ms = ap suc (parts-long ks (from k ms))
 
   -- the loads of the bins with their shares are those of the children
-  pub loads-are : (weigh : Key × M → ℕ) (s : Shape) (xs : Siblings V M) (bs : List (Messages M)) (ns : List ℕ) (ms packet : Messages M) → LieBetween (pivots_of xs) bs → parted ns ms ≡ parts (pivots_of xs) packet →
+  pub loads-are : (weigh : Key × M → ℕ) (s : Shape) (xs : Siblings V M) (bs : List (Messages M)) (ns : List ℕ) (ms packet : Messages M)
+      → LieBetween (pivots_of xs) bs → parted ns ms ≡ parts (pivots_of xs) packet →
       length bs ≡ length xs → length ns ≡ length bs → map (load weigh s.measure) (each_with (parted ns ms) bs) ≡ loads weigh s (shared xs (with_messages packet (concatenation bs)))
   loads-are weigh s xs bs ns ms packet h sizes e few =
       sym (loads-with_pending weigh s xs (each_with (parted ns ms) bs) (omega (arith, each-long ns ms bs few, e)))
@@ -130,7 +131,8 @@ module _ {V M : Type 0} where
   with_pending-drained (x ∷ xs) (b ∷ bs) = (tt, with_pending-drained xs bs)
 
   -- the children of a node that messages may enter
-  pub with_pending-ready : (mode : Mode) (t : Tree V M) (xs : Siblings V M) (buffer : Messages M) (bs : List (Messages M)) → t ≡ inner (nodes xs) buffer → IsReady mode t → AreReady mode (with_pending xs bs)
+  pub with_pending-ready : (mode : Mode) (t : Tree V M) (xs : Siblings V M) (buffer : Messages M) (bs : List (Messages M)) → t ≡ inner (nodes xs) buffer
+      → IsReady mode t → AreReady mode (with_pending xs bs)
   with_pending-ready Absorb t xs buffer bs here order = let side = siblings_widest t xs buffer here order in with_pending-in_order side.0 None None xs bs side.1
   with_pending-ready Drain t xs buffer bs here order = with_pending-drained xs bs
 

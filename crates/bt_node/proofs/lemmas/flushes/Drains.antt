@@ -73,7 +73,8 @@ module _ {V M : Type 0} where
   dry-none_pending [] d = tt
   dry-none_pending (x ∷ xs) d = (refl, d.0, dry-none_pending xs d.1)
 
-  dry-flushed : (most : ℕ) (f : Flush V M) → ((t : Tree V M) (p : Messages M) → height t ≤ most → AreDry (nodes (f t p))) → (cs : List (Child V M)) → AreWithin most cs → ChildrenDry (flat_map (flushed f) cs)
+  dry-flushed : (most : ℕ) (f : Flush V M) → ((t : Tree V M) (p : Messages M) → height t ≤ most → AreDry (nodes (f t p))) → (cs : List (Child V M))
+      → AreWithin most cs → ChildrenDry (flat_map (flushed f) cs)
   dry-flushed most f dry [] l = tt
   dry-flushed most f dry (c ∷ cs) l =
       dry-both (flushed f c) (flat_map (flushed f) cs)

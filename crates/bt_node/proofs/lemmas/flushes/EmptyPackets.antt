@@ -73,11 +73,19 @@ module _ {V M : Type 0} where
       grouped-one s (shared xs b) some (omega (arith, length-shared xs b, few)) ∙ ap (λ t. ([], t) ∷ []) (gathered-shared xs b l r)
 
   -- the flush of a node whose children and messages are within its shape is the node itself
-  pub still-here : (weigh : Key × M → ℕ) (s : Shape) (ns : Nodes V M) (b : Messages M) → IsLed (children ns) → IsSorted b → 1 ≤ s.fanout → length (children ns) ≤ s.fanout → load weigh s.measure b ≤ s.buffer → (flush : Flush V M) →
+  pub still-here : (weigh : Key × M → ℕ) (s : Shape) (ns : Nodes V M) (b : Messages M) → IsLed (children ns) → IsSorted b → 1 ≤ s.fanout
+      → length (children ns) ≤ s.fanout → load weigh s.measure b ≤ s.buffer → (flush : Flush V M) →
       grouped s (flushed_in weigh s Absorb flush (shared (children ns) b)) ≡ ([], inner ns b) ∷ []
   still-here weigh s ns b l r some few fits flush =
       let cs = shared (children ns) b in
-      let pending : total (loads weigh s cs) ≤ s.buffer = omega (arith, total-loads weigh s cs, ap (load weigh s.measure) (all_pending-shared (children ns) b (some_length (children ns) (led-full (children ns) l)) r), fits) in
+      let pending : total (loads weigh s cs) ≤ s.buffer =
+      omega (
+        arith,
+        total-loads weigh s cs,
+        ap (load weigh s.measure)
+            (all_pending-shared (children ns) b (some_length (children ns) (led-full (children ns) l)) r),
+        fits,
+      ) in
       ap (grouped s) (after_turns-still (pending_load weigh s) (flushed flush) (flushed-light weigh s flush) s.buffer (total (loads weigh s cs)) cs pending)
       ∙ grouped-shared s (children ns) b l r some few ∙ ap (λ ms. ([], inner ms b) ∷ []) (nodes-children ns)
 

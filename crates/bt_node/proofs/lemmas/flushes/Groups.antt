@@ -110,7 +110,8 @@ module _ {V M : Type 0} where
       side-groups (λ c. c.pivot) (ChildLies levels) (ChildrenLie levels) (λ low high g n b. b) low high (deal s.fanout (c ∷ cs)) (full-deal s.fanout c cs l)
       (subst (ChildrenLie levels low high) (sym (joined-deal s.fanout (c ∷ cs))) p)
 
-  pub grouped-lie : (levels : ℕ) (s : Shape) (low high : Option Key) (c : Child V M) (cs : List (Child V M)) → 0 < s.fanout → ChildrenLie levels low high (c ∷ cs) → SiblingsLie (suc levels) low high (grouped s (c ∷ cs))
+  pub grouped-lie : (levels : ℕ) (s : Shape) (low high : Option Key) (c : Child V M) (cs : List (Child V M)) → 0 < s.fanout
+      → ChildrenLie levels low high (c ∷ cs) → SiblingsLie (suc levels) low high (grouped s (c ∷ cs))
   grouped-lie levels s low high c cs l p =
       led-side (λ l h t. Lies (suc levels) l h t) [] low high _
       (side-map gathered (λ x. x.0) (λ l h x. Lies (suc levels) l h x.1) low high (deal s.fanout (c ∷ cs))

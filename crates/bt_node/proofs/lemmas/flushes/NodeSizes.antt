@@ -156,7 +156,8 @@ module _ {V M : Type 0} (effect : Option V → M → Option V) (weigh : Key × M
 module _ {V M : Type 0} (meaning : Meaning V M) (s : Shape) (leaf_some : 0 < s.leaf) (three : 3 ≤ s.fanout) where
   -- the children of an inner node after a flush, dealt
   node-sized : (mode : Mode) (levels : ℕ) (f : Flush V M) → KeepsSized meaning.weigh s levels f → (low high : Option Key) (ns : Nodes V M) (b p : Messages M) →
-      TakesPacket meaning.effect levels f low high ns b p → IsSized meaning.weigh s (inner ns b) → AreSized meaning.weigh s (nodes (grouped s (flushed_in meaning.weigh s mode f (shared (children ns) (with_messages p b)))))
+      TakesPacket meaning.effect levels f low high ns b p → IsSized meaning.weigh s (inner ns b)
+      → AreSized meaning.weigh s (nodes (grouped s (flushed_in meaning.weigh s mode f (shared (children ns) (with_messages p b)))))
   node-sized mode levels f sizes low high ns b p takes z = grouped-sized meaning.weigh s _ three two (flushed-fits meaning.weigh s mode f cs) sized
     where
       cs : List (Child V M)
@@ -168,7 +169,8 @@ module _ {V M : Type 0} (meaning : Meaning V M) (s : Shape) (leaf_some : 0 < s.l
       sized : ChildrenSized meaning.weigh s (flushed_in meaning.weigh s mode f cs)
       sized =
           subst (ChildrenSized meaning.weigh s) (sym (flushed-slots meaning.weigh s mode f cs))
-          (pass-sized meaning.effect meaning.weigh s levels f takes.keeps sizes low high (slots meaning.weigh s mode cs) (slots-lie meaning s leaf_some (omega arith) mode levels f low high ns b p takes)
+          (pass-sized meaning.effect meaning.weigh s levels f takes.keeps sizes low high (slots meaning.weigh s mode cs)
+          (slots-lie meaning s leaf_some (omega arith) mode levels f low high ns b p takes)
           (subst (ChildrenSized meaning.weigh s) (sym (names-slots meaning.weigh s mode cs)) (shared-sized meaning.weigh s ns (with_messages p b) z.3)))
 
   flush_at-sized : (mode : Mode) (levels : ℕ) → KeepsSized meaning.weigh s levels (flush_at meaning mode (suc levels) s)
@@ -183,4 +185,5 @@ module _ {V M : Type 0} (meaning : Meaning V M) (s : Shape) where
   -- a flush of a node that is no larger than the shape allows
   pub flush-sized : (mode : Mode) → 0 < s.leaf → 3 ≤ s.fanout → (levels : ℕ) → KeepsSized meaning.weigh s levels (flush_in meaning mode s)
   flush-sized mode leaf_some three levels low high t p lies within z =
-      subst (λ xs. AreSized meaning.weigh s (nodes xs)) (sym (flush-at-levels meaning mode s levels low high t p lies)) (flush_at-sized meaning s leaf_some three mode levels low high t p lies within z)
+      subst (λ xs. AreSized meaning.weigh s (nodes xs)) (sym (flush-at-levels meaning mode s levels low high t p lies))
+      (flush_at-sized meaning s leaf_some three mode levels low high t p lies within z)

@@ -33,7 +33,8 @@ module _ {V M : Type 0} (weigh : Key × M → ℕ) (s : Shape) (roomy : IsRoomy 
       record {
         lie = g.lie;
         led = g.led;
-        sized = grouped-sized weigh s (shared xs b) roomy.fanout (omega (arith, length-shared xs b, several)) (omega (arith, ap (load weigh s.measure) (all_pending-shared xs b (omega (arith, several)) sorted), few))
+        sized = grouped-sized weigh s (shared xs b) roomy.fanout (omega (arith, length-shared xs b, several))
+            (omega (arith, ap (load weigh s.measure) (all_pending-shared xs b (omega (arith, several)) sorted), few))
             (subst (λ ys. AreSized weigh s (nodes ys)) (sym (stripped-shared xs b)) sized);
       }
 
@@ -51,7 +52,8 @@ module _ {V M : Type 0} (weigh : Key × M → ℕ) (s : Shape) (roomy : IsRoomy 
       ∙ ap (λ rs. value_after effect q b (find key_cmp q rs)) (below-shared effect xs b)
       ∙ sym (find-rows effect q b (all_hold effect xs)))
 
-module _ {V M : Type 0} (weigh : Key × M → ℕ) (s : Shape) (roomy : IsRoomy s) (xs : Siblings V M) (b : Messages M) (several : 2 ≤ length xs) (sorted : IsSorted b) (ys : Siblings V M) (is : ys ≡ grouped s (shared xs b)) where
+module _ {V M : Type 0} (weigh : Key × M → ℕ) (s : Shape) (roomy : IsRoomy s) (xs : Siblings V M) (b : Messages M) (several : 2 ≤ length xs) (sorted
+    : IsSorted b) (ys : Siblings V M) (is : ys ≡ grouped s (shared xs b)) where
   pub fit_above : load weigh s.measure b ≤ s.buffer → FitAbove weigh s xs b ys
   fit_above few levels low high fit within =
       subst (SiblingsFit weigh s (suc levels) low high) (sym is) (grouped_fits weigh s roomy levels low high xs b several fit.lie within sorted fit.sized few)

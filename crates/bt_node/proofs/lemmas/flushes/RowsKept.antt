@@ -29,7 +29,8 @@ sorted-append low k high [] ss s t u v = t
 sorted-append low k high (r ∷ rs) ss s t u v =
     t_both _ _ (below-append r.0 rs ss (t_first _ _ s) (all_below r.0 k high ss u.0.below v)) (sorted-append low k high rs ss (t_second _ _ s) t u.1 v)
 
-rows-append : {V : Type 0} (low : Option Key) (k : Key) (high : Option Key) (rs ss : Rows V) → IsPast low k → IsBelow high k → RowsLie low (Some k) rs → RowsLie (Some k) high ss → RowsLie low high (rs ++ ss)
+rows-append : {V : Type 0} (low : Option Key) (k : Key) (high : Option Key) (rs ss : Rows V) → IsPast low k → IsBelow high k → RowsLie low (Some k) rs
+    → RowsLie (Some k) high ss → RowsLie low high (rs ++ ss)
 rows-append low k high rs ss l h u v =
     rows-lie low high (rs ++ ss)
     (within-append low high rs ss (within-below low k high rs h (rows-within low (Some k) rs u)) (within-from low k high ss l (rows-within (Some k) high ss v)))

@@ -24,11 +24,13 @@ module _ {V M : Type 0} (effect : Option V → M → Option V) where
   value-where q test [] o = elim (test q) as (λ b. o ≡ cond b o o) [ true ↦ refl | false ↦ refl ]
   value-where q test (m ∷ ms) o =
       let kept = where_key key_cmp test ms in
-      elim (eq_by_cmp key_cmp q m.0) as (λ t. eq_by_cmp key_cmp q m.0 ≡ t → value_after effect q (where_key key_cmp test (m ∷ ms)) o ≡ cond (test q) (value_after effect q ms (cond t (effect o m.1) o)) o) [
+      elim (eq_by_cmp key_cmp q m.0) as (λ t. eq_by_cmp key_cmp q m.0 ≡ t
+      → value_after effect q (where_key key_cmp test (m ∷ ms)) o ≡ cond (test q) (value_after effect q ms (cond t (effect o m.1) o)) o) [
         | true ↦ λ t.
             ap (λ k. value_after effect q (cond (test k) (m ∷ kept) kept) o) (sym (same_key q m.0 t))
             ∙ elim (test q) as (λ b. test q ≡ b → value_after effect q (cond b (m ∷ kept) kept) o ≡ cond b (value_after effect q ms (effect o m.1)) o) [
-              | true ↦ λ b. ap (λ t. value_after effect q kept (cond t (effect o m.1) o)) t ∙ value-where q test ms (effect o m.1) ∙ ap (λ b. cond b (value_after effect q ms (effect o m.1)) (effect o m.1)) b
+              | true ↦ λ b. ap (λ t. value_after effect q kept (cond t (effect o m.1) o)) t ∙ value-where q test ms (effect o m.1)
+                  ∙ ap (λ b. cond b (value_after effect q ms (effect o m.1)) (effect o m.1)) b
               | false ↦ λ b. value-where q test ms o ∙ ap (λ b. cond b (value_after effect q ms o) o) b
             ] refl
         | false ↦ λ t.
@@ -44,7 +46,8 @@ module _ {V M : Type 0} (effect : Option V → M → Option V) where
   value-divided q k ms o =
       ap (value_after effect q (from k ms)) (value-where q (λ x. is_before x k) ms o)
       ∙ value-where q (λ x. not (is_before x k)) ms _
-      ∙ elim (is_before q k) as (λ b. cond (not b) (value_after effect q ms (cond b (value_after effect q ms o) o)) (cond b (value_after effect q ms o) o) ≡ value_after effect q ms o) [ true ↦ refl | false ↦ refl ]
+      ∙ elim (is_before q k) as (λ b. cond (not b) (value_after effect q ms (cond b (value_after effect q ms o) o)) (cond b (value_after effect q ms o) o)
+      ≡ value_after effect q ms o) [ true ↦ refl | false ↦ refl ]
 
   pub value-shared : (q : Key) (x : Key × Tree V M) (xs : Siblings V M) (b : Messages M) (o : Option V) → value_after effect q (all_pending (shared (x ∷ xs) b)) o ≡ value_after effect q b o
   value-shared q x [] b o = ap (λ w. value_after effect q w o) (append-nil b)

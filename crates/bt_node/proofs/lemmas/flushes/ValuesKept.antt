@@ -27,7 +27,8 @@ pub record Grouped {V M : Type 0} (effect : Option V → M → Option V) (levels
   pub led : IsLed (grouped s cs)
   pub finds : (q : Key) → find key_cmp q (all_hold effect (grouped s cs)) ≡ seen_in effect q cs
 
-pub groups : {V M : Type 0} (effect : Option V → M → Option V) (levels : ℕ) (s : Shape) (low high : Option Key) (cs : List (Child V M)) → 0 < s.fanout → 1 ≤ length cs → ChildrenLie levels low high cs →
+pub groups : {V M : Type 0} (effect : Option V → M → Option V) (levels : ℕ) (s : Shape) (low high : Option Key) (cs : List (Child V M)) → 0 < s.fanout
+    → 1 ≤ length cs → ChildrenLie levels low high cs →
     Grouped effect levels s low high cs
 groups effect levels s low high [] l n p = absurd (omega (arith, n))
 groups effect levels s low high (c ∷ cs) l n p = record {
@@ -42,7 +43,8 @@ pub record TakesPacket {V M : Type 0} (effect : Option V → M → Option V) (le
   pub lies : Lies (suc levels) low high (inner ns b)
   pub within : AllWithin low high p
 
-value-shared-all : {V M : Type 0} (effect : Option V → M → Option V) (q : Key) (xs : Siblings V M) (b : Messages M) (o : Option V) → NonEmpty xs → value_after effect q (all_pending (shared xs b)) o ≡ value_after effect q b o
+value-shared-all : {V M : Type 0} (effect : Option V → M → Option V) (q : Key) (xs : Siblings V M) (b : Messages M) (o : Option V) → NonEmpty xs
+    → value_after effect q (all_pending (shared xs b)) o ≡ value_after effect q b o
 value-shared-all effect q [] b o n = absurd n
 value-shared-all effect q (x ∷ xs) b o n = value-shared effect q x xs b o
 
@@ -51,7 +53,8 @@ module _ {V M : Type 0} (meaning : Meaning V M) (s : Shape) (leaf_some : 0 < s.l
   abbrev pub start : Nodes V M → Messages M → Messages M → List (Child V M)
   start ns b p = shared (children ns) (with_messages p b)
 
-  pub start-lies : (levels : ℕ) (low high : Option Key) (ns : Nodes V M) (b p : Messages M) → Lies (suc levels) low high (inner ns b) → AllWithin low high p → ChildrenLie levels low high (start ns b p)
+  pub start-lies : (levels : ℕ) (low high : Option Key) (ns : Nodes V M) (b p : Messages M) → Lies (suc levels) low high (inner ns b) → AllWithin low high p
+      → ChildrenLie levels low high (start ns b p)
   start-lies levels low high ns b p lies within =
       shared-lie levels low high (children ns) (with_messages p b) lies.2 (within-with_messages low high p b within lies.0) (sorted-with_messages p b lies.1)
 

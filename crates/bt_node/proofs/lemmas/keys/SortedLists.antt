@@ -48,7 +48,8 @@ module _ {X : Type 0} where
   from-limit a k high (x ∷ xs) l w = (later_chain a k x.0 (not_after a k l) w.0.from, from-limit a k high xs l w.1)
 
   -- sorted lists that meet at a key
-  pub sorted-append : (low : Option Key) (k : Key) (high : Option Key) (xs ys : List (Key × X)) → IsSorted xs → IsSorted ys → AllWithin low (Some k) xs → AllWithin (Some k) high ys → IsSorted (xs ++ ys)
+  pub sorted-append : (low : Option Key) (k : Key) (high : Option Key) (xs ys : List (Key × X)) → IsSorted xs → IsSorted ys → AllWithin low (Some k) xs
+      → AllWithin (Some k) high ys → IsSorted (xs ++ ys)
   sorted-append low k high [] ys r q u v = q
   sorted-append low k high (x ∷ xs) ys r q u v =
       (from-joined x.0 xs ys r.0 (from-limit x.0 k high ys u.0.below v), sorted-append low k high xs ys r.1 q u.1 v)

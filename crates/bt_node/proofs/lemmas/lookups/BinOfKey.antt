@@ -21,17 +21,20 @@ module _ {V M : Type 0} (effect : Option V → M → Option V) where
   earlier k p (m ∷ ms) o past h =
       ap (λ b. value_after effect k ms (cond b (effect o m.1) o)) (apart_back m.0 p k h.0 past) ∙ earlier k p ms o past h.1
 
-  pub value-bin : (k : Key) (ps : List Key) (bs : List (Messages M)) (o : Option V) → LieBetween ps bs → value_after effect k (get_or bs (pivots_up_to k ps) []) o ≡ value_after effect k (concatenation bs) o
+  pub value-bin : (k : Key) (ps : List Key) (bs : List (Messages M)) (o : Option V) → LieBetween ps bs
+      → value_after effect k (get_or bs (pivots_up_to k ps) []) o ≡ value_after effect k (concatenation bs) o
   value-bin k ps [] o h = absurd h
   value-bin k [] (b ∷ []) o h = sym (ap (λ ms. value_after effect k ms o) (append-nil b))
   value-bin k [] (b ∷ c ∷ bs) o h = absurd h
-  value-bin k (p ∷ ps) (b ∷ bs) o h = elim (is_before k p) as (λ t. is_before k p ≡ t → value_after effect k (get_or (b ∷ bs) (cond t 0 (suc (pivots_up_to k ps))) []) o ≡ value_after effect k (b ++ concatenation bs) o) [
-    | true ↦ λ t. sym (value-append effect k b (concatenation bs) o ∙ value_before effect k p (concatenation bs) (value_after effect k b o) t h.2)
-    | false ↦ λ t. value-bin k ps bs o h.3 ∙ sym (value-append effect k b (concatenation bs) o ∙ ap (value_after effect k (concatenation bs)) (earlier k p b o t h.1))
-  ] refl
+  value-bin k (p ∷ ps) (b ∷ bs) o h = elim (is_before k p) as (λ t. is_before k p ≡ t
+      → value_after effect k (get_or (b ∷ bs) (cond t 0 (suc (pivots_up_to k ps))) []) o ≡ value_after effect k (b ++ concatenation bs) o) [
+        | true ↦ λ t. sym (value-append effect k b (concatenation bs) o ∙ value_before effect k p (concatenation bs) (value_after effect k b o) t h.2)
+        | false ↦ λ t. value-bin k ps bs o h.3 ∙ sym (value-append effect k b (concatenation bs) o ∙ ap (value_after effect k (concatenation bs)) (earlier k p b o t h.1))
+      ] refl
 
 -- a start value in the bin of a key is the start value in all bins
-pub begins-bin : {V D : Type 0} (effect : Option V → Message V D → Option V) (k : Key) (ps : List Key) (bs : List (Messages (Message V D))) (place : ℕ) (left : Messages (Message V D)) (start : Option (ValueSoFar V D)) →
+pub begins-bin : {V D : Type 0} (effect : Option V → Message V D → Option V) (k : Key) (ps : List Key) (bs : List (Messages (Message V D))) (place : ℕ) (left
+    : Messages (Message V D)) (start : Option (ValueSoFar V D)) →
     LieBetween ps bs → place ≡ pivots_up_to k ps → BeginsWith effect k (get_or bs place []) start left → BeginsWith effect k (concatenation bs) start left
 begins-bin effect k ps bs place left start lie is begins old =
     sym (value-bin effect k ps bs old lie) ∙ ap (λ i. value_after effect k (get_or bs i []) old) (sym is) ∙ begins old

@@ -17,7 +17,8 @@ module _ {V M : Type 0} (effect : Option V → M → Option V) (q : Key) where
   abbrev Found : ℕ → Type 0
   Found levels = (low high : Option Key) (t : Tree V M) → Lies levels low high t → tree_value effect q t ≡ find key_cmp q (holds effect t)
 
-  found-below : (levels : ℕ) → Found levels → (low high : Option Key) (ns : Nodes V M) → SiblingsLie levels low high (children ns) → value_below effect q ns ≡ find key_cmp q (all_hold effect (children ns))
+  found-below : (levels : ℕ) → Found levels → (low high : Option Key) (ns : Nodes V M) → SiblingsLie levels low high (children ns)
+      → value_below effect q ns ≡ find key_cmp q (all_hold effect (children ns))
   found-below levels each low high none b = refl
   found-below levels each low high (node p t none) b = each low high t b ∙ ap (find key_cmp q) (sym (append-nil (holds effect t)))
   found-below levels each low high (node p t (node j u ns)) b =

@@ -8,12 +8,14 @@ use Rattle.bt_node.proofs.lemmas.plans.RenewedChoice.{le_or_lt, nothing}
 use Rattle.bt_node.proofs.lemmas.plans.OnePass.{after_turns-planned, total-light}
 
 module _ {X : Type 0} (weight : X → ℕ) (parts : X → List X) (light : (x : X) → IsLight weight (parts x)) where
-  total-opened : (m : ℕ) (xs : List X) → m ≤ most (map weight xs) → 0 < m → most (map weight xs) ≤ m → total (map weight (opened_at weight parts (place_of m (map weight xs)) xs)) + m ≡ total (map weight xs)
+  total-opened : (m : ℕ) (xs : List X) → m ≤ most (map weight xs) → 0 < m → most (map weight xs) ≤ m
+      → total (map weight (opened_at weight parts (place_of m (map weight xs)) xs)) + m ≡ total (map weight xs)
   total-opened m [] a b c = absurd (omega arith)
-  total-opened m (x ∷ xs) a b c = elim (eqb (weight x) m) as (λ t. eqb (weight x) m ≡ t → total (map weight (opened_at weight parts (cond t 0 (suc (place_of m (map weight xs)))) (x ∷ xs))) + m ≡ weight x + total (map weight xs)) [
-    | true ↦ λ t. omega (arith, eqb-true (weight x) m t, total-light weight parts light (parts x) xs (light x))
-    | false ↦ λ t. omega (arith, total-opened m xs (later t) b (omega arith))
-  ] refl
+  total-opened m (x ∷ xs) a b c = elim (eqb (weight x) m) as (λ t. eqb (weight x) m ≡ t
+      → total (map weight (opened_at weight parts (cond t 0 (suc (place_of m (map weight xs)))) (x ∷ xs))) + m ≡ weight x + total (map weight xs)) [
+        | true ↦ λ t. omega (arith, eqb-true (weight x) m t, total-light weight parts light (parts x) xs (light x))
+        | false ↦ λ t. omega (arith, total-opened m xs (later t) b (omega arith))
+      ] refl
     where
       later : eqb (weight x) m ≡ false → m ≤ most (map weight xs)
       later t = omega (arith, eqb-false (weight x) m t)

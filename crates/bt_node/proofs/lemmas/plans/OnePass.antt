@@ -35,7 +35,8 @@ module _ {X : Type 0} (weight : X → ℕ) (parts : X → List X) (light : (x : 
   skips : (m : ℕ) (x : X) (xs : List X) → 0 < m → weight x ≡ 0 → place_of m (map weight (x ∷ xs)) ≡ suc (place_of m (map weight xs))
   skips m x xs l e = cond-false _ _ _ (ne_eqb (weight x) m (omega (arith, l, e)))
 
-  opened-light : (m : ℕ) (xs ys : List X) → 0 < m → IsLight weight xs → opened_at weight parts (place_of m (map weight (xs ++ ys))) (xs ++ ys) ≡ xs ++ opened_at weight parts (place_of m (map weight ys)) ys
+  opened-light : (m : ℕ) (xs ys : List X) → 0 < m → IsLight weight xs
+      → opened_at weight parts (place_of m (map weight (xs ++ ys))) (xs ++ ys) ≡ xs ++ opened_at weight parts (place_of m (map weight ys)) ys
   opened-light m [] ys l h = refl
   opened-light m (x ∷ xs) ys l h = ap (λ i. opened_at weight parts i (x ∷ xs ++ ys)) (skips m x (xs ++ ys) l h.0) ∙ ap (λ z. x ∷ z) (opened-light m xs ys l h.1)
 
@@ -50,14 +51,16 @@ module _ {X : Type 0} (weight : X → ℕ) (parts : X → List X) (light : (x : 
   most-after_pass ((x, false) ∷ ss) = omega (arith, most-after_pass ss)
 
   -- opening an item in the current list is marking it in the original list
-  opened-after_pass : (m : ℕ) (ss : List (X × Bool)) → 0 < m → opened_at weight parts (place_of m (map weight (after_pass parts ss))) (after_pass parts ss) ≡ after_pass parts (marked (place_of m (map left ss)) ss)
+  opened-after_pass : (m : ℕ) (ss : List (X × Bool)) → 0 < m
+      → opened_at weight parts (place_of m (map weight (after_pass parts ss))) (after_pass parts ss) ≡ after_pass parts (marked (place_of m (map left ss)) ss)
   opened-after_pass m [] l = refl
   opened-after_pass m ((x, true) ∷ ss) l =
       opened-light m (parts x) (after_pass parts ss) l (light x)
       ∙ ap (λ z. parts x ++ z) (opened-after_pass m ss l)
       ∙ ap (λ i. after_pass parts (marked i ((x, true) ∷ ss))) (sym (cond-false _ 0 (suc (place_of m (map left ss))) (ne_eqb 0 m (omega arith))))
   opened-after_pass m ((x, false) ∷ ss) l =
-      elim (eqb (weight x) m) as (λ b. opened_at weight parts (cond b 0 (suc (place_of m (map weight (after_pass parts ss))))) (x ∷ after_pass parts ss) ≡ after_pass parts (marked (cond b 0 (suc (place_of m (map left ss)))) ((x, false) ∷ ss))) [
+      elim (eqb (weight x) m) as (λ b. opened_at weight parts (cond b 0 (suc (place_of m (map weight (after_pass parts ss))))) (x ∷ after_pass parts ss)
+      ≡ after_pass parts (marked (cond b 0 (suc (place_of m (map left ss)))) ((x, false) ∷ ss))) [
         | true ↦ refl
         | false ↦ ap (λ z. x ∷ z) (opened-after_pass m ss l)
       ]
@@ -74,12 +77,14 @@ module _ {X : Type 0} (weight : X → ℕ) (parts : X → List X) (light : (x : 
   Over capacity ss = capacity < total (map left ss)
 
   -- the next list, if the weights are over capacity
-  next : (capacity : ℕ) (ss : List (X × Bool)) → Over capacity ss → opened_at weight parts (fullest (map weight (after_pass parts ss))) (after_pass parts ss) ≡ after_pass parts (marked (fullest (map left ss)) ss)
+  next : (capacity : ℕ) (ss : List (X × Bool)) → Over capacity ss
+      → opened_at weight parts (fullest (map weight (after_pass parts ss))) (after_pass parts ss) ≡ after_pass parts (marked (fullest (map left ss)) ss)
   next capacity ss over =
       ap (λ m. opened_at weight parts (place_of m (map weight (after_pass parts ss))) (after_pass parts ss)) (most-after_pass ss)
       ∙ opened-after_pass (most (map left ss)) ss (heavy (map left ss) capacity over)
 
-  after_turns-after_pass : (capacity turns : ℕ) (ss : List (X × Bool)) → after_turns weight parts capacity turns (after_pass parts ss) ≡ after_pass parts (marked_all (renewed capacity turns (map left ss)) ss)
+  after_turns-after_pass : (capacity turns : ℕ) (ss : List (X × Bool))
+      → after_turns weight parts capacity turns (after_pass parts ss) ≡ after_pass parts (marked_all (renewed capacity turns (map left ss)) ss)
   after_turns-after_pass capacity zero ss = refl
   after_turns-after_pass capacity (suc turns) ss = elim (le_or_lt (total (map left ss)) capacity) [
     | inl fits ↦
@@ -103,7 +108,8 @@ module _ {X : Type 0} (weight : X → ℕ) (parts : X → List X) (light : (x : 
   left-unmarked (x ∷ xs) = ap (λ z. weight x ∷ z) (left-unmarked xs)
 
   -- The loop opens exactly the planned items, each once.
-  pub after_turns-planned : (capacity turns : ℕ) (xs : List X) → total (map weight xs) ≤ turns → after_turns weight parts capacity turns xs ≡ after_pass parts (marked_all (planned (map weight xs) capacity) (unmarked xs))
+  pub after_turns-planned : (capacity turns : ℕ) (xs : List X) → total (map weight xs) ≤ turns
+      → after_turns weight parts capacity turns xs ≡ after_pass parts (marked_all (planned (map weight xs) capacity) (unmarked xs))
   after_turns-planned capacity turns xs l =
       ap (after_turns weight parts capacity turns) (sym (after_pass-unmarked xs))
       ∙ after_turns-after_pass capacity turns (unmarked xs)
@@ -123,7 +129,8 @@ module _ {X : Type 0} (weight : X → ℕ) (parts : X → List X) (light : (x : 
       ∙ prefix-after_pass m ss l
       ∙ ap (λ i. take 1 (drop i (x ∷ names ss))) (sym (cond-false _ 0 (suc (place_of m (map left ss))) (ne_eqb 0 m (omega arith))))
   prefix-after_pass m ((x, false) ∷ ss) l =
-      elim (eqb (weight x) m) as (λ b. take 1 (drop (cond b 0 (suc (place_of m (map weight (after_pass parts ss))))) (x ∷ after_pass parts ss)) ≡ take 1 (drop (cond b 0 (suc (place_of m (map left ss)))) (x ∷ names ss))) [
+      elim (eqb (weight x) m) as (λ b. take 1 (drop (cond b 0 (suc (place_of m (map weight (after_pass parts ss))))) (x ∷ after_pass parts ss))
+      ≡ take 1 (drop (cond b 0 (suc (place_of m (map left ss)))) (x ∷ names ss))) [
         | true ↦ refl
         | false ↦ prefix-after_pass m ss l
       ]

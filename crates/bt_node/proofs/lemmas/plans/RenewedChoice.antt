@@ -144,10 +144,11 @@ live-ranked k (suc n ∷ ns) = live-ranked_in (k, suc n) (ranked (live (suc k) n
 -- a number above 0 is ranked among those above 0, and 0 after them
 ranked_in-live : (j n k : ℕ) (xs : List (ℕ × ℕ)) (ns : List ℕ) → ranked_in (j, suc n) (xs ++ zeros k ns) ≡ ranked_in (j, suc n) xs ++ zeros k ns
 ranked_in-live j n k [] ns = before_zeros k j (suc n) ns
-ranked_in-live j n k (y ∷ ys) ns = elim (leb y.1 (suc n)) as (λ b. cond b ((j, suc n) ∷ y ∷ (ys ++ zeros k ns)) (y ∷ ranked_in (j, suc n) (ys ++ zeros k ns)) ≡ cond b ((j, suc n) ∷ y ∷ ys) (y ∷ ranked_in (j, suc n) ys) ++ zeros k ns) [
-  | true ↦ refl
-  | false ↦ ap (λ z. y ∷ z) (ranked_in-live j n k ys ns)
-]
+ranked_in-live j n k (y ∷ ys) ns = elim (leb y.1 (suc n)) as (λ b. cond b ((j, suc n) ∷ y ∷ (ys ++ zeros k ns)) (y ∷ ranked_in (j, suc n) (ys ++ zeros k ns))
+    ≡ cond b ((j, suc n) ∷ y ∷ ys) (y ∷ ranked_in (j, suc n) ys) ++ zeros k ns) [
+      | true ↦ refl
+      | false ↦ ap (λ z. y ∷ z) (ranked_in-live j n k ys ns)
+    ]
 
 ranked_in-zero : (j k : ℕ) (xs : List (ℕ × ℕ)) (ns : List ℕ) → AllLive xs → ranked_in (j, 0) (xs ++ zeros k ns) ≡ xs ++ (j, 0) ∷ zeros k ns
 ranked_in-zero j k [] ns all = before_zeros k j 0 ns

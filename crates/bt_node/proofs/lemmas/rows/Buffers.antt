@@ -24,18 +24,19 @@ module _ {M : Type 0} where
 module _ {V M : Type 0} (effect : Option V → M → Option V) where
   value-with_message : (q : Key) (m : Key × M) (b : Messages M) (o : Option V) → IsSorted b → value_after effect q (with_message m b) o ≡ value_after effect q (m ∷ []) (value_after effect q b o)
   value-with_message q m [] o r = refl
-  value-with_message q m (e ∷ es) o r = elim (is_before m.0 e.0) as (λ t. is_before m.0 e.0 ≡ t → value_after effect q (cond t (m ∷ e ∷ es) (e ∷ with_message m es)) o ≡ value_after effect q (m ∷ []) (value_after effect q (e ∷ es) o)) [
-    | true ↦ λ t.
-        elim (eq_by_cmp key_cmp q m.0) as (λ b. eq_by_cmp key_cmp q m.0 ≡ b →
-        value_after effect q (e ∷ es) (cond b (effect o m.1) o) ≡ cond b (effect (value_after effect q (e ∷ es) o) m.1) (value_after effect q (e ∷ es) o)) [
-          | true ↦ λ is.
-              let low = ap (λ k. is_before k e.0) (same_key q m.0 is) ∙ t in
-              let all : AllWithin (Some e.0) None (e ∷ es) = (record { from = not_before_itself e.0; below = refl }, all_within-from e.0 es r.0) in
-              value-above effect q e.0 None (e ∷ es) _ low all ∙ ap (λ x. effect x m.1) (sym (value-above effect q e.0 None (e ∷ es) o low all))
-          | false ↦ λ is. refl
-        ] refl
-    | false ↦ λ t. value-with_message q m es _ r.1
-  ] refl
+  value-with_message q m (e ∷ es) o r = elim (is_before m.0 e.0) as (λ t. is_before m.0 e.0 ≡ t
+      → value_after effect q (cond t (m ∷ e ∷ es) (e ∷ with_message m es)) o ≡ value_after effect q (m ∷ []) (value_after effect q (e ∷ es) o)) [
+        | true ↦ λ t.
+            elim (eq_by_cmp key_cmp q m.0) as (λ b. eq_by_cmp key_cmp q m.0 ≡ b →
+            value_after effect q (e ∷ es) (cond b (effect o m.1) o) ≡ cond b (effect (value_after effect q (e ∷ es) o) m.1) (value_after effect q (e ∷ es) o)) [
+              | true ↦ λ is.
+                  let low = ap (λ k. is_before k e.0) (same_key q m.0 is) ∙ t in
+                  let all : AllWithin (Some e.0) None (e ∷ es) = (record { from = not_before_itself e.0; below = refl }, all_within-from e.0 es r.0) in
+                  value-above effect q e.0 None (e ∷ es) _ low all ∙ ap (λ x. effect x m.1) (sym (value-above effect q e.0 None (e ∷ es) o low all))
+              | false ↦ λ is. refl
+            ] refl
+        | false ↦ λ t. value-with_message q m es _ r.1
+      ] refl
 
   -- the messages of the buffer have their effect, and then those of the packet
   pub value-with_messages : (q : Key) (p b : Messages M) (o : Option V) → IsSorted b → value_after effect q (with_messages p b) o ≡ value_after effect q p (value_after effect q b o)

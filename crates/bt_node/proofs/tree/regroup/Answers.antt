@@ -31,12 +31,14 @@ pub returns-clause-fits : goal.returns-clause-fits
 returns-clause-fits g c =
     let roomy : IsRoomy c.args.shape = search (has_room, rules) in
     let sorted = concatenation_sorted _ c.args.bins c.requires.divided in
-    IfOk-weaker c.close.result _ _ (λ nodes is. fit_above (weigh_of g.V.Merge.terms) c.args.shape roomy c.args.siblings (concatenation c.args.bins) c.requires.several sorted nodes is c.requires.capacity)
+    IfOk-weaker c.close.result _ _ (λ nodes is. fit_above (weigh_of g.V.Merge.terms) c.args.shape roomy c.args.siblings (concatenation c.args.bins)
+    c.requires.several sorted nodes is c.requires.capacity)
     (returns-clause-nodes g c)
 
 pub returns-clause-rows : goal.returns-clause-rows
 returns-clause-rows g c =
     let roomy : IsRoomy c.args.shape = search (has_room, rules) in
     let sorted = concatenation_sorted _ c.args.bins c.requires.divided in
-    IfOk-weaker c.close.result _ _ (λ nodes is. hold_all_after (weigh_of g.V.Merge.terms) c.args.shape roomy c.args.siblings (concatenation c.args.bins) c.requires.several sorted nodes is (effect_of g.V.Merge.terms.merged))
+    IfOk-weaker c.close.result _ _ (λ nodes is. hold_all_after (weigh_of g.V.Merge.terms) c.args.shape roomy c.args.siblings (concatenation c.args.bins)
+    c.requires.several sorted nodes is (effect_of g.V.Merge.terms.merged))
     (returns-clause-nodes g c)

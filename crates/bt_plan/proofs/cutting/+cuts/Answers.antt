@@ -23,7 +23,8 @@ use Rattle.bt_plan.proofs.cutting.+cuts.Goals as goal
 pub cut_inner-cut_children-requires : goal.cut_inner-cut_children-requires
 cut_inner-cut_children-requires g t c κs within =
     let apart = c.apart-nodes.ensures in
-    let opening = is_open c.args.at.now.mode c.args.stream.now c.args.count c.in-Opens.is c.in_ok-node.ensures c.requires.lie c.requires.sized apart.nodes apart.pivots apart.bins c.as_slice-2.ensures.value c.as_slice.ensures.value in
+    let opening = is_open c.args.at.now.mode c.args.stream.now c.args.count c.in-Opens.is c.in_ok-node.ensures c.requires.lie c.requires.sized apart.nodes
+    apart.pivots apart.bins c.as_slice-2.ensures.value c.as_slice.ensures.value in
     let most : c.args.at.now.shape.fanout ≤ LARGEST_FANOUT = omega (arith, c.fanout-most.ensures.value, c.fanout-most.ensures.range.1) in (
       omega (arith, c.decreases),
       (
@@ -53,7 +54,8 @@ cut_inner-cut_children-requires g t c κs within =
 pub cut_inner-opened-requires : goal.cut_inner-opened-requires
 cut_inner-opened-requires g t c =
     let apart = c.apart-nodes.ensures in
-    let opening = is_open c.args.at.now.mode c.args.stream.now c.args.count c.in-Opens.is c.in_ok-node.ensures c.requires.lie c.requires.sized apart.nodes apart.pivots apart.bins c.as_slice-2.ensures.value c.as_slice.ensures.value in
+    let opening = is_open c.args.at.now.mode c.args.stream.now c.args.count c.in-Opens.is c.in_ok-node.ensures c.requires.lie c.requires.sized apart.nodes
+    apart.pivots apart.bins c.as_slice-2.ensures.value c.as_slice.ensures.value in
     let cut = c.in_ok-children.ensures in
     record {
       one_fewer = ap length cut.children ∙ length-map _ (with_holes hole_of) ∙ cuts_long opening c.args.at.now.depth (node_place c.args.at.now.place);
@@ -63,11 +65,13 @@ cut_inner-opened-requires g t c =
 pub cut_inner-returns : goal.cut_inner-returns
 cut_inner-returns g t c =
     let apart = c.apart-nodes.ensures in
-    let opening = is_open c.args.at.now.mode c.args.stream.now c.args.count c.in-Opens.is c.in_ok-node.ensures c.requires.lie c.requires.sized apart.nodes apart.pivots apart.bins c.as_slice-2.ensures.value c.as_slice.ensures.value in
+    let opening = is_open c.args.at.now.mode c.args.stream.now c.args.count c.in-Opens.is c.in_ok-node.ensures c.requires.lie c.requires.sized apart.nodes
+    apart.pivots apart.bins c.as_slice-2.ensures.value c.as_slice.ensures.value in
     let cut = c.in_ok-children.ensures in
     let place = node_place c.args.at.now.place in
     record {
-      holed = c.opened.ensures ∙ (λ i. opened (holed_nodes (with_pivots c.apart-nodes.result.1.items (cut.children i))) (concatenation (cut.bins i))) ∙ node-with_holes opening c.args.at.now.depth place;
+      holed = c.opened.ensures ∙ (λ i. opened (holed_nodes (with_pivots c.apart-nodes.result.1.items (cut.children i))) (concatenation (cut.bins i)))
+          ∙ node-with_holes opening c.args.at.now.depth place;
       jobs = cut.jobs ∙ ap (λ js. map job_of c.args.jobs.now.items ++ js) (node-jobs opening c.args.at.now.depth place);
       left = cut.left ∙ rest_left opening;
     }
@@ -114,7 +118,19 @@ cut_children-cut_child-requires g t c κs within =
     let steps = c.in-Some.ensures.steps.0 in
     let here : number < length shares = omega (arith, ap length steps, known.number, c.requires.shares) in (
       omega (arith, c.decreases),
-      (within.0, (within.1, ((subst (AreSizedNodes weigh c.args.at.now.shape) steps known.sized).0, (omega (arith, ap (λ (p : Place). length p.path) c.child.ensures, length-append c.args.at.now.place.path.items (number ∷ []), c.requires.path), (share_at weigh shares number no_share c.loop-node.stream _ here refl known.weighed).0)))),
+      (
+        within.0,
+        (
+          within.1,
+          (
+            (subst (AreSizedNodes weigh c.args.at.now.shape) steps known.sized).0,
+            (
+              omega (arith, ap (λ (p : Place). length p.path) c.child.ensures, length-append c.args.at.now.place.path.items (number ∷ []), c.requires.path),
+              (share_at weigh shares number no_share c.loop-node.stream _ here refl known.weighed).0,
+            ),
+          ),
+        ),
+      ),
     )
 
 -- ---- a node that is cut
@@ -130,7 +146,19 @@ cut_node-cut_inner-requires-in-Inner g t c κs within =
     let here = c.in-Inner.ensures in
     let some : 1 ≤ c.args.at.depth = search rules in (
       omega (arith, some, c.decreases),
-      (within.0, (within.1, (here.1, (subst (IsSized (weigh_of g.V.Merge.terms) c.args.at.shape) here.0 c.requires.sized, (omega (arith, some, c.requires.path), omega (arith, c.len-count.ensures.len)))))),
+      (
+        within.0,
+        (
+          within.1,
+          (
+            here.1,
+            (
+              subst (IsSized (weigh_of g.V.Merge.terms) c.args.at.shape) here.0 c.requires.sized,
+              (omega (arith, some, c.requires.path), omega (arith, c.len-count.ensures.len)),
+            ),
+          ),
+        ),
+      ),
     )
 
 pub cut_node-returns-in-Leaf : goal.cut_node-returns-in-Leaf

@@ -14,11 +14,16 @@ use Rattle.bt_plan.proofs.cutting.+cuts.Given as goal
 -- the children so far, and then those that are left with their pending messages
 abbrev pub invariant-cut_children-loop-node : goal.invariant-cut_children-loop-node
 invariant-cut_children-loop-node g l = record {
-  children : l.children.items ++ map (with_holes hole_of) (cut_each (weigh_of g.V.Merge.terms) l.at.depth l.at.mode l.at.shape (node_place l.at.place) l.number l.node-iterator.rest.items (each_with (parted (counts (drop l.number l.shares)) l.stream) (into_iter_items l.buffers)) (drop l.number l.marks))
-      ≡ map (with_holes hole_of) (cut_each (weigh_of g.V.Merge.terms) l.fn.at.depth l.fn.at.mode l.fn.at.shape (node_place l.fn.at.place) 0 l.fn.nodes.items (each_with (parted (counts l.fn.shares) l.fn.stream) l.fn.buffers.items) l.fn.marks);
-  kept : l.kept.items ++ kept_bins (each_with (parted (counts (drop l.number l.shares)) l.stream) (into_iter_items l.buffers)) (drop l.number l.marks) ≡ kept_bins (each_with (parted (counts l.fn.shares) l.fn.stream) l.fn.buffers.items) l.fn.marks;
-  jobs : map job_of l.jobs.items ++ flat_map holes (cut_each (weigh_of g.V.Merge.terms) l.at.depth l.at.mode l.at.shape (node_place l.at.place) l.number l.node-iterator.rest.items (each_with (parted (counts (drop l.number l.shares)) l.stream) (into_iter_items l.buffers)) (drop l.number l.marks))
-      ≡ map job_of l.fn.jobs.items ++ flat_map holes (cut_each (weigh_of g.V.Merge.terms) l.fn.at.depth l.fn.at.mode l.fn.at.shape (node_place l.fn.at.place) 0 l.fn.nodes.items (each_with (parted (counts l.fn.shares) l.fn.stream) l.fn.buffers.items) l.fn.marks);
+  children : l.children.items ++ map (with_holes hole_of) (cut_each (weigh_of g.V.Merge.terms) l.at.depth l.at.mode l.at.shape (node_place l.at.place) l.number
+      l.node-iterator.rest.items (each_with (parted (counts (drop l.number l.shares)) l.stream) (into_iter_items l.buffers)) (drop l.number l.marks))
+      ≡ map (with_holes hole_of) (cut_each (weigh_of g.V.Merge.terms) l.fn.at.depth l.fn.at.mode l.fn.at.shape (node_place l.fn.at.place) 0 l.fn.nodes.items
+      (each_with (parted (counts l.fn.shares) l.fn.stream) l.fn.buffers.items) l.fn.marks);
+  kept : l.kept.items ++ kept_bins (each_with (parted (counts (drop l.number l.shares)) l.stream) (into_iter_items l.buffers)) (drop l.number l.marks)
+      ≡ kept_bins (each_with (parted (counts l.fn.shares) l.fn.stream) l.fn.buffers.items) l.fn.marks;
+  jobs : map job_of l.jobs.items ++ flat_map holes (cut_each (weigh_of g.V.Merge.terms) l.at.depth l.at.mode l.at.shape (node_place l.at.place) l.number
+      l.node-iterator.rest.items (each_with (parted (counts (drop l.number l.shares)) l.stream) (into_iter_items l.buffers)) (drop l.number l.marks))
+      ≡ map job_of l.fn.jobs.items ++ flat_map holes (cut_each (weigh_of g.V.Merge.terms) l.fn.at.depth l.fn.at.mode l.fn.at.shape (node_place l.fn.at.place) 0
+      l.fn.nodes.items (each_with (parted (counts l.fn.shares) l.fn.stream) l.fn.buffers.items) l.fn.marks);
   left : drop (total (counts (drop l.number l.shares))) l.stream ≡ drop (total (counts l.fn.shares)) l.fn.stream;
   weighed : AreShares (weigh_of g.V.Merge.terms) l.stream (drop l.number l.shares);
   number : l.number + length l.node-iterator.rest.items ≡ length l.fn.nodes.items;

@@ -19,7 +19,8 @@ loop-at-preserved c =
     let line = read.result.0.now in
     read-more c.args.script.now c.args.start c.loop-at.at (codes "go") _ c.loop-at.invariant read.result.1 line c.without_return-line.result.now c.is_word.result _ read.ensures.line
     (read.ensures.past, read.ensures.within) c.without_return-line.ensures c.is_word.ensures c.if-is_word.false (λ block made.
-    c.and_bound-bounds.ensures ∙ ap (and_bound c.loop-at.bounds) c.without_return-line.ensures ∙ ap (λ (bounds : Option Bounds). and_bound bounds (without_return line)) made ∙ sym (bounds-more block line))
+    c.and_bound-bounds.ensures ∙ ap (and_bound c.loop-at.bounds) c.without_return-line.ensures
+    ∙ ap (λ (bounds : Option Bounds). and_bound bounds (without_return line)) made ∙ sym (bounds-more block line))
 
 pub returns-then-is_word-clause-block : goal.returns-then-is_word-clause-block
 returns-then-is_word-clause-block c =

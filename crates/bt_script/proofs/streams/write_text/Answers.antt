@@ -24,7 +24,8 @@ loop-at-preserved g c =
     let taken = c.in-Ok.taken in
     let text = c.args.text.now in
     let last = take taken (take (length text - at) (drop at text)) in
-    let took : Took g.W.Write.contents c.loop-at.writer c.write.new.self last = (c.in-Ok.ensures.bytes, counted c.loop-at.writer c.write.new.self taken last (taken_of at taken text c.in-Ok.ensures.bound) c.in-Ok.ensures.count) in
+    let took : Took g.W.Write.contents c.loop-at.writer c.write.new.self last =
+    (c.in-Ok.ensures.bytes, counted c.loop-at.writer c.write.new.self taken last (taken_of at taken text c.in-Ok.ensures.bound) c.in-Ok.ensures.count) in
     let both = Took-trans g.W.Write.contents c.args.writer.now c.loop-at.writer c.write.new.self (take at text) last c.loop-at.invariant.so_far took in
     record {
       within = search rules;

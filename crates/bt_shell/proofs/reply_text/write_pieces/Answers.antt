@@ -14,7 +14,8 @@ returns-in_err-write_text-clause-err g c =
     let i = c.loop-piece.piece-index in
     let new = c.write_text.new.writer in
     on_err c.from_residual.result _
-    (writing_breaks held c.args.writer.now c.loop-piece.writer new (text_of_pieces pieces) (text_of_pieces (drop i pieces)) piece.items (text_of_pieces (drop (i + 1) pieces)) c.loop-piece.invariant.so_far
+    (writing_breaks held c.args.writer.now c.loop-piece.writer new (text_of_pieces pieces) (text_of_pieces (drop i pieces)) piece.items
+    (text_of_pieces (drop (i + 1) pieces)) c.loop-piece.invariant.so_far
     (piece_next pieces i piece (omega arith) c.piece-item.is) (subst (TookPrefix held c.loop-piece.writer new) c.as_slice.ensures.value c.in_err-write_text.ensures.err))
 
 pub loop-piece-preserved : goal.loop-piece-preserved
@@ -26,6 +27,7 @@ loop-piece-preserved g c =
     let new = c.write_text.new.writer in
     record {
       healthy = c.in_ok-write_text.ensures.healthy ∙ c.loop-piece.invariant.healthy;
-      so_far = writing_goes_on held c.args.writer.now c.loop-piece.writer new (text_of_pieces pieces) (text_of_pieces (drop i pieces)) piece.items (text_of_pieces (drop (i + 1) pieces)) c.loop-piece.invariant.so_far
+      so_far = writing_goes_on held c.args.writer.now c.loop-piece.writer new (text_of_pieces pieces) (text_of_pieces (drop i pieces)) piece.items
+          (text_of_pieces (drop (i + 1) pieces)) c.loop-piece.invariant.so_far
           (piece_next pieces i piece (omega arith) c.piece-item.is) (subst (Took held c.loop-piece.writer new) c.as_slice.ensures.value c.in_ok-write_text.ensures.ok);
     }

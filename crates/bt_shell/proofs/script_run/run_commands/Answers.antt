@@ -34,7 +34,8 @@ returns-in_err-reply-clause-lost g c =
 
 pub returns-in_err-reply-clause-sound : goal.returns-in_err-reply-clause-sound
 returns-in_err-reply-clause-sound g c =
-    left_keeps_sound c.args.table.now c.next_reply.new.table (commands c.args.script.now) _ c.soundness.ensures (left_later c.commands.invariant.so_far c.next_reply.new.table c.in_err-reply.ensures.left)
+    left_keeps_sound c.args.table.now c.next_reply.new.table (commands c.args.script.now) _ c.soundness.ensures
+    (left_later c.commands.invariant.so_far c.next_reply.new.table c.in_err-reply.ensures.left)
 
 pub returns-in_err-reply-clause-complete : goal.returns-in_err-reply-clause-complete
 returns-in_err-reply-clause-complete g c = hold_unless_lost c.next_reply.new.table (returns-in_err-reply-clause-sound g c)
@@ -87,7 +88,8 @@ commands-preserved g c =
 pub returns-in_err-flush_output-clause-err : goal.returns-in_err-flush_output-clause-err
 returns-in_err-flush_output-clause-err g c =
     let script = c.args.script.now in
-    let so_far = run_prefix g.W.Write.contents c.args.writer.now c.args.table.now c.commands.writer c.commands.table (commands script) (commands (drop c.commands.at script)) c.commands.invariant.so_far in
+    let so_far = run_prefix g.W.Write.contents c.args.writer.now c.args.table.now c.commands.writer c.commands.table (commands script)
+    (commands (drop c.commands.at script)) c.commands.invariant.so_far in
     on_err c.from_residual-in_err-flush_output.result _
     (so_far.0, Took-kept g.W.Write.contents c.args.writer.now c.commands.writer c.flush_output.new.writer _ so_far.1 c.flush_output.ensures.bytes c.flush_output.ensures.count)
 

@@ -16,7 +16,8 @@ returns-in_err-def-clause-answer c =
     let filter : option_copied c.as_ref.result ≡ form.filter = search rules in
     let made = subst (λ f. Answers (definition_as schema form.on form.include f) c.new-def.result) filter c.new-def.ensures.answer in
     answers_on_err _ c.from_residual-in_err-def.result refusal c.from_residual-in_err-def.ensures.1
-    (defined c.args.table.now schema form c.check_index-free.result c.new-def.result (Err refusal) c.in_ok-schema.ensures.schema c.check_index-free.ensures.free c.check_index-free.ensures.refused made c.in_err-def.ensures.answer)
+    (defined c.args.table.now schema form c.check_index-free.result c.new-def.result (Err refusal) c.in_ok-schema.ensures.schema
+    c.check_index-free.ensures.free c.check_index-free.ensures.refused made c.in_err-def.ensures.answer)
 
 pub returns-clause-answer : goal.returns-clause-answer
 returns-clause-answer c =
@@ -24,7 +25,8 @@ returns-clause-answer c =
     let form = c.args.form.now in
     let filter : option_copied c.as_ref.result ≡ form.filter = search rules in
     let made = subst (λ f. Answers (definition_as schema form.on form.include f) c.new-def.result) filter c.new-def.ensures.answer in
-    defined c.args.table.now schema form c.check_index-free.result c.new-def.result (Ok (c.in_ok-def.field-0-0, c.in_ok-def.def)) c.in_ok-schema.ensures.schema c.check_index-free.ensures.free c.check_index-free.ensures.refused made c.in_ok-def.ensures.answer
+    defined c.args.table.now schema form c.check_index-free.result c.new-def.result (Ok (c.in_ok-def.field-0-0, c.in_ok-def.def)) c.in_ok-schema.ensures.schema
+    c.check_index-free.ensures.free c.check_index-free.ensures.refused made c.in_ok-def.ensures.answer
 
 pub returns-clause-suits : goal.returns-clause-suits
 returns-clause-suits c =

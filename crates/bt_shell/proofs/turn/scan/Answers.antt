@@ -20,7 +20,8 @@ returns g c =
     let text = c.in_ok-into_reply.field-0 in
     let shown : map_ok (fold (with_line (λ row. row_line row.1)) none) (scan_with_keys state name bounds.from bounds.to) ≡ Ok lines = search rules in
     let wanted : map_ok scan_reply (scan state name bounds.from bounds.to) ≡ Ok text =
-    replied row_line (codes "rows ") (scan state name bounds.from bounds.to) none lines text c.in_room.ensures (sym (without_keys (with_line row_line) none state name bounds.from bounds.to) ∙ shown) c.in_ok-into_reply.ensures in
+    replied row_line (codes "rows ") (scan state name bounds.from bounds.to) none lines text c.in_room.ensures
+    (sym (without_keys (with_line row_line) none state name bounds.from bounds.to) ∙ shown) c.in_ok-into_reply.ensures in
     search (rules, ap (read_outcome state) wanted)
 
 pub returns-in_err-lines : goal.returns-in_err-lines
@@ -33,5 +34,6 @@ returns-in_err-lines g c =
     let refusal = c.in_err-lines.field-0.0 in
     let told : refusal ≢ OutOfMemory → map_ok (fold (with_line (λ row. row_line row.1)) none) (scan_with_keys state name bounds.from bounds.to) ≡ Err refusal = search rules in
     let wanted : refusal ≢ OutOfMemory → outcome (Some state) (Scan name bounds) ≡ Err refusal =
-    λ certain. ap (read_outcome state) (refused (fold (with_line row_line) none) scan_reply answer refusal (sym (without_keys (with_line row_line) none state name bounds.from bounds.to) ∙ told certain)) in
+    λ certain. ap (read_outcome state) (refused (fold (with_line row_line) none) scan_reply answer refusal
+    (sym (without_keys (with_line row_line) none state name bounds.from bounds.to) ∙ told certain)) in
     search (rules, wanted)

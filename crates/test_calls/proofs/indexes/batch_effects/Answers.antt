@@ -11,5 +11,6 @@ use Rattle.test_calls.proofs.indexes.batch_effects.Goals as goal
 pub returns : goal.returns
 returns c def suits keys =
     let packet = c.in_ok-packet.ensures.messages ∙ ap sorted_batch c.in_ok-batch.ensures in
-    let found = c.in_ok-found.ensures ∙ effects-whole c.in_ok-packet.packet (holds row_effect c.in_ok-tree.tree.1) ∙ ap (λ p. effects_of p (holds row_effect c.in_ok-tree.tree.1)) packet ∙ ap (effects_of (sorted_batch batch)) c.in_ok-tree.ensures in
+    let found = c.in_ok-found.ensures ∙ effects-whole c.in_ok-packet.packet (holds row_effect c.in_ok-tree.tree.1)
+    ∙ ap (λ p. effects_of p (holds row_effect c.in_ok-tree.tree.1)) packet ∙ ap (effects_of (sorted_batch batch)) c.in_ok-tree.ensures in
     subst (All (SuitsEffect def)) (sym found) (suits_batch def keys suits)

@@ -15,4 +15,5 @@ invariant-loop-number g l = AreRun (meaning_of g.V.Merge.terms) l.shape l.fn.job
 -- there is no piece at the places so far
 abbrev pub invariant-loop-place : goal.invariant-loop-place
 invariant-loop-place g l =
-    Each (λ p. find node_place_cmp p (pieces_of l.pieces.items) ≡ None) (map node_place (drop l.place-index l.place-items)) → Each (λ p. find node_place_cmp p (pieces_of l.pieces.items) ≡ None) (map node_place l.place-items)
+    Each (λ p. find node_place_cmp p (pieces_of l.pieces.items) ≡ None) (map node_place (drop l.place-index l.place-items))
+    → Each (λ p. find node_place_cmp p (pieces_of l.pieces.items) ≡ None) (map node_place l.place-items)

@@ -10,13 +10,15 @@ run_all-requires g c =
     let roomy : IsRoomy c.shape-shape.result = record { fanout = search rules; leaf = search rules } in
     let cut = c.in_ok-holed.ensures in
     turned-in_order c.in_ok-holed.jobs.items c.turned.result.items c.turned.ensures
-    (cut-in_order (meaning_of g.V.Merge.terms) c.shape-shape.result roomy c.in_ok-holed.holed c.in_ok-holed.jobs.items c.args.tree c.shape-shape.ensures 0 c.args.packet c.args.depth c.args.mode cut.pieces cut.stand cut.rise)
+    (cut-in_order (meaning_of g.V.Merge.terms) c.shape-shape.result roomy c.in_ok-holed.holed c.in_ok-holed.jobs.items c.args.tree c.shape-shape.ensures 0
+    c.args.packet c.args.depth c.args.mode cut.pieces cut.stand cut.rise)
 
 pub fill-requires : goal.fill-requires
 fill-requires g c =
     let roomy : IsRoomy c.shape-shape.result = record { fanout = search rules; leaf = search rules } in
     let cut = c.in_ok-holed.ensures in
-    cut-turned (meaning_of g.V.Merge.terms) c.shape-shape.result roomy c.in_ok-holed.holed c.in_ok-holed.jobs.items c.args.tree c.shape-shape.ensures 0 c.args.packet c.args.depth c.args.mode cut.pieces cut.stand cut.rise
+    cut-turned (meaning_of g.V.Merge.terms) c.shape-shape.result roomy c.in_ok-holed.holed c.in_ok-holed.jobs.items c.args.tree c.shape-shape.ensures 0
+    c.args.packet c.args.depth c.args.mode cut.pieces cut.stand cut.rise
     c.turned.result.items c.turned.ensures _ c.in-Ok.ensures
 
 pub crown-requires : goal.crown-requires

@@ -9,6 +9,7 @@ use Rattle.test_cuts.proofs.pieces.run_all.Given as goal
 -- the results of the jobs so far, followed by those of the jobs that are left
 abbrev pub invariant-loop-job : goal.invariant-loop-job
 invariant-loop-job g l = record {
-  done : pieces_of l.pieces.items ++ outcomes (meaning_of g.V.Merge.terms) l.shape (map job_of l.job-iterator.rest.items) ≡ outcomes (meaning_of g.V.Merge.terms) l.fn.shape (map job_of l.fn.jobs.items);
+  done : pieces_of l.pieces.items ++ outcomes (meaning_of g.V.Merge.terms) l.shape (map job_of l.job-iterator.rest.items)
+      ≡ outcomes (meaning_of g.V.Merge.terms) l.fn.shape (map job_of l.fn.jobs.items);
   in_order : AreInOrder l.job-iterator.rest.items;
 }

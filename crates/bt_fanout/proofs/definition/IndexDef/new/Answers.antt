@@ -8,4 +8,5 @@ pub returns-clause-suits : goal.returns-clause-suits
 returns-clause-suits c =
     let keys = c.keys.ensures.value in
     let within = c.keys.ensures.within in
-    parts_suit c.columns.result.now c.args.schema.now.columns (map string_bytes c.as_slice.result.now) (map string_bytes c.as_slice-2.result.now) (option_copied c.args.filter) _ _ c.keys.result c.columns.ensures (omega (arith, keys, within)) c.in_ok-condition.ensures.answer
+    parts_suit c.columns.result.now c.args.schema.now.columns (map string_bytes c.as_slice.result.now) (map string_bytes c.as_slice-2.result.now)
+    (option_copied c.args.filter) _ _ c.keys.result c.columns.ensures (omega (arith, keys, within)) c.in_ok-condition.ensures.answer

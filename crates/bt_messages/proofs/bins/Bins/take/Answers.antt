@@ -10,4 +10,5 @@ overflow_sub-self g c =
 pub invariant_of-self : goal.invariant_of-self
 invariant_of-self g c =
     let below : c.args.child < length c.self.inside.bins.items = rw c.self.view_is c.requires in
-    (held-emptied c.self.inside.bins.items c.args.child c.index.result.now c.take.new.self c.self.inside.count c.count.result below c.index.ensures c.count.ensures.count c.take.ensures.left c.self.invariant).1
+    (held-emptied c.self.inside.bins.items c.args.child c.index.result.now c.take.new.self c.self.inside.count c.count.result below c.index.ensures
+    c.count.ensures.count c.take.ensures.left c.self.invariant).1

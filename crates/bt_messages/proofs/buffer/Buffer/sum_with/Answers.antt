@@ -19,4 +19,5 @@ overflow_add-result g c =
 
 pub returns : goal.returns
 returns g c = rw (← c.self.view_is) (λ ms h.
-    sum-both (weigh_of g.V.Merge.terms) ms c.self.inside.messages.items c.in_ok-more.more c.in_ok-self.field-0 c.args.share.weight c.self.inside.sum c.in_ok-more.was c.in_ok-self.was c.self.invariant.kept h)
+    sum-both (weigh_of g.V.Merge.terms) ms c.self.inside.messages.items c.in_ok-more.more c.in_ok-self.field-0 c.args.share.weight c.self.inside.sum
+    c.in_ok-more.was c.in_ok-self.was c.self.invariant.kept h)

@@ -46,9 +46,11 @@ placed g c =
     let next : runs ≡ suc last = omega (arith, some) in
     let led : c.len.result ≡ length first = search rules in
     let run : c.index.result.now ≡ get_or rest last [] = c.index.ensures ∙ any_default rest last c.index.result.now [] within in
-    let place : c.len.result + c.count_of-before.result + c.count_before-2.result ≡ length first + length (concatenation (take last rest)) + c.count_before-2.result = omega (arith, led, c.count_of-before.ensures) in
+    let place : c.len.result + c.count_of-before.result + c.count_before-2.result
+    ≡ length first + length (concatenation (take last rest)) + c.count_before-2.result = omega (arith, led, c.count_of-before.ensures) in
     placed_run key first rest last runs c.count_before-2.result (c.len.result + c.count_of-before.result + c.count_before-2.result) c.index.result.now
-    c.self.invariant.sorted within (c.runs_before-runs.ensures.last some) next c.runs_before-runs.ensures.from run c.count_before-2.ensures.bound c.count_before-2.ensures.before c.count_before-2.ensures.from place
+    c.self.invariant.sorted within (c.runs_before-runs.ensures.last some) next c.runs_before-runs.ensures.from run c.count_before-2.ensures.bound
+    c.count_before-2.ensures.before c.count_before-2.ensures.from place
 
 pub returns-clause-before : goal.returns-clause-before
 returns-clause-before g c = rw (← c.self.view_is) (placed g c).0

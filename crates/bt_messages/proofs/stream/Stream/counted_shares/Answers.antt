@@ -13,17 +13,25 @@ loop-pivot-preserved g c =
       parts = counted_keys c.args.pivots.now c.loop-pivot.pivot-index _ _ _ _ _ c.args.count c.args.self.now _
           c.loop-pivot-test.true c.pivot-item.is c.loop-pivot.invariant.total c.place_within-place.ensures.low more
           c.place_within-place.ensures.before c.place_within-place.ensures.from c.loop-pivot.invariant.parts;
-      total = omega (arith, ap total more, total-push (counts c.loop-pivot.shares.items) (c.place_within-place.result - c.loop-pivot.from), c.loop-pivot.invariant.total, c.place_within-place.ensures.low);
+      total = omega (
+        arith,
+        ap total more,
+        total-push (counts c.loop-pivot.shares.items) (c.place_within-place.result - c.loop-pivot.from),
+        c.loop-pivot.invariant.total,
+        c.place_within-place.ensures.low,
+      );
       bound = c.place_within-place.ensures.high;
       len = grind (arith, common_steps);
-      counted = one_counted c.loop-pivot.shares.items c.push_reserved.new.self.items c.new.result c.push_reserved.ensures.items (c.place_within-place.result - c.loop-pivot.from) c.new.ensures c.loop-pivot.invariant.counted;
+      counted = one_counted c.loop-pivot.shares.items c.push_reserved.new.self.items c.new.result c.push_reserved.ensures.items
+          (c.place_within-place.result - c.loop-pivot.from) c.new.ensures c.loop-pivot.invariant.counted;
     }
 
 pub returns-clause-parts : goal.returns-clause-parts
 returns-clause-parts g c =
     counted_all _ _ _ c.loop-pivot.from c.args.count c.args.self.now _
     (drop_all c.loop-pivot.pivot-index c.args.pivots.now (omega (arith, c.loop-pivot-test.false))) c.loop-pivot.invariant.total c.loop-pivot.invariant.bound
-    (counts-push c.loop-pivot.shares.items c.push_reserved-2.new.self.items c.new-2.result c.push_reserved-2.ensures.items (c.args.count - c.loop-pivot.from) c.new-2.ensures) c.loop-pivot.invariant.parts
+    (counts-push c.loop-pivot.shares.items c.push_reserved-2.new.self.items c.new-2.result c.push_reserved-2.ensures.items (c.args.count - c.loop-pivot.from)
+    c.new-2.ensures) c.loop-pivot.invariant.parts
 
 pub returns-clause-total : goal.returns-clause-total
 returns-clause-total g c =
@@ -32,4 +40,5 @@ returns-clause-total g c =
 
 pub returns-clause-counted : goal.returns-clause-counted
 returns-clause-counted g c =
-    one_counted c.loop-pivot.shares.items c.push_reserved-2.new.self.items c.new-2.result c.push_reserved-2.ensures.items (c.args.count - c.loop-pivot.from) c.new-2.ensures c.loop-pivot.invariant.counted
+    one_counted c.loop-pivot.shares.items c.push_reserved-2.new.self.items c.new-2.result c.push_reserved-2.ensures.items (c.args.count - c.loop-pivot.from)
+    c.new-2.ensures c.loop-pivot.invariant.counted

@@ -18,4 +18,5 @@ returns-clause-first g c =
           let same = ap (λ s. s.first.items ++ concatenation s.rest.items) w.self-inside-is in
           (same, λ none. absurd (omega (arith, none, ap (λ s. length s.first.items) w.self-inside-is, c.self.inside.first.ok, some_there (deque_len c.self.inside.first) w.if-is_empty.ensures)))
     ] in
-    rw (← c.self.view_is) (first_popped _ _ c.pop_front.result whole first c.pop_front.new.self.items rest (deque_len now.first) there.0 c.pop_front.ensures.items there.1 (omega (arith, now.first.ok)) c.pop_front.ensures.cases)
+    rw (← c.self.view_is) (first_popped _ _ c.pop_front.result whole first c.pop_front.new.self.items rest (deque_len now.first) there.0
+    c.pop_front.ensures.items there.1 (omega (arith, now.first.ok)) c.pop_front.ensures.cases)

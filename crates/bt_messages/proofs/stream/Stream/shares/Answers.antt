@@ -34,20 +34,23 @@ pub returns-in-Bytes-clause-parts : goal.returns-in-Bytes-clause-parts
 returns-in-Bytes-clause-parts g c =
     let ns = counts c.in_ok-shares.shares.items in
     let enough : total ns ≤ length c.args.self.now = omega (arith, c.in_ok-shares.ensures.total, c.requires) in
-    let same = counts-weighed (weigh_of g.V.Merge.terms) ns c.args.self.now c.messages.result c.weighed_shares.result.items enough (c.messages.ensures ∙ c.keep_weights.ensures) c.weighed_shares.ensures in
+    let same = counts-weighed (weigh_of g.V.Merge.terms) ns c.args.self.now c.messages.result c.weighed_shares.result.items enough (c.messages.ensures
+    ∙ c.keep_weights.ensures) c.weighed_shares.ensures in
     ap (λ ks. parted ks c.args.self.now) same ∙ c.in_ok-shares.ensures.parts
 
 pub returns-in-Bytes-clause-total : goal.returns-in-Bytes-clause-total
 returns-in-Bytes-clause-total g c =
     let ns = counts c.in_ok-shares.shares.items in
     let enough : total ns ≤ length c.args.self.now = omega (arith, c.in_ok-shares.ensures.total, c.requires) in
-    ap total (counts-weighed (weigh_of g.V.Merge.terms) ns c.args.self.now c.messages.result c.weighed_shares.result.items enough (c.messages.ensures ∙ c.keep_weights.ensures) c.weighed_shares.ensures) ∙ c.in_ok-shares.ensures.total
+    ap total (counts-weighed (weigh_of g.V.Merge.terms) ns c.args.self.now c.messages.result c.weighed_shares.result.items enough (c.messages.ensures
+    ∙ c.keep_weights.ensures) c.weighed_shares.ensures) ∙ c.in_ok-shares.ensures.total
 
 pub returns-in-Bytes-clause-len : goal.returns-in-Bytes-clause-len
 returns-in-Bytes-clause-len g c =
     let ns = counts c.in_ok-shares.shares.items in
     let enough : total ns ≤ length c.args.self.now = omega (arith, c.in_ok-shares.ensures.total, c.requires) in
-    let same = counts-weighed (weigh_of g.V.Merge.terms) ns c.args.self.now c.messages.result c.weighed_shares.result.items enough (c.messages.ensures ∙ c.keep_weights.ensures) c.weighed_shares.ensures in
+    let same = counts-weighed (weigh_of g.V.Merge.terms) ns c.args.self.now c.messages.result c.weighed_shares.result.items enough (c.messages.ensures
+    ∙ c.keep_weights.ensures) c.weighed_shares.ensures in
     omega (arith, length-counts c.weighed_shares.result.items, ap length same, length-counts c.in_ok-shares.shares.items, c.in_ok-shares.ensures.len)
 
 pub weighed_shares-requires-clause-bound : goal.weighed_shares-requires-clause-bound

@@ -15,7 +15,8 @@ pub weigh_next-sum-requires-clause-count : goal.weigh_next-sum-requires-clause-c
 weigh_next-sum-requires-clause-count g c =
     let items = c.loop-place.shares.items in
     let within : c.loop-place.place < length items = omega (arith, c.loop-place-test.true, c.len-place-end.ensures, c.args.shares.ok.0, c.loop-place.invariant.len) in
-    weighed-within (weigh_of g.V.Merge.terms) c.args.shares.items items c.loop-place.place c.index.result.now c.loop-place.left within c.index.ensures c.loop-place.invariant.rest c.loop-place.invariant.enough
+    weighed-within (weigh_of g.V.Merge.terms) c.args.shares.items items c.loop-place.place c.index.result.now c.loop-place.left within c.index.ensures
+    c.loop-place.invariant.rest c.loop-place.invariant.enough
 
 pub loop-place-preserved : goal.loop-place-preserved
 loop-place-preserved g c =

@@ -15,7 +15,8 @@ use Rattle.bt_node.specs.Flushes.{flush_in}
 use Rattle.bt_node.specs.Messages.{with_messages}
 use Rattle.bt_node.specs.inside.Flushing.{AreReady, with_shares}
 use Rattle.bt_node.proofs.lemmas.code.FlushLoop.{after_flushed, after_kept, behind_pivot-flushed}
-use Rattle.bt_node.proofs.lemmas.code.OpeningStep.{Enters, among, children_lower, children_ready, grouped_anew, highest, made_divided, made_some, marks_long, pass, shares_gone, shares_long, shares_weighed, stays_here}
+use Rattle.bt_node.proofs.lemmas.code.OpeningStep.{Enters, among, children_lower, children_ready, grouped_anew, highest, made_divided}
+use Rattle.bt_node.proofs.lemmas.code.OpeningStep.{made_some, marks_long, pass, shares_gone, shares_long, shares_weighed, stays_here}
 use Rattle.bt_node.proofs.lemmas.code.Results.{on_ok}
 use Rattle.bt_node.proofs.flush.flushing.+flushes.Goals as goal
 use Rattle.bt_node.proofs.flush.flushing.+flushes.Goals.{flush_marked-in_default-2-via-in-Some+in_default, flush_marked-in_default-2-via-in_default}
@@ -35,7 +36,11 @@ flush-flush_marked-requires g t c κs within =
             shares_weighed meaning entered c.open.new.stream c.in-Opens.opened c.in-Opens.is c.in_ok-node-in-Inner.ensures,
             (
               children_ready meaning entered c.open.new.stream c.in-Opens.opened c.in-Opens.is c.in_ok-node-in-Inner.ensures,
-              (shares_long meaning entered c.open.new.stream c.in-Opens.opened c.in-Opens.is c.in_ok-node-in-Inner.ensures, marks_long meaning entered c.open.new.stream c.in-Opens.opened c.in-Opens.is c.in_ok-node-in-Inner.ensures),
+              (
+                shares_long meaning entered c.open.new.stream c.in-Opens.opened c.in-Opens.is c.in_ok-node-in-Inner.ensures,
+                marks_long meaning entered
+                    c.open.new.stream c.in-Opens.opened c.in-Opens.is c.in_ok-node-in-Inner.ensures,
+              ),
             ),
           ),
         ),
@@ -52,19 +57,23 @@ pub flush-close-requires-clause-divided : goal.flush-close-requires-clause-divid
 flush-close-requires-clause-divided g t c =
     let entered : Enters c.args.mode c.args.shape c.in-Inner.children c.in-Inner.bins c.args.stream.now c.args.count c.args.node =
     record { fanout = search rules; leaf = search rules; here = c.in-Inner.ensures.tree; lie = c.in-Inner.ensures.divided; enough = c.requires.enough; ready = c.requires.ready } in
-    made_divided (meaning_of g.V.Merge.terms) entered c.open.new.stream c.in-Opens.opened c.in-Opens.is c.in_ok-node-in-Inner.ensures c.in_ok-parts-in-Opens.parts c.in_ok-parts-in-Opens.ensures.children
+    made_divided (meaning_of g.V.Merge.terms) entered c.open.new.stream c.in-Opens.opened c.in-Opens.is c.in_ok-node-in-Inner.ensures
+    c.in_ok-parts-in-Opens.parts c.in_ok-parts-in-Opens.ensures.children
 
 pub flush-returns-in-Stays-clause-siblings : goal.flush-returns-in-Stays-clause-siblings
 flush-returns-in-Stays-clause-siblings g t c =
     let entered : Enters c.args.mode c.args.shape c.in-Inner.children c.in-Inner.bins c.args.stream.now c.args.count c.args.node =
     record { fanout = search rules; leaf = search rules; here = c.in-Inner.ensures.tree; lie = c.in-Inner.ensures.divided; enough = c.requires.enough; ready = c.requires.ready } in
-    IfOk-weaker c.with_capacity.result _ _ (λ siblings e. e ∙ stays_here (meaning_of g.V.Merge.terms) entered c.open.new.stream c.in-Stays.node c.in-Stays.is c.in_ok-node-in-Inner.ensures) c.with_capacity.ensures
+    IfOk-weaker c.with_capacity.result _ _ (λ siblings e. e
+    ∙ stays_here (meaning_of g.V.Merge.terms) entered c.open.new.stream c.in-Stays.node c.in-Stays.is c.in_ok-node-in-Inner.ensures) c.with_capacity.ensures
 
 pub flush-returns-in_ok-parts-in-Opens-clause-siblings : goal.flush-returns-in_ok-parts-in-Opens-clause-siblings
 flush-returns-in_ok-parts-in-Opens-clause-siblings g t c =
     let entered : Enters c.args.mode c.args.shape c.in-Inner.children c.in-Inner.bins c.args.stream.now c.args.count c.args.node =
     record { fanout = search rules; leaf = search rules; here = c.in-Inner.ensures.tree; lie = c.in-Inner.ensures.divided; enough = c.requires.enough; ready = c.requires.ready } in
-    IfOk-weaker c.close.result _ _ (λ siblings e. e ∙ grouped_anew (meaning_of g.V.Merge.terms) entered c.open.new.stream c.in-Opens.opened c.in-Opens.is c.in_ok-node-in-Inner.ensures c.in_ok-parts-in-Opens.parts c.in_ok-parts-in-Opens.ensures.children) c.close.ensures
+    IfOk-weaker c.close.result _ _ (λ siblings e. e
+    ∙ grouped_anew (meaning_of g.V.Merge.terms) entered c.open.new.stream c.in-Opens.opened c.in-Opens.is c.in_ok-node-in-Inner.ensures
+    c.in_ok-parts-in-Opens.parts c.in_ok-parts-in-Opens.ensures.children) c.close.ensures
 
 pub flush-returns-in_ok-parts-in-Opens-clause-left : goal.flush-returns-in_ok-parts-in-Opens-clause-left
 flush-returns-in_ok-parts-in-Opens-clause-left g t c =
@@ -102,7 +111,8 @@ flush_marked-loop-pivot-init g t c =
     let shares = c.into_iter-shares.ensures.rest in
     let marks = c.into_iter-marks.ensures.rest in
     record {
-      parts = ap (λ ps. ps ++ passed (zip (with_shares c.into_iter-children.result (counts (into_iter_items c.into_iter-shares.result)) stream) (into_iter_items c.into_iter-marks.result))) c.in_ok-parts.ensures
+      parts = ap (λ ps. ps ++ passed (zip (with_shares c.into_iter-children.result (counts (into_iter_items c.into_iter-shares.result)) stream)
+          (into_iter_items c.into_iter-marks.result))) c.in_ok-parts.ensures
           ∙ ap (λ cs. passed (zip (with_shares cs (counts (into_iter_items c.into_iter-shares.result)) stream) (into_iter_items c.into_iter-marks.result))) children
           ∙ ap (λ ns. passed (zip (with_shares c.args.opened.children (counts ns) stream) (into_iter_items c.into_iter-marks.result))) shares
           ∙ ap (λ bs. passed (zip (with_shares c.args.opened.children (counts c.args.opened.shares.items) stream) bs)) marks;
@@ -128,7 +138,16 @@ pub flush_marked-flush_child-requires : goal.flush_marked-flush_child-requires
 flush_marked-flush_child-requires g t c κs within =
     let before = c.loop-pivot.invariant in (
       omega (arith, (among _ c.next.new.self c.loop-pivot.children _ c.in-Some.ensures before.no_higher).0, c.decreases),
-      (within.0, (within.1, ((subst (AreShares (weigh_of g.V.Merge.terms) c.loop-pivot.stream) c.in-Some-Some.ensures.items before.weighed).0, (subst (AreReady c.args.mode) c.in-Some.ensures before.ready).0))),
+      (
+        within.0,
+        (
+          within.1,
+          (
+            (subst (AreShares (weigh_of g.V.Merge.terms) c.loop-pivot.stream) c.in-Some-Some.ensures.items before.weighed).0,
+            (subst (AreReady c.args.mode) c.in-Some.ensures before.ready).0,
+          ),
+        ),
+      ),
     )
 
 pub flush_marked-loop-pivot-smaller-in-Continue-branch-3 : goal.flush_marked-loop-pivot-smaller-in-Continue-branch-3
@@ -157,7 +176,9 @@ pub flush_marked-returns-clause-children : goal.flush_marked-returns-clause-chil
 flush_marked-returns-clause-children g t c =
     let done = c.loop-pivot.parts in
     sym (append-nil done)
-    ∙ ap (λ cs. done ++ pass (meaning_of g.V.Merge.terms) c.args.mode c.args.shape (zip (with_shares cs (counts (into_iter_items c.loop-pivot.shares)) c.loop-pivot.stream) (into_iter_items c.loop-pivot.marks))) (sym c.in_default.ensures)
+    ∙ ap (λ cs. done ++ pass (meaning_of g.V.Merge.terms) c.args.mode c.args.shape
+    (zip (with_shares cs (counts (into_iter_items c.loop-pivot.shares)) c.loop-pivot.stream) (into_iter_items c.loop-pivot.marks)))
+    (sym c.in_default.ensures)
     ∙ c.loop-pivot.invariant.parts
 
 pub flush_marked-returns-clause-left : goal.flush_marked-returns-clause-left

@@ -7,7 +7,8 @@ pub returns-then-count-most : goal.returns-then-count-most
 returns-then-count-most g c =
     let some : 1 ≤ c.args.shape.fanout = search rules in
     IfOk-weaker c.with_capacity.result _ _ (λ siblings e. e
-    ∙ one_group c.args.shape c.args.children c.into_node-node.result.0 c.into_node-node.result.1 some (omega (arith, c.if-count-most.true, c.len-count.ensures, c.fanout-most.ensures.value)) c.into_node-node.ensures)
+    ∙ one_group c.args.shape c.args.children c.into_node-node.result.0 c.into_node-node.result.1 some
+    (omega (arith, c.if-count-most.true, c.len-count.ensures, c.fanout-most.ensures.value)) c.into_node-node.ensures)
     c.with_capacity.ensures
 
 pub returns : goal.returns

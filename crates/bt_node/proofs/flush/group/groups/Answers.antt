@@ -23,7 +23,8 @@ loop-place-init g c =
     let here = c.in_ok-first.ensures in
     record {
       made = first_made c.size_at.result _ _ cs c.size_at.ensures left _ _ _ _ here.node here.rest c.in_ok-siblings.ensures
-          ∙ ap (λ ds. pivot_first [] (groups_of (even c.len-count.result c.args.many) ds)) c.into_iter-rest.ensures ∙ ap (λ j. pivot_first [] (groups_of (even j c.args.many) c.args.children)) c.len-count.ensures;
+          ∙ ap (λ ds. pivot_first [] (groups_of (even c.len-count.result c.args.many) ds)) c.into_iter-rest.ensures
+          ∙ ap (λ j. pivot_first [] (groups_of (even j c.args.many) c.args.children)) c.len-count.ensures;
       left = rest_left c.size_at.result _ _ cs c.size_at.ensures left _ here.rest;
     }
 
@@ -46,7 +47,8 @@ loop-place-preserved g c =
     }
 
 pub returns : goal.returns
-returns g c = groups_done c.len-count.result c.args.many c.loop-place.place c.loop-place.siblings _ c.loop-place.rest c.requires.some (omega (arith, c.loop-place-test.false)) c.loop-place.invariant.made
+returns g c = groups_done c.len-count.result c.args.many c.loop-place.place c.loop-place.siblings _ c.loop-place.rest c.requires.some
+    (omega (arith, c.loop-place-test.false)) c.loop-place.invariant.made
 
 pub same-siblings : goal.same-siblings
 same-siblings g c = refl

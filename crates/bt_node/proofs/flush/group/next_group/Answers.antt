@@ -26,7 +26,12 @@ loop-preserved g c = record {
 
 pub into_node-requires-clause-some : goal.into_node-requires-clause-some
 into_node-requires-clause-some g c =
-    omega (arith, ap length (all_moved c.args.size c.loop.counter c.loop.part c.loop.rest _ (omega (arith, c.loop-test.false)) c.loop.invariant.part), length-first c.args.size c.args.rest.now c.requires.enough, c.requires.some)
+    omega (
+      arith,
+      ap length (all_moved c.args.size c.loop.counter c.loop.part c.loop.rest _ (omega (arith, c.loop-test.false)) c.loop.invariant.part),
+      length-first c.args.size c.args.rest.now c.requires.enough,
+      c.requires.some,
+    )
 
 pub into_node-requires-clause-divided : goal.into_node-requires-clause-divided
 into_node-requires-clause-divided g c =

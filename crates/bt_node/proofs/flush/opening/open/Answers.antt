@@ -8,7 +8,9 @@ use Rattle.bt_node.specs.Trees.{inner, nodes}
 use Rattle.bt_node.proofs.lemmas.code.LoadLoop.{Come, after_joined, after_lie, at_pivots, bin_each, has_room-absorb, has_room-drain, marks_all, marks_planned, room_test, share_each, shares_weighed}
 use Rattle.bt_node.proofs.lemmas.code.SiblingParts.{with_pivots-led}
 use Rattle.bt_node.proofs.flush.opening.open.Goals as goal
-use Rattle.bt_node.proofs.flush.opening.open.Goals.{in-Absorb+in_ok-loads-in-Absorb+else-len-fanout+in_ok-marks-in-Absorb, else-len-fanout-via-then-len-fanout+else-are_within, else-len-fanout-via-else-len-fanout, in-Drain+in_ok-marks-in-Drain}
+use Rattle.bt_node.proofs.flush.opening.open.Goals.{in-Absorb+in_ok-loads-in-Absorb+else-len-fanout+in_ok-marks-in-Absorb}
+use Rattle.bt_node.proofs.flush.opening.open.Goals.{else-len-fanout-via-then-len-fanout+else-are_within, else-len-fanout-via-else-len-fanout}
+use Rattle.bt_node.proofs.flush.opening.open.Goals.{in-Drain+in_ok-marks-in-Drain}
 
 pub shares-requires : goal.shares-requires
 shares-requires g c = c.requires.enough
@@ -16,13 +18,35 @@ shares-requires g c = c.requires.enough
 pub loads-requires-clause-len : goal.loads-requires-clause-len
 loads-requires-clause-len g c =
     let e = c.in_ok-shares.ensures in
-    let come : Come (weigh_of g.V.Merge.terms) c.args.shape c.args.children c.args.bins c.args.stream.now c.args.count c.measure-measure.result c.pivots.result.now c.in_ok-shares.shares.items = record { measured = c.measure-measure.ensures; pivots = c.pivots.ensures.pivots; some = c.pivots.ensures.some; lie = c.requires.divided; each = e.each; divided = e.parts; long = e.len } in
+    let come : Come (weigh_of g.V.Merge.terms) c.args.shape c.args.children c.args.bins c.args.stream.now c.args.count c.measure-measure.result
+    c.pivots.result.now c.in_ok-shares.shares.items =
+    record {
+      measured = c.measure-measure.ensures;
+      pivots = c.pivots.ensures.pivots;
+      some = c.pivots.ensures.some;
+      lie = c.requires.divided;
+      each =
+          e.each;
+      divided = e.parts;
+      long = e.len;
+    } in
     ap length c.as_slice.ensures.value ∙ share_each come
 
 pub loads-requires-clause-weighed : goal.loads-requires-clause-weighed
 loads-requires-clause-weighed g c =
     let e = c.in_ok-shares.ensures in
-    let come : Come (weigh_of g.V.Merge.terms) c.args.shape c.args.children c.args.bins c.args.stream.now c.args.count c.measure-measure.result c.pivots.result.now c.in_ok-shares.shares.items = record { measured = c.measure-measure.ensures; pivots = c.pivots.ensures.pivots; some = c.pivots.ensures.some; lie = c.requires.divided; each = e.each; divided = e.parts; long = e.len } in
+    let come : Come (weigh_of g.V.Merge.terms) c.args.shape c.args.children c.args.bins c.args.stream.now c.args.count c.measure-measure.result
+    c.pivots.result.now c.in_ok-shares.shares.items =
+    record {
+      measured = c.measure-measure.ensures;
+      pivots = c.pivots.ensures.pivots;
+      some = c.pivots.ensures.some;
+      lie = c.requires.divided;
+      each =
+          e.each;
+      divided = e.parts;
+      long = e.len;
+    } in
     subst (λ ss. ss ≡ map (share_of (weigh_of g.V.Merge.terms) c.measure-measure.result) (parted (counts ss) c.args.stream.now)) (sym c.as_slice.ensures.value) (shares_weighed come)
     ∙ ap (λ ms. map (share_of (weigh_of g.V.Merge.terms) c.measure-measure.result) (parted (counts c.as_slice.result.now) ms)) (sym e.same)
 
@@ -32,7 +56,18 @@ same-bins g c = refl
 pub add_shares-requires-clause-len : goal.add_shares-requires-clause-len
 add_shares-requires-clause-len g c =
     let e = c.in_ok-shares.ensures in
-    let come : Come (weigh_of g.V.Merge.terms) c.args.shape c.args.children c.args.bins c.args.stream.now c.args.count c.measure-measure.result c.pivots.result.now c.in_ok-shares.shares.items = record { measured = c.measure-measure.ensures; pivots = c.pivots.ensures.pivots; some = c.pivots.ensures.some; lie = c.requires.divided; each = e.each; divided = e.parts; long = e.len } in
+    let come : Come (weigh_of g.V.Merge.terms) c.args.shape c.args.children c.args.bins c.args.stream.now c.args.count c.measure-measure.result
+    c.pivots.result.now c.in_ok-shares.shares.items =
+    record {
+      measured = c.measure-measure.ensures;
+      pivots = c.pivots.ensures.pivots;
+      some = c.pivots.ensures.some;
+      lie = c.requires.divided;
+      each =
+          e.each;
+      divided = e.parts;
+      long = e.len;
+    } in
     ap length c.as_slice-then-are_within.ensures.value ∙ share_each come
 
 pub add_shares-requires-clause-shares : goal.add_shares-requires-clause-shares
@@ -50,25 +85,52 @@ same-bins-then-are_within g c = refl
 pub inner-requires : goal.inner-requires
 inner-requires g c =
     let e = c.in_ok-shares.ensures in
-    let come : Come (weigh_of g.V.Merge.terms) c.args.shape c.args.children c.args.bins c.args.stream.now c.args.count c.measure-measure.result c.pivots.result.now c.in_ok-shares.shares.items = record { measured = c.measure-measure.ensures; pivots = c.pivots.ensures.pivots; some = c.pivots.ensures.some; lie = c.requires.divided; each = e.each; divided = e.parts; long = e.len } in
+    let come : Come (weigh_of g.V.Merge.terms) c.args.shape c.args.children c.args.bins c.args.stream.now c.args.count c.measure-measure.result
+    c.pivots.result.now c.in_ok-shares.shares.items =
+    record {
+      measured = c.measure-measure.ensures;
+      pivots = c.pivots.ensures.pivots;
+      some = c.pivots.ensures.some;
+      lie = c.requires.divided;
+      each =
+          e.each;
+      divided = e.parts;
+      long = e.len;
+    } in
     after_lie come c.add_shares.new.self (c.in_ok-add_shares-in-Absorb.ensures.added
-    ∙ ap (λ ms. each_with (parted (counts c.as_slice-then-are_within.result.now) ms) c.args.bins) e.same ∙ ap (λ ss. each_with (parted (counts ss) c.args.stream.now) c.args.bins) c.as_slice-then-are_within.ensures.value)
+    ∙ ap (λ ms. each_with (parted (counts c.as_slice-then-are_within.result.now) ms) c.args.bins) e.same
+    ∙ ap (λ ss. each_with (parted (counts ss) c.args.stream.now) c.args.bins) c.as_slice-then-are_within.ensures.value)
 
 pub returns-then-are_within : goal.returns-then-are_within
 returns-then-are_within g c =
     let e = c.in_ok-shares.ensures in
-    let come : Come (weigh_of g.V.Merge.terms) c.args.shape c.args.children c.args.bins c.args.stream.now c.args.count c.measure-measure.result c.pivots.result.now c.in_ok-shares.shares.items = record { measured = c.measure-measure.ensures; pivots = c.pivots.ensures.pivots; some = c.pivots.ensures.some; lie = c.requires.divided; each = e.each; divided = e.parts; long = e.len } in
+    let come : Come (weigh_of g.V.Merge.terms) c.args.shape c.args.children c.args.bins c.args.stream.now c.args.count c.measure-measure.result
+    c.pivots.result.now c.in_ok-shares.shares.items =
+    record {
+      measured = c.measure-measure.ensures;
+      pivots = c.pivots.ensures.pivots;
+      some = c.pivots.ensures.some;
+      lie = c.requires.divided;
+      each =
+          e.each;
+      divided = e.parts;
+      long = e.len;
+    } in
     let bins = c.in_ok-add_shares-in-Absorb.ensures.added ∙ ap (λ ms. each_with (parted (counts c.as_slice-then-are_within.result.now) ms) c.args.bins) e.same
     ∙ ap (λ ss. each_with (parted (counts ss) c.args.stream.now) c.args.bins) c.as_slice-then-are_within.ensures.value in
     let made = c.as_slice-then-len-fanout.ensures.value ∙ c.in_ok-loads-in-Absorb.ensures
     ∙ ap (λ ms. map (load (weigh_of g.V.Merge.terms) c.measure-measure.result) (each_with (parted (counts c.as_slice.result.now) ms) c.args.bins)) e.same
     ∙ ap (λ ss. map (load (weigh_of g.V.Merge.terms) c.measure-measure.result) (each_with (parted (counts ss) c.args.stream.now) c.args.bins)) c.as_slice.ensures.value in (
-      c.in_ok-add_shares-in-Absorb.ensures.left ∙ ap (drop (total (counts c.as_slice-then-are_within.result.now))) e.same ∙ ap (λ ss. drop (total (counts ss)) c.args.stream.now) c.as_slice-then-are_within.ensures.value ∙ ap (λ n. drop n c.args.stream.now) c.in_ok-shares.ensures.total,
+      c.in_ok-add_shares-in-Absorb.ensures.left ∙ ap (drop (total (counts c.as_slice-then-are_within.result.now))) e.same
+          ∙ ap (λ ss. drop (total (counts ss)) c.args.stream.now) c.as_slice-then-are_within.ensures.value
+          ∙ ap (λ n. drop n c.args.stream.now) c.in_ok-shares.ensures.total,
       record {
         node = c.inner.ensures ∙ ap (inner (nodes c.args.children)) (after_joined come c.add_shares.new.self bins);
         led = c.len.ensures.led;
         few = omega (arith, c.if-len-fanout.true, c.len.ensures.count, c.fanout.ensures.value);
-        room = has_room-absorb c.args.mode c.args.shape _ c.in-Absorb.is (room_test come c.as_slice-then-len-fanout.result.now c.buffer.result c.are_within.result made c.buffer.ensures.value c.are_within.ensures ∙ c.if-are_within.true);
+        room = has_room-absorb c.args.mode c.args.shape _ c.in-Absorb.is
+            (room_test come c.as_slice-then-len-fanout.result.now c.buffer.result c.are_within.result made c.buffer.ensures.value c.are_within.ensures
+            ∙ c.if-are_within.true);
       },
     )
 
@@ -81,13 +143,35 @@ same-bins-2 g c = refl
 pub with_pending-requires : goal.with_pending-requires
 with_pending-requires g c =
     let e = c.in_ok-shares.ensures in
-    let come : Come (weigh_of g.V.Merge.terms) c.args.shape c.args.children c.args.bins c.args.stream.now c.args.count c.measure-measure.result c.pivots.result.now c.in_ok-shares.shares.items = record { measured = c.measure-measure.ensures; pivots = c.pivots.ensures.pivots; some = c.pivots.ensures.some; lie = c.requires.divided; each = e.each; divided = e.parts; long = e.len } in
+    let come : Come (weigh_of g.V.Merge.terms) c.args.shape c.args.children c.args.bins c.args.stream.now c.args.count c.measure-measure.result
+    c.pivots.result.now c.in_ok-shares.shares.items =
+    record {
+      measured = c.measure-measure.ensures;
+      pivots = c.pivots.ensures.pivots;
+      some = c.pivots.ensures.some;
+      lie = c.requires.divided;
+      each =
+          e.each;
+      divided = e.parts;
+      long = e.len;
+    } in
     bin_each come
 
 pub returns : goal.returns
 returns g c =
     let e = c.in_ok-shares.ensures in
-    let come : Come (weigh_of g.V.Merge.terms) c.args.shape c.args.children c.args.bins c.args.stream.now c.args.count c.measure-measure.result c.pivots.result.now c.in_ok-shares.shares.items = record { measured = c.measure-measure.ensures; pivots = c.pivots.ensures.pivots; some = c.pivots.ensures.some; lie = c.requires.divided; each = e.each; divided = e.parts; long = e.len } in (
+    let come : Come (weigh_of g.V.Merge.terms) c.args.shape c.args.children c.args.bins c.args.stream.now c.args.count c.measure-measure.result
+    c.pivots.result.now c.in_ok-shares.shares.items =
+    record {
+      measured = c.measure-measure.ensures;
+      pivots = c.pivots.ensures.pivots;
+      some = c.pivots.ensures.some;
+      lie = c.requires.divided;
+      each =
+          e.each;
+      divided = e.parts;
+      long = e.len;
+    } in (
       e.same,
       record {
         led = subst IsLed c.children.view_is (with_pivots-led c.children.inside.pivots.items c.children.inside.nodes.items c.children.invariant);
@@ -112,7 +196,9 @@ returns g c =
                 let made = w'.as_slice-then-len-fanout.ensures.value ∙ w.in_ok-loads-in-Absorb.ensures
                 ∙ ap (λ ms. map (load (weigh_of g.V.Merge.terms) c.measure-measure.result) (each_with (parted (counts w.as_slice.result.now) ms) c.args.bins)) e.same
                 ∙ ap (λ ss. map (load (weigh_of g.V.Merge.terms) c.measure-measure.result) (each_with (parted (counts ss) c.args.stream.now) c.args.bins)) w.as_slice.ensures.value in
-                has_room-absorb c.args.mode c.args.shape _ w.in-Absorb.is (room_test come w'.as_slice-then-len-fanout.result.now c.buffer.result w'.are_within.result made c.buffer.ensures.value w'.are_within.ensures ∙ w'.if-are_within.false)
+                has_room-absorb c.args.mode c.args.shape _ w.in-Absorb.is
+                (room_test come w'.as_slice-then-len-fanout.result.now c.buffer.result w'.are_within.result made c.buffer.ensures.value
+                w'.are_within.ensures ∙ w'.if-are_within.false)
             | else-len-fanout-via-else-len-fanout w' ↦ absurd (omega (arith, within, w'.if-len-fanout.false, w.len.ensures.count, w.fanout.ensures.value))
           ]
           | in-Drain+in_ok-marks-in-Drain w ↦ has_room-drain c.args.mode c.args.shape _ w.in-Drain.is

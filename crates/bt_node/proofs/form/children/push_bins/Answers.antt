@@ -3,7 +3,11 @@ use Rattle.bt_node.proofs.lemmas.code.ChildLists.{replicate-more}
 use Rattle.bt_node.proofs.form.children.push_bins.Goals as goal
 
 pub loop-init : goal.loop-init
-loop-init g c = record { pushed = sym (append-nil c.push_reserved.new.self.items); room = omega (arith, c.requires.room, c.push_reserved.ensures.len, c.push_reserved.ensures.capacity, c.requires.some) }
+loop-init g c = record {
+  pushed = sym (append-nil c.push_reserved.new.self.items);
+  room =
+      omega (arith, c.requires.room, c.push_reserved.ensures.len, c.push_reserved.ensures.capacity, c.requires.some);
+}
 
 pub push_reserved-requires-in-loop : goal.push_reserved-requires-in-loop
 push_reserved-requires-in-loop g c = omega (arith, c.loop.invariant.room, c.loop-test.true)

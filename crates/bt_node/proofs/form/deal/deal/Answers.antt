@@ -11,7 +11,8 @@ returns-then-count-most g c = ap (map (λ part. part.items)) c.in_ok-vec.ensures
 
 pub loop-place-init : goal.loop-place-init
 loop-place-init g c = record {
-  dealt = none_dealt c.args.most c.len-count.result c.div_ceil-many.result _ _ c.args.items.items c.requires (omega arith) (omega arith) c.div_ceil-many.ensures (ap (map (λ part. part.items)) c.in_ok-parts.ensures.items) c.into_iter-rest.ensures.rest;
+  dealt = none_dealt c.args.most c.len-count.result c.div_ceil-many.result _ _ c.args.items.items c.requires (omega arith) (omega arith)
+      c.div_ceil-many.ensures (ap (map (λ part. part.items)) c.in_ok-parts.ensures.items) c.into_iter-rest.ensures.rest;
   len = grind (arith, common_steps);
   room = grind (arith, common_steps);
 }
@@ -21,7 +22,8 @@ push_reserved-requires g c = grind (arith, common_steps)
 
 pub loop-place-preserved : goal.loop-place-preserved
 loop-place-preserved g c = record {
-  dealt = part_dealt c.loop-place.place c.size_at-size.result (even c.len-count.result c.div_ceil-many.result) _ _ _ _ _ _ c.size_at-size.ensures c.in_ok-next_part.ensures.part c.in_ok-next_part.ensures.rest
+  dealt = part_dealt c.loop-place.place c.size_at-size.result (even c.len-count.result c.div_ceil-many.result) _ _ _ _ _ _ c.size_at-size.ensures
+      c.in_ok-next_part.ensures.part c.in_ok-next_part.ensures.rest
       (ap (map (λ part. part.items)) c.push_reserved.ensures.items ∙ map-append _ _ _) c.loop-place.invariant.dealt;
   len = grind (arith, common_steps);
   room = grind (arith, common_steps);

@@ -15,15 +15,18 @@ use Rattle.bt_node.proofs.read.joint_lookup.+tree_values.Goals as goal
 
 pub first_run-place-requires-clause-rising : goal.first_run-place-requires-clause-rising
 first_run-place-requires-clause-rising g t c =
-    pivots_rise c.args.node.now c.in-Inner.children (concatenation c.in-Inner.bins) c.pivots-pivots.result.now (c.kind.ensures.tree ∙ ap tree_of c.in-Inner.is) c.pivots-pivots.ensures.pivots c.requires
+    pivots_rise c.args.node.now c.in-Inner.children (concatenation c.in-Inner.bins) c.pivots-pivots.result.now (c.kind.ensures.tree
+    ∙ ap tree_of c.in-Inner.is) c.pivots-pivots.ensures.pivots c.requires
 
 pub tree_values-requires : goal.tree_values-requires
 tree_values-requires g t c κs within =
     let here = c.kind.ensures.tree ∙ ap tree_of c.in-Inner.is in
     let place = c.first_run-place.result.0 in
-    let below = pivot_within c.in-Inner.children c.nodes.result.now c.pivots-pivots.result.now place c.nodes.ensures c.pivots-pivots.ensures.pivots c.pivots-pivots.ensures.some c.first_run-place.ensures.place in
+    let below = pivot_within c.in-Inner.children c.nodes.result.now c.pivots-pivots.result.now place c.nodes.ensures c.pivots-pivots.ensures.pivots
+    c.pivots-pivots.ensures.some c.first_run-place.ensures.place in
     let less = child_lower c.args.node.now c.in-Inner.children (concatenation c.in-Inner.bins) here c.nodes.result.now c.nodes.ensures place c.index-nodes-place.result below c.index-nodes-place.is in
-    let order = child_in_order c.args.node.now c.in-Inner.children (concatenation c.in-Inner.bins) here c.nodes.result.now c.nodes.ensures place c.index-nodes-place.result below c.index-nodes-place.is c.requires in
+    let order = child_in_order c.args.node.now c.in-Inner.children (concatenation c.in-Inner.bins) here c.nodes.result.now c.nodes.ensures place
+    c.index-nodes-place.result below c.index-nodes-place.is c.requires in
     (omega (arith, less, c.decreases), (within.0, (within.1, order)))
 
 pub add_after-requires-clause-len : goal.add_after-requires-clause-len
@@ -46,7 +49,8 @@ loop-done-preserved g t c =
     record {
       wanted = next_run effect c.in-Inner.children c.in-Inner.bins c.args.node.now c.nodes.result.now c.pivots-pivots.result.now c.first_run-place.result.0 c.index-nodes-place.result
           here c.nodes.ensures c.pivots-pivots.ensures.pivots c.pivots-pivots.ensures.some lie c.index-nodes-place.is
-          (λ k. k.now) (drop done keys) own (drop (done + length own) keys) (map option_of c.loop-done.values.items) (map option_of c.add_after.new.values.items) (map option_of c.in_ok-below-in-Inner.below.items) _
+          (λ k. k.now) (drop done keys) own (drop (done + length own) keys) (map option_of c.loop-done.values.items)
+          (map option_of c.add_after.new.values.items) (map option_of c.in_ok-below-in-Inner.below.items) _
           c.first_run-place.ensures.belong (from_there keys own done (c.first_run-place.ensures.own ∙ ap (take (length own)) c.later_keys.ensures))
           c.in_ok-below-in-Inner.ensures c.in_ok-add_after-in-Inner.ensures c.loop-done.invariant.wanted;
       within = run_within keys c.later_keys.result.now own done c.loop-done.invariant.within c.later_keys.ensures c.first_run-place.ensures.count;

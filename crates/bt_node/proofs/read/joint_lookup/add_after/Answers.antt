@@ -24,7 +24,8 @@ loop-old-preserved g c =
     let seen = c.loop-old.values.items in
     let left : c.loop-old.old-iterator.rest.items ≡ c.in-Some.old ∷ c.next.new.self.rest.items = search rules in
     let later = c.of_sorted.ensures ∙ c.part_from-next.ensures.from ∙ ap (from c.key-item.result.now) (c.as_slice-messages.ensures.messages ∙ c.bin.ensures.messages) in
-    one_after effect bin c.of_sorted.result (λ k. k.now) option_of c.loop-old.rest.now _ c.key-item.result c.next.new.self.rest.items c.in-Some.old c.in_ok-after_messages.field-0 seen c.push.new.self.items _
+    one_after effect bin c.of_sorted.result (λ k. k.now) option_of c.loop-old.rest.now _ c.key-item.result c.next.new.self.rest.items c.in-Some.old
+    c.in_ok-after_messages.field-0 seen c.push.new.self.items _
     (first_of c.loop-old.rest.now c.key-item.result c.in-len1-up.len_at_least c.key-item.is) later c.in_ok-after_messages.ensures (search rules)
     (c.loop-old.invariant ∙ ap (λ olds. map option_of seen ++ values_after effect bin (map (λ k. k.now) c.loop-old.rest.now) (map option_of olds)) left)
 
@@ -40,4 +41,5 @@ pub returns-then-count-eq0 : goal.returns-then-count-eq0
 returns-then-count-eq0 g c =
     let effect = effect_of g.V.Merge.terms.merged in
     let none : get_or c.args.bins.now c.args.place [] ≡ [] = nil_from_length _ (sym c.count.ensures.count ∙ search rules) in
-    none_pending effect (λ k. k.now) option_of (get_or c.args.bins.now c.args.place []) c.args.keys.now c.args.values.now.items c.append.new.self.items c.args.below.items none c.requires.len c.in_ok-append.ensures.items
+    none_pending effect (λ k. k.now) option_of (get_or c.args.bins.now c.args.place []) c.args.keys.now c.args.values.now.items c.append.new.self.items
+    c.args.below.items none c.requires.len c.in_ok-append.ensures.items

@@ -21,7 +21,8 @@ between-requires-in-Some g c = rows-in_order c.loop-key.left.now c.loop-key.left
 
 pub split_first-requires-clause-sorted : goal.split_first-requires-clause-sorted
 split_first-requires-clause-sorted g c =
-    subst (λ rows. is_sorted key_cmp rows ≡ true) (sym (c.between-in-Some.ensures.between ∙ from_is c.in-Some.key.now c.loop-key.left.now)) (sorted_from c.in-Some.key.now c.loop-key.left.now c.loop-key.invariant.rows)
+    subst (λ rows. is_sorted key_cmp rows ≡ true) (sym (c.between-in-Some.ensures.between ∙ from_is c.in-Some.key.now c.loop-key.left.now))
+    (sorted_from c.in-Some.key.now c.loop-key.left.now c.loop-key.invariant.rows)
 
 pub split_first-requires-clause-none_before : goal.split_first-requires-clause-none_before
 split_first-requires-clause-none_before g c =
@@ -43,9 +44,12 @@ loop-key-preserved g c =
     record {
       wanted = shown_step effect (limited g.S.Visitor.visited) m c.next.new.self c.loop-key.messages c.loop-key.left.now c.between.result.now (c.loop-key.visitor, c.loop-key.limit)
           (c.visit_rows.new.visitor, c.visit_rows.new.limit) all c.in-Some.ensures so_far.messages so_far.rows so_far.wanted c.between.ensures.between c.in_ok-visit_rows.ensures
-          c.take_effect.new.self c.between-in-Some.result.now c.split_first.result.1.now _ (option_of c.in_ok-first.first) (option_of c.in_ok-value.value) (c.visit_held.new.visitor, c.visit_held.new.limit)
+          c.take_effect.new.self c.between-in-Some.result.now c.split_first.result.1.now _ (option_of c.in_ok-first.first) (option_of c.in_ok-value.value)
+          (c.visit_held.new.visitor, c.visit_held.new.limit)
           later (c.of.ensures ∙ c.split_first.ensures.value) c.split_first.ensures.others c.in_ok-first.ensures c.in_ok-value.ensures.value c.in_ok-value.ensures.left c.in_ok-visit_held.ensures;
-      rows = subst (λ rows. is_sorted key_cmp rows ≡ true) (sym c.split_first.ensures.others) (sorted_changed k None c.between-in-Some.result.now (subst (λ rows. is_sorted key_cmp rows ≡ true) (sym later) (sorted_from k c.loop-key.left.now so_far.rows)));
+      rows = subst (λ rows. is_sorted key_cmp rows ≡ true) (sym c.split_first.ensures.others)
+          (sorted_changed k None c.between-in-Some.result.now
+          (subst (λ rows. is_sorted key_cmp rows ≡ true) (sym later) (sorted_from k c.loop-key.left.now so_far.rows)));
       messages = subst IsSorted (sym c.in_ok-value.ensures.left) (past_in_order k c.next.new.self sorted);
     }
 
@@ -55,6 +59,7 @@ returns-then-is_reached g c =
     let so_far = c.loop-key.invariant in
     let all = fold (limited g.S.Visitor.visited) (c.args.visitor.now, c.args.limit.now) (rows_after effect c.args.messages c.args.rows.now) in
     let reached : c.visit_rows.new.limit ≡ Some 0 = search rules in
-    shown_end effect (limited g.S.Visitor.visited) (c.in-Some.key.now, c.in-Some.message.now) c.next.new.self c.loop-key.messages c.loop-key.left.now c.between.result.now (c.loop-key.visitor, c.loop-key.limit)
+    shown_end effect (limited g.S.Visitor.visited) (c.in-Some.key.now, c.in-Some.message.now) c.next.new.self c.loop-key.messages c.loop-key.left.now
+    c.between.result.now (c.loop-key.visitor, c.loop-key.limit)
     (c.visit_rows.new.visitor, c.visit_rows.new.limit) all c.in-Some.ensures so_far.messages so_far.rows so_far.wanted c.between.ensures.between c.in_ok-visit_rows.ensures
     (λ rows. none_shown g.S.Visitor.visited c.visit_rows.new.visitor c.visit_rows.new.limit rows reached)

@@ -11,7 +11,8 @@ loop-entry-preserved g c =
     let here = first_left (λ m. (m.key.now, m.message.now)) c.args.entries.now c.loop-entry.entry-index c.entry-item.result (omega arith) c.entry-item.is in
     let so_far = c.loop-entry.invariant in
     record {
-      value = so_far.value ∙ one_more effect c.args.key.now _ _ _ _ here c.compare.result c.compare.ensures c.if-ne.ensures (option_of c.loop-entry.value) (option_of c.in_ok-value.value) c.in_ok-value.ensures;
+      value = so_far.value ∙ one_more effect c.args.key.now _ _ _ _ here c.compare.result c.compare.ensures c.if-ne.ensures (option_of c.loop-entry.value)
+          (option_of c.in_ok-value.value) c.in_ok-value.ensures;
       from = rest_from effect c.args.key.now _ _ _ _ here c.compare.result c.compare.ensures so_far.from;
       sorted = rest_sorted effect c.args.key.now _ _ _ _ here c.compare.result c.compare.ensures so_far.sorted;
     }

@@ -9,4 +9,5 @@ returns g c =
     let key = c.args.key.now in
     let entries = c.args.entries.now in
     slice_from (λ m. (m.key.now, m.message.now)) key entries c.partition_point-place.result
-    (IsPartitionPoint-from_clause (λ m. is_before m.key.now key) _ _ c.partition_point-place.ensures.partitioned (halves (λ m. (m.key.now, m.message.now)) key entries c.requires) (λ a r q called. search rules))
+    (IsPartitionPoint-from_clause (λ m. is_before m.key.now key) _ _ c.partition_point-place.ensures.partitioned
+    (halves (λ m. (m.key.now, m.message.now)) key entries c.requires) (λ a r q called. search rules))

@@ -4,7 +4,8 @@ use Rattle.bt_node.proofs.read.lent_messages.with_messages.Goals as goal
 
 pub loop-key-preserved : goal.loop-key-preserved
 loop-key-preserved g c = record {
-  wanted = merge_step (c.in-Some.key.now, c.in-Some.message.now) c.next.new.self c.loop-key.key-iterator c.loop-key.newer c.move_before.new.others c.loop-key.messages c.move_before.new.self c.push.new.self _
+  wanted = merge_step (c.in-Some.key.now, c.in-Some.message.now) c.next.new.self c.loop-key.key-iterator c.loop-key.newer c.move_before.new.others
+      c.loop-key.messages c.move_before.new.self c.push.new.self _
       c.in-Some.ensures.steps c.loop-key.invariant.sorted c.loop-key.invariant.wanted c.in_ok-move_before.ensures.moved c.in_ok-move_before.ensures.left c.in_ok-push.ensures;
   sorted = rest_sorted_from c.in-Some.key.now c.loop-key.newer c.move_before.new.others c.loop-key.invariant.sorted c.in_ok-move_before.ensures.left;
 }

@@ -34,7 +34,8 @@ loop-at-preserved-in-Some-reset g c =
     record {
       next = tt;
       finite = tt;
-      value = begins_anew effect k c.loop-at.rest c.next.new.self _ _ c.in-Some.ensures.steps c.compare.result c.compare.ensures c.if-ne.ensures (get_or c.args.bins.now c.args.place []) _ c.in-Some-reset.held so_far.rest c.in-Some-reset.ensures left;
+      value = begins_anew effect k c.loop-at.rest c.next.new.self _ _ c.in-Some.ensures.steps c.compare.result c.compare.ensures c.if-ne.ensures
+          (get_or c.args.bins.now c.args.place []) _ c.in-Some-reset.held so_far.rest c.in-Some-reset.ensures left;
       from = rw left from;
       sorted = rw left sorted;
       rest = goes_on effect k c.loop-at.rest c.next.new.self _ _ c.in-Some.ensures.steps c.compare.result c.compare.ensures c.if-ne.ensures (get_or c.args.bins.now c.args.place []) so_far.rest;

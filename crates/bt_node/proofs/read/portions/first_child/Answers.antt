@@ -14,7 +14,8 @@ use Rattle.bt_node.proofs.read.portions.first_child.Goals as goal
 
 pub first_place-place-requires : goal.first_place-place-requires
 first_place-place-requires g c =
-    pivots_rise c.portion.inside.node.now c.in-Inner.children (concatenation c.in-Inner.bins) c.pivots-pivots.result.now (c.kind.ensures.tree ∙ ap tree_of c.in-Inner.is) c.pivots-pivots.ensures.pivots c.portion.invariant.0
+    pivots_rise c.portion.inside.node.now c.in-Inner.children (concatenation c.in-Inner.bins) c.pivots-pivots.result.now (c.kind.ensures.tree
+    ∙ ap tree_of c.in-Inner.is) c.pivots-pivots.ensures.pivots c.portion.invariant.0
 
 pub bin_between-requires : goal.bin_between-requires
 bin_between-requires g c =
@@ -29,7 +30,8 @@ pub invariant_of-child : goal.invariant_of-child
 invariant_of-child g c =
     let chosen : c.or-high.result ≡ option_or c.next_pivot-next.result c.portion.inside.high = search rules in
     let first = first_child c.portion.view_is c.portion.invariant c.kind.ensures.tree c.kind.ensures.divided c.in-Inner.is c.nodes.ensures c.pivots-pivots.ensures.pivots c.pivots-pivots.ensures.some
-    c.first_place-place.ensures.place c.first_place-place.ensures.bound c.next_pivot-next.ensures (ap option_copied chosen ∙ or_copied c.next_pivot-next.result c.portion.inside.high) c.index-nodes-place.is
+    c.first_place-place.ensures.place c.first_place-place.ensures.bound c.next_pivot-next.ensures (ap option_copied chosen
+    ∙ or_copied c.next_pivot-next.result c.portion.inside.high) c.index-nodes-place.is
     c.in_ok-above.ensures.taken c.bin_between.ensures.messages c.bin_between.ensures.sorted c.in_ok-messages.ensures in
     child_meets first
 
@@ -37,7 +39,8 @@ pub invariant_of-child-2 : goal.invariant_of-child-2
 invariant_of-child-2 g c =
     let chosen : c.or-high.result ≡ option_or c.next_pivot-next.result c.portion.inside.high = search rules in
     let first = first_child c.portion.view_is c.portion.invariant c.kind.ensures.tree c.kind.ensures.divided c.in-Inner.is c.nodes.ensures c.pivots-pivots.ensures.pivots c.pivots-pivots.ensures.some
-    c.first_place-place.ensures.place c.first_place-place.ensures.bound c.next_pivot-next.ensures (ap option_copied chosen ∙ or_copied c.next_pivot-next.result c.portion.inside.high) c.index-nodes-place.is
+    c.first_place-place.ensures.place c.first_place-place.ensures.bound c.next_pivot-next.ensures (ap option_copied chosen
+    ∙ or_copied c.next_pivot-next.result c.portion.inside.high) c.index-nodes-place.is
     c.in_ok-above.ensures.taken c.bin_between.ensures.messages c.bin_between.ensures.sorted c.in_ok-messages.ensures in
     child_meets first
 
@@ -45,7 +48,8 @@ pub returns-then-is_none : goal.returns-then-is_none
 returns-then-is_none g c =
     let chosen : c.or-high.result ≡ option_or c.next_pivot-next.result c.portion.inside.high = search rules in
     let first = first_child c.portion.view_is c.portion.invariant c.kind.ensures.tree c.kind.ensures.divided c.in-Inner.is c.nodes.ensures c.pivots-pivots.ensures.pivots c.pivots-pivots.ensures.some
-    c.first_place-place.ensures.place c.first_place-place.ensures.bound c.next_pivot-next.ensures (ap option_copied chosen ∙ or_copied c.next_pivot-next.result c.portion.inside.high) c.index-nodes-place.is
+    c.first_place-place.ensures.place c.first_place-place.ensures.bound c.next_pivot-next.ensures (ap option_copied chosen
+    ∙ or_copied c.next_pivot-next.result c.portion.inside.high) c.index-nodes-place.is
     c.in_ok-above.ensures.taken c.bin_between.ensures.messages c.bin_between.ensures.sorted c.in_ok-messages.ensures in
     let none : option_copied c.next_pivot-next.result ≡ None = search rules in
     record {
@@ -58,7 +62,8 @@ pub invariant_of-rest : goal.invariant_of-rest
 invariant_of-rest g c =
     let chosen : c.or-high.result ≡ option_or c.next_pivot-next.result c.portion.inside.high = search rules in
     let first = first_child c.portion.view_is c.portion.invariant c.kind.ensures.tree c.kind.ensures.divided c.in-Inner.is c.nodes.ensures c.pivots-pivots.ensures.pivots c.pivots-pivots.ensures.some
-    c.first_place-place.ensures.place c.first_place-place.ensures.bound c.next_pivot-next.ensures (ap option_copied chosen ∙ or_copied c.next_pivot-next.result c.portion.inside.high) c.index-nodes-place.is
+    c.first_place-place.ensures.place c.first_place-place.ensures.bound c.next_pivot-next.ensures (ap option_copied chosen
+    ∙ or_copied c.next_pivot-next.result c.portion.inside.high) c.index-nodes-place.is
     c.in_ok-above.ensures.taken c.bin_between.ensures.messages c.bin_between.ensures.sorted c.in_ok-messages.ensures in
     others_meet first c.take_before.new.self c.in_ok-above.ensures.left (present c.next_pivot-next.result (search rules))
 
@@ -66,7 +71,8 @@ pub returns : goal.returns
 returns g c =
     let chosen : c.or-high.result ≡ option_or c.next_pivot-next.result c.portion.inside.high = search rules in
     let first = first_child c.portion.view_is c.portion.invariant c.kind.ensures.tree c.kind.ensures.divided c.in-Inner.is c.nodes.ensures c.pivots-pivots.ensures.pivots c.pivots-pivots.ensures.some
-    c.first_place-place.ensures.place c.first_place-place.ensures.bound c.next_pivot-next.ensures (ap option_copied chosen ∙ or_copied c.next_pivot-next.result c.portion.inside.high) c.index-nodes-place.is
+    c.first_place-place.ensures.place c.first_place-place.ensures.bound c.next_pivot-next.ensures (ap option_copied chosen
+    ∙ or_copied c.next_pivot-next.result c.portion.inside.high) c.index-nodes-place.is
     c.in_ok-above.ensures.taken c.bin_between.ensures.messages c.bin_between.ensures.sorted c.in_ok-messages.ensures in
     let there = present c.next_pivot-next.result (search rules) in
     record {

@@ -7,4 +7,5 @@ use Rattle.bt_node.proofs.read.portions.portions_at.Goals as goal
 
 pub loop-preserved : goal.loop-preserved
 loop-preserved g c =
-    divide-chain (effect_of g.V.Merge.terms.merged) (whole (option_copied c.args.from) (option_copied c.args.to) c.args.node.now ∷ []) c.loop.parts.items c.in_ok-parts-2.parts.items c.loop.invariant c.in_ok-parts-2.ensures
+    divide-chain (effect_of g.V.Merge.terms.merged) (whole (option_copied c.args.from) (option_copied c.args.to) c.args.node.now ∷ []) c.loop.parts.items
+    c.in_ok-parts-2.parts.items c.loop.invariant c.in_ok-parts-2.ensures

@@ -7,7 +7,8 @@ use Rattle.bt_node.proofs.read.portions.portions_below.Goals as goal
 
 pub loop-portion-preserved : goal.loop-portion-preserved
 loop-portion-preserved g c =
-    opened_more (effect_of g.V.Merge.terms.merged) c.args.portions.items c.loop-portion.parts.items c.append.new.self.items c.in_ok-below.below.items (into_iter_items c.loop-portion.portion-iterator) (into_iter_items c.next.new.self)
+    opened_more (effect_of g.V.Merge.terms.merged) c.args.portions.items c.loop-portion.parts.items c.append.new.self.items c.in_ok-below.below.items
+    (into_iter_items c.loop-portion.portion-iterator) (into_iter_items c.next.new.self)
     c.in-Some.portion c.in-Some.ensures.steps.0 c.in_ok-append.ensures.items c.in_ok-below.ensures c.loop-portion.invariant
 
 pub returns : goal.returns

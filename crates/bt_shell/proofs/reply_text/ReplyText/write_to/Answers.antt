@@ -31,6 +31,8 @@ returns-clause-err g c =
     let last = c.self.inside.last.items in
     let nothing : HasWritten held old old all all = writing_begins held old all (Took-nil held old (omega arith)) in
     let so_far : HasWritten held old mid all last =
-    writing_goes_on held old old mid all all front last nothing (sym c.self.view_is) (subst (λ pieces. Took held old mid (text_of_pieces pieces)) c.as_slice.ensures.value c.in_ok-write_pieces.ensures.ok) in
+    writing_goes_on held old old mid all all front last nothing (sym c.self.view_is)
+    (subst (λ pieces. Took held old mid (text_of_pieces pieces)) c.as_slice.ensures.value c.in_ok-write_pieces.ensures.ok) in
     on_err_weaker c.write_text.result
-    (λ (prefix : TookPrefix held mid new c.as_slice-2.result.now). writing_breaks held old mid new all last last [] so_far (sym (append-nil last)) (subst (TookPrefix held mid new) c.as_slice-2.ensures.value prefix)) c.write_text.ensures.err
+    (λ (prefix : TookPrefix held mid new c.as_slice-2.result.now). writing_breaks held old mid new all last last [] so_far (sym (append-nil last))
+    (subst (TookPrefix held mid new) c.as_slice-2.ensures.value prefix)) c.write_text.ensures.err

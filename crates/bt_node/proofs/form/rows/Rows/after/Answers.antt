@@ -23,7 +23,8 @@ loop-preserved g c =
     let changed = put_in_front effect message c.loop.older.items _ _ c.put_front.new.rows.items c.take_first-old.result c.in_ok-new.new c.loop.invariant.rows
     c.move_before.ensures.left c.take_first-old.ensures.value c.in_ok-new.ensures c.take_first-old.ensures.others c.in_ok-put_front.ensures.row in
     record {
-      wanted = pass_step effect message _ (take (c.args.count - c.loop.counter) c.loop.stream) _ _ c.loop.older.items _ _ on.0 (sorted_take (c.args.count - c.loop.counter) c.loop.stream c.pop.ensures.sorted) c.loop.invariant.rows
+      wanted = pass_step effect message _ (take (c.args.count - c.loop.counter) c.loop.stream) _ _ c.loop.older.items _ _ on.0
+          (sorted_take (c.args.count - c.loop.counter) c.loop.stream c.pop.ensures.sorted) c.loop.invariant.rows
           c.move_before.ensures.moved changed c.loop.invariant.wanted;
       left = sym on.1 ∙ c.loop.invariant.left;
       enough = omega (arith, ap length first, c.loop.invariant.enough);

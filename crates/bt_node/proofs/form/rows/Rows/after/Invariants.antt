@@ -7,7 +7,8 @@ use Rattle.bt_node.proofs.form.rows.Rows.after.Given as goal
 
 abbrev pub invariant-loop : goal.invariant-loop
 invariant-loop g l = record {
-  wanted : l.changed.items ++ rows_after (effect_of g.V.Merge.terms.merged) (take (l.count - l.counter) l.stream) l.older.items ≡ rows_after (effect_of g.V.Merge.terms.merged) (take l.count l.fn.stream) l.fn.self;
+  wanted : l.changed.items ++ rows_after (effect_of g.V.Merge.terms.merged) (take (l.count - l.counter) l.stream) l.older.items
+      ≡ rows_after (effect_of g.V.Merge.terms.merged) (take l.count l.fn.stream) l.fn.self;
   left : drop (l.count - l.counter) l.stream ≡ drop l.count l.fn.stream;
   enough : length l.stream + l.counter ≡ length l.fn.stream;
   rows : is_sorted key_cmp l.older.items ≡ true;

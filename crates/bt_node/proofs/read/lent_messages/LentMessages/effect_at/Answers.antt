@@ -38,6 +38,7 @@ pub returns : goal.returns
 returns g c =
     let parts = in_parts (λ m. (m.key.now, m.message.now)) c.as_slices.result.0.now c.as_slices.result.1.now c.self.inside.messages.items c.args.self.now c.as_slices.ensures.items c.self.view_is in
     IfOk-weaker c.after_lent-2.result _ _
-    (λ value e. two_parts (effect_of g.V.Merge.terms.merged) c.args.key.now _ _ c.args.self.now _ _ (option_of c.args.old) (option_of c.in_ok-value.value) (option_of value) parts c.lent_from-earlier.ensures c.lent_from-later.ensures
+    (λ value e. two_parts (effect_of g.V.Merge.terms.merged) c.args.key.now _ _ c.args.self.now _ _ (option_of c.args.old) (option_of c.in_ok-value.value)
+    (option_of value) parts c.lent_from-earlier.ensures c.lent_from-later.ensures
     c.in_ok-value.ensures e)
     c.after_lent-2.ensures

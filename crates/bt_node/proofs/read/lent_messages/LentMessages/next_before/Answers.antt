@@ -7,4 +7,5 @@ use Rattle.bt_node.proofs.read.lent_messages.LentMessages.next_before.Goals as g
 pub returns-then-not-lies_before-clause-none : goal.returns-then-not-lies_before-clause-none
 returns-then-not-lies_before-clause-none g c =
     let past : is_before_upper (option_copied c.args.high) c.in_ok-first.first.now.key.now ≡ false = search rules in
-    first_stops (λ m. (m.key.now, m.message.now)) c.self.inside.messages.items c.in_ok-first.first.now c.args.self.now (option_copied c.args.high) c.self.view_is c.in_ok-first.ensures.lookup c.requires past
+    first_stops (λ m. (m.key.now, m.message.now)) c.self.inside.messages.items c.in_ok-first.first.now c.args.self.now (option_copied c.args.high)
+    c.self.view_is c.in_ok-first.ensures.lookup c.requires past

@@ -14,7 +14,8 @@ loop-message-preserved g c =
     let m : Key × Message g.row.V.Denot g.row.V-Delta.Denot = (c.in-Some.field-0-0.now, c.in-Some.message.now) in
     let here = c.in-Some.ensures.first in
     record {
-      value = one_applied effect k m c.loop-message.self c.next_up_to.new.self (option_of c.loop-message.value) (option_of c.in_ok-value.value) _ here c.in-Some.ensures.none so_far.from c.in_ok-value.ensures so_far.value;
+      value = one_applied effect k m c.loop-message.self c.next_up_to.new.self (option_of c.loop-message.value) (option_of c.in_ok-value.value) _ here
+          c.in-Some.ensures.none so_far.from c.in_ok-value.ensures so_far.value;
       left = one_past k m c.loop-message.self c.next_up_to.new.self _ here c.in-Some.ensures.none so_far.left;
       from = rest_from_key k m c.loop-message.self c.next_up_to.new.self here so_far.from;
       sorted = rest_in_order m c.loop-message.self c.next_up_to.new.self here so_far.sorted;
@@ -22,7 +23,8 @@ loop-message-preserved g c =
 
 pub returns-clause-value : goal.returns-clause-value
 returns-clause-value g c =
-    none_applied (effect_of g.V.Merge.terms.merged) c.args.key.now c.loop-message.self (option_of c.loop-message.value) _ c.in_default.ensures.none c.loop-message.invariant.sorted c.loop-message.invariant.value
+    none_applied (effect_of g.V.Merge.terms.merged) c.args.key.now c.loop-message.self (option_of c.loop-message.value) _ c.in_default.ensures.none
+    c.loop-message.invariant.sorted c.loop-message.invariant.value
 
 pub returns-clause-left : goal.returns-clause-left
 returns-clause-left g c = c.in_default.ensures.first ∙ past_left c.args.key.now c.loop-message.self _ c.in_default.ensures.none c.loop-message.invariant.left

@@ -17,7 +17,8 @@ take_effect-requires-clause-from g c = left_from (effect_of g.V.Merge.terms.merg
 pub returns-clause-value : goal.returns-clause-value
 returns-clause-value g c =
     let effect = effect_of g.V.Merge.terms.merged in
-    IfOk-weaker c.take_effect.result _ _ (λ value e. e ∙ sym (all_left effect c.args.key.now c.args.self.now c.drop_before.new.self (option_of c.args.old) c.drop_before.ensures)) c.take_effect.ensures.value
+    IfOk-weaker c.take_effect.result _ _ (λ value e. e
+    ∙ sym (all_left effect c.args.key.now c.args.self.now c.drop_before.new.self (option_of c.args.old) c.drop_before.ensures)) c.take_effect.ensures.value
 
 pub returns-clause-left : goal.returns-clause-left
 returns-clause-left g c =

@@ -39,7 +39,8 @@ loop-old-preserved g c =
     let olds : c.loop-old.old-iterator.rest.items ≡ c.in-Some.old ∷ c.next.new.self.rest.items = search rules in
     let left = c.in_ok-held.ensures.left in
     record {
-      values = value_more effect c.loop-old.newer (λ k. k.now) option_of c.loop-old.rest.now _ c.key-item.result c.loop-old.old-iterator.rest.items c.next.new.self.rest.items c.in-Some.old c.in_ok-into_value.field-0 c.take_up_to.new.self
+      values = value_more effect c.loop-old.newer (λ k. k.now) option_of c.loop-old.rest.now _ c.key-item.result c.loop-old.old-iterator.rest.items
+          c.next.new.self.rest.items c.in-Some.old c.in_ok-into_value.field-0 c.take_up_to.new.self
           c.loop-old.values.items c.push.new.self.items _ here olds (c.in_ok-into_value.ensures ∙ c.in_ok-held.ensures.value) left c.in_ok-push.ensures.items rising c.loop-old.invariant.values;
       rising = rest_rises _ _ (subst (λ ks. AreRising (map (λ k. k.now) ks)) here rising);
       sorted = subst IsSorted (sym left) (past_in_order c.key-item.result.now c.loop-old.newer c.loop-old.invariant.sorted);
@@ -49,4 +50,5 @@ pub returns : goal.returns
 returns g c =
     let effect = effect_of g.V.Merge.terms.merged in
     let left : c.loop-old.old-iterator.rest.items ≡ [] = nil_from_length c.loop-old.old-iterator.rest.items (search rules) in
-    values_end effect c.loop-old.newer (map (λ k. k.now) c.loop-old.rest.now) (map option_of c.loop-old.old-iterator.rest.items) c.loop-old.values.items _ (ap (map option_of) left) c.loop-old.invariant.values
+    values_end effect c.loop-old.newer (map (λ k. k.now) c.loop-old.rest.now) (map option_of c.loop-old.old-iterator.rest.items) c.loop-old.values.items _
+    (ap (map option_of) left) c.loop-old.invariant.values

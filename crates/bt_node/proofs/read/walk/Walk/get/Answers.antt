@@ -9,4 +9,5 @@ pub returns : goal.returns
 returns g c =
     let effect = effect_of g.V.Merge.terms.merged in
     let order = c.requires in
-    IfOk-weaker c.into_value.result _ _ (λ value e. e ∙ c.in_ok-tree_value.ensures ∙ ap (tree_value effect c.args.key.now) c.self.view_is ∙ tree_value-held effect order.0 order.1 order.2 c.args.self.now c.args.key.now order.3) c.into_value.ensures
+    IfOk-weaker c.into_value.result _ _ (λ value e. e ∙ c.in_ok-tree_value.ensures ∙ ap (tree_value effect c.args.key.now) c.self.view_is
+    ∙ tree_value-held effect order.0 order.1 order.2 c.args.self.now c.args.key.now order.3) c.into_value.ensures

@@ -23,11 +23,15 @@ pub returns-then-is_empty_range-clause-rows : goal.returns-then-is_empty_range-c
 returns-then-is_empty_range-clause-rows g c =
     let from = option_copied c.args.from in
     let to = option_copied c.args.to in
-    ap (all_rows (effect_of g.V.Merge.terms.merged)) c.new.ensures.items ∙ sym (none_between from to (holds (effect_of g.V.Merge.terms.merged) c.args.self.now) (empty_range c.args.from to c.is_empty_range.result c.is_empty_range.ensures c.if-is_empty_range.true))
+    ap (all_rows (effect_of g.V.Merge.terms.merged)) c.new.ensures.items
+    ∙ sym (none_between from to (holds (effect_of g.V.Merge.terms.merged) c.args.self.now)
+    (empty_range c.args.from to c.is_empty_range.result c.is_empty_range.ensures c.if-is_empty_range.true))
 
 pub returns-then-is_empty_range-clause-owners : goal.returns-then-is_empty_range-clause-owners
 returns-then-is_empty_range-clause-owners g c key =
-    ap (owners key) c.new.ensures.items ∙ ap {B = ℕ} (λ b. cond b 1 0) (sym (empty_range c.args.from (option_copied c.args.to) c.is_empty_range.result c.is_empty_range.ensures c.if-is_empty_range.true key))
+    ap (owners key) c.new.ensures.items ∙ ap {B =
+    ℕ} (λ b. cond b 1 0) (sym (empty_range c.args.from (option_copied c.args.to) c.is_empty_range.result c.is_empty_range.ensures c.if-is_empty_range.true
+    key))
 
 pub returns-then-is_empty_range-clause-chained : goal.returns-then-is_empty_range-clause-chained
 returns-then-is_empty_range-clause-chained g c key inside =
