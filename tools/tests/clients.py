@@ -1,6 +1,6 @@
 """Tests of the library for C, by its clients in C, Python and Rust: worked scripts in parts, sessions side by side, rows and refusals, wrong use, refused
-memory, valgrind, and the programs of docs/C.md. The library is that of BETABLE_LIBRARY, or bin/build_c builds it. Where valgrind or rustc is not installed
-a line says so, and what needs it passes without a look."""
+memory, valgrind, and the programs of docs/C.md and docs/PYTHON.md. The library is that of BETABLE_LIBRARY, or bin/build_c builds it. Where valgrind or rustc
+is not installed a line says so, and what needs it passes without a look."""
 
 import os
 import re
@@ -181,10 +181,9 @@ def sessions_of_two_threads_do_not_meet():
 
 
 def programs_of_the_document_print_what_they_say():
-    """Those of docs/C.md, by the lines that follow them."""
-    page = (TOP / "docs/C.md").read_text()
-    for language, ending in (("c", ".c"), ("python", ".py"), ("rust", ".rs")):
-        code, after = page.split(f"```{language}\n")[1].split("```\n", 1)
+    """Those of docs/C.md and docs/PYTHON.md, by the lines that follow them."""
+    for page, language, ending in (("C.md", "c", ".c"), ("PYTHON.md", "python", ".py"), ("C.md", "rust", ".rs")):
+        code, after = (TOP / "docs" / page).read_text().split(f"```{language}\n")[1].split("```\n", 1)
         source, wanted = Path(programs().name) / f"ten_lines{ending}", after.split("```text\n")[1].split("```")[0]
         source.write_text(code)
         if language == "rust" and not is_installed("rustc", "clients/rust is"):

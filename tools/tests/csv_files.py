@@ -372,11 +372,12 @@ def from_csv_makes_scripts_of_64_mebibytes_and_no_byte_more():
         path.write_text("a,b\n" + "".join(f"{n},xyz\n" for n in range(2500)))
         size = len(run("tools/from_csv", str(path), "--key", "a")[1])
         so_far = "1,000 records so far, 2 columns, divided by ','\n  table 16 1024 256 1 a:int b:text\n  refused: the script would have more than 9,000"
+        too_large = f"the file has {path.stat().st_size:,} bytes; --csv writes the records for load_csv of a session, which takes any size (docs/PYTHON.md)"
         for most, words, status, said in (
             (size, [], 0, ""),
             (size - 1, [], 2, f"the script would have {size:,} bytes"),
             (9000, [], 2, so_far),
-            (9000, [], 2, f"the file has {path.stat().st_size:,} bytes; --csv writes the records for load_csv of a session, which takes any size (docs/C.md)"),
+            (9000, [], 2, too_large),
             (9000, ["--columns", "a,b"], 2, "it is full at record 2000 (line 2001); --csv writes"),
         ):
             tool.MOST_SCRIPT = most

@@ -248,7 +248,7 @@ def the_tarball_works_in_any_folder() -> None:
             tried.completion_in_bash(place, prefix)
         else:
             print("bash-completion is not installed: completion by it is not tested")
-        page = (TOP / "docs/C.md").read_text()
+        page = (TOP / "docs/PYTHON.md").read_text()
         tried.program_in_python(place, page, f"PYTHONPATH={prefix}/share/betable/clients/python {sys.executable}")
 
 
@@ -261,7 +261,7 @@ def the_wheel_works_in_a_new_environment() -> None:
         return
     with tempfile.TemporaryDirectory() as folder:
         wheel = shlex.quote(str(next(dist.glob("*.whl"))))
-        imported("tools/package_test").the_wheel(Folder(folder), wheel, (TOP / "docs/C.md").read_text(), (TOP / "VERSION").read_text())
+        imported("tools/package_test").the_wheel(Folder(folder), wheel, (TOP / "docs/PYTHON.md").read_text(), (TOP / "VERSION").read_text())
 
 
 def packages_work_in_a_clean_debian() -> None:

@@ -12,7 +12,7 @@
         session.sums("by_city", 1, "qty")       # [(99999, 999995, 'Bergen, west')]
 
 The library is libbt_c.so, in the folder that BETABLE_LIBRARY names, or else beside this package, in out/ of the repository, where bin/build_c builds it, or
-where the Debian package has it. docs/SCRIPT.md has the language, and docs/C.md the calls and their errors.
+where the Debian package has it. docs/SCRIPT.md has the language, and docs/PYTHON.md the calls and their errors.
 
 Layers over sessions have the same calls: `open` gives a table that is kept on disk (docs/DURABLE.md), `Replicas` and `Sharded` one on several machines
 (docs/CLUSTER.md), and `python3 -m betable serve` serves one by HTTP (docs/SERVICE.md). They are imported when they are first used. `python3 -m betable shell`
