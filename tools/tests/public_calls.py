@@ -101,7 +101,7 @@ def repository(folder: str) -> Path:
         (top / "crates/lists/specs" / name).parent.mkdir(exist_ok=True)
         (top / "crates/lists/specs" / name).write_text(text)
     (top / "docs").mkdir()
-    (top / "docs/PROOFS.md").write_text(DOCUMENT)
+    (top / "docs/CONTRACTS.md").write_text(DOCUMENT)
     return top
 
 
@@ -135,15 +135,15 @@ def promises_are_put_between_their_two_lines() -> None:
     with tempfile.TemporaryDirectory() as folder:
         top = repository(folder)
         expect(run("tools/promises", "--write", "--top", top), (0, "", ""))
-        expect((top / "docs/PROOFS.md").read_text(), DOCUMENT.replace("old\n", f"\n{LINES}"))
-        (top / "docs/PROOFS.md").write_text(DOCUMENT.replace("<!-- end", "<!-- the end"))
+        expect((top / "docs/CONTRACTS.md").read_text(), DOCUMENT.replace("old\n", f"\n{LINES}"))
+        (top / "docs/CONTRACTS.md").write_text(DOCUMENT.replace("<!-- end", "<!-- the end"))
         status, _, errors = run("tools/promises", "--write", "--top", top)
         expect(status, 1)
-        expect_within("docs/PROOFS.md has no lines <!-- promises --> and", errors)
+        expect_within("docs/CONTRACTS.md has no lines <!-- promises --> and", errors)
 
 
 def promises_of_the_document() -> str:
-    return (TOP / "docs/PROOFS.md").read_text().split("<!-- promises -->\n")[1].split("<!-- end of the promises -->")[0]
+    return (TOP / "docs/CONTRACTS.md").read_text().split("<!-- promises -->\n")[1].split("<!-- end of the promises -->")[0]
 
 
 def promises_of_the_document_are_those_of_the_sources() -> None:

@@ -10,7 +10,7 @@ from common import expect, expect_within, run, run_forked, TOP
 # Two crates, and a function `answer` with the clauses that the list begins with. No definition named `unused` counts.
 LISTED = {
     "crates.txt": "# Two crates.\nupper: lower\nlower: csv\n",
-    "docs/PROOFS.md": "Before.\n\n<!-- reading list -->\nold\n<!-- end of the reading list -->\n\nBehind.\n",
+    "docs/CONTRACTS.md": "Before.\n\n<!-- reading list -->\nold\n<!-- end of the reading list -->\n\nBehind.\n",
     "crates/upper/src/run.rt": """ghost use Rattle.std.specs.Prelude.{◌≡◌, IfOk};
 ghost use Rattle.upper.specs.Answers.{answer_of, unused};
 ghost use Rattle.lower.specs.Weights as spec;
@@ -154,22 +154,22 @@ def reading_list(*words, file="crates.txt", old="", new=""):
         expect_within(old, LISTED[file])
         (Path(folder) / file).write_text(LISTED[file].replace(old, new))
         ended = run_forked("tools/reading_list", "--top", folder, *words, "upper/src/run.rt:answer")
-        return *ended, (Path(folder) / "docs/PROOFS.md").read_text()
+        return *ended, (Path(folder) / "docs/CONTRACTS.md").read_text()
 
 
-def listed_in_proofs():
-    """The list in docs/PROOFS.md."""
-    return (TOP / "docs/PROOFS.md").read_text().split("<!-- reading list -->\n")[1].split("<!-- end of the reading list -->")[0]
+def listed_in_the_document():
+    """The list in docs/CONTRACTS.md."""
+    return (TOP / "docs/CONTRACTS.md").read_text().split("<!-- reading list -->\n")[1].split("<!-- end of the reading list -->")[0]
 
 
 def reading_list_is_that_of_the_document():
     status, text, errors = run("tools/reading_list")
     expect((status, errors), (0, ""))
-    expect(listed_in_proofs().strip().splitlines(), text.strip().splitlines())
+    expect(listed_in_the_document().strip().splitlines(), text.strip().splitlines())
 
 
 def lines_of_the_reading_list_are_at_most_160_letters_long():
-    expect([line for line in listed_in_proofs().splitlines() if len(line) > 160], [])
+    expect([line for line in listed_in_the_document().splitlines() if len(line) > 160], [])
 
 
 def reading_list_follows_each_form_of_a_name():
@@ -230,12 +230,12 @@ def reading_list_is_put_between_its_two_lines():
     status, text, errors, document = reading_list("--write")
     expect((status, text, errors), (0, "", ""))
     expect(document, f"Before.\n\n<!-- reading list -->\n\n{LIST}\n<!-- end of the reading list -->\n\nBehind.\n")
-    status, text, errors, document = reading_list("--write", file="docs/PROOFS.md", old="<!-- end", new="<!-- the end")
+    status, text, errors, document = reading_list("--write", file="docs/CONTRACTS.md", old="<!-- end", new="<!-- the end")
     expect((status, "old" in document), (1, True))
 
 
 def definitions_of(*roots):
-    """The definitions that the clauses of these functions rest on, by file, as bt_shell/specs/Runs. Where none is given, those of the statement on the whole."""
+    """The definitions that the clauses of these functions rest on, by file, as bt_shell/specs/Runs. Where none is given, those of the theorem."""
     status, text, errors = run_forked("tools/reading_list", *roots)
     expect((status, errors), (0, ""))
     entries = re.split(r"^- ", text.partition("Types and constants")[0], flags=re.MULTILINE)[1:]
