@@ -311,8 +311,8 @@ def crates_depend_on_each_other_as_the_architecture_says():
     expect({quoted(crate)[0]: set(quoted(over)) for crate, over, _ in table}, below)
     graph = text.split("```text\n")[1].split("```")[0]
     expect(set(re.findall(r"\w+", graph)), set(below))
-    arrows = re.findall(r"(?=\b(\w+) (?:─*→|→) (\w+))", graph)
-    expect([pair for pair in arrows if pair[1] not in below[pair[0]]], [])
+    layers = {crate: number for number, line in enumerate(graph.splitlines()) for crate in re.findall(r"\w+", line)}
+    expect([(crate, name) for crate, names in below.items() for name in names if layers[crate] >= layers[name]], [])
 
 
 # ---- what is on two pages, or in a page and in the repository ----
