@@ -144,6 +144,16 @@ def decisions_are_numbered():
     expect(sorted(int(number[1]) for number in numbers), list(range(1, len(parts) + 1)))
 
 
+def decisions_are_in_the_sections_of_the_table():
+    """The table at the head of docs/DECISIONS.md has the numbers of each section, as in 1, 2, 195 to 198."""
+    head, *parts = re.split(r"^## ", text_of("docs/DECISIONS.md"), flags=re.MULTILINE)
+    told = {}
+    for title, numbers in rows(head):
+        bounds = [[int(number) for number in part.split(" to ")] for part in numbers.split(", ")]
+        told[re.match(r"\[(.*)\]", title)[1]] = [number for each in bounds for number in range(each[0], each[-1] + 1)]
+    expect(told, {part.split("\n")[0]: sorted(map(int, re.findall(r"^\*\*(\d+)\.", part, re.MULTILINE))) for part in parts})
+
+
 # ---- links and names ----
 
 
@@ -528,6 +538,7 @@ TESTS_OF_TEXTS = [
     words_of_the_documents_are_spelled_right,
     first_lines_of_the_documents_say_whom_they_are_for,
     decisions_are_numbered,
+    decisions_are_in_the_sections_of_the_table,
     links_of_the_documents_lead_to_what_is_there,
     faulty_links_are_found,
     each_page_is_linked_from_the_readme,
