@@ -187,8 +187,8 @@ impl Key {
     pub fn compare(&self, other: &Key) -> Ordering
         ensures { result ≡ key_cmp self.now other.now }
     {
-        // Nearly all keys differ in the bytes that they keep, most in the first eight: these are compared where the call stands, as in
-        // the loops of a sort. Where each key has its bytes is looked at once.
+        // Nearly all keys differ in the bytes that they keep inline, most in the first eight. These are compared inline, as in the loops of
+        // a sort, after one test of where each key has its bytes.
         match compare_short(self.padded(), other.padded()) {
             Ordering::Equal => self.compare_rest(other),
             order => order,

@@ -38,7 +38,8 @@ occurs_at (p ∷ placed) (suc n) d within =
     let some = occurs_at placed n d (omega (arith, within)) in
     omega (arith, ahead, some)
 
-pub occurs_twice : (placed : List Placed) (m n : ℕ) (d : Placed) → m < n → n < length placed → (get_or placed m d).place ≡ (get_or placed n d).place → 2 ≤ occurrences (get_or placed n d).place (places_of placed)
+pub occurs_twice : (placed : List Placed) (m n : ℕ) (d : Placed) → m < n → n < length placed → (get_or placed m d).place ≡ (get_or placed n d).place
+    → 2 ≤ occurrences (get_or placed n d).place (places_of placed)
 occurs_twice [] m n d below within same = absurd (omega (arith, within))
 occurs_twice (p ∷ placed) m zero d below within same = absurd (omega (arith, below))
 occurs_twice (p ∷ placed) zero (suc n) d below within same =

@@ -1,5 +1,6 @@
 -- Keys in order: if none repeats the one before it, they strictly rise. The smallest place of one that does is the first whose key an earlier place has.
-use Rattle.std.proofs.Common.{◌≡◌, ◌≢◌, ℕ, zero, suc, ◌+◌, ◌-◌, ◌<◌, ◌≤◌, false, T, List, [], ◌∷◌, get_or, length, map, refl, sym, ap, ◌∙◌, subst, ◌⊎◌, inl, inr, min, ⊎_elim, true≢false, arith, Option, Some, None, Err}
+use Rattle.std.proofs.Common.{◌≡◌, ◌≢◌, ℕ, zero, suc, ◌+◌, ◌-◌, ◌<◌, ◌≤◌, false, T, List, [], ◌∷◌, get_or, length, map, refl}
+use Rattle.std.proofs.Common.{sym, ap, ◌∙◌, subst, ◌⊎◌, inl, inr, min, ⊎_elim, true≢false, arith, Option, Some, None, Err}
 use Rattle.std.proofs.lemmas.Bool.{cases_lt, lt-ltb}
 use Rattle.std.proofs.lemmas.Bool.Decides.{eqb_tells}
 use Rattle.std.proofs.Math.Nat.{min-eq_left, min-eq_right, min-le_left, min-le_right}
@@ -37,7 +38,11 @@ length-placed_from keys place (row ∷ rows) = ap suc (length-placed_from keys (
 pub same_placed : (key : Key) (m n : ℕ) → m ≡ n → ◌≡◌ {A = Placed} (record { key = key; place = m }) (record { key = key; place = n })
 same_placed key m n e = let f : ℕ → Placed = λ k. record { key = key; place = k } in ap f e
 
-placed_at : (keys place : ℕ) (rows : List (List Value)) (n : ℕ) (d : Placed) → n < length rows → get_or (placed_from keys place rows) n d ≡ record { key = row_key keys (get_or rows n []); place = place + n }
+placed_at : (keys place : ℕ) (rows : List (List Value)) (n : ℕ) (d : Placed) → n < length rows → get_or (placed_from keys place rows) n d ≡ record {
+  key =
+      row_key keys (get_or rows n []);
+  place = place + n;
+}
 placed_at keys place [] n d within = absurd (omega (arith, within))
 placed_at keys place (row ∷ rows) zero d within = let here : place ≡ place + 0 = omega arith in same_placed (row_key keys row) place (place + 0) here
 placed_at keys place (row ∷ rows) (suc n) d within =
@@ -50,7 +55,8 @@ key-at keys rows n within =
     ap (λ (p : Key × List Value). p.0) (get_or-map f rows n [] ([], []) within)
 
 -- the keys with the rows at their places are the rows with their keys
-pairs_from : (keys place : ℕ) (all rest : List (List Value)) → ((n : ℕ) → n < length rest → get_or all (place + n) [] ≡ get_or rest n []) → map (pair_at all) (placed_from keys place rest) ≡ keyed_rows keys rest
+pairs_from : (keys place : ℕ) (all rest : List (List Value)) → ((n : ℕ) → n < length rest → get_or all (place + n) [] ≡ get_or rest n [])
+    → map (pair_at all) (placed_from keys place rest) ≡ keyed_rows keys rest
 pairs_from keys place all [] same = refl
 pairs_from keys place all (row ∷ rest) same =
     let here : place + 0 ≡ place = omega arith in
@@ -226,8 +232,16 @@ module _ (keys : ℕ) (rows : List (List Value)) (placed : List Placed) (moved :
       let back : m + 1 ≡ late.n = omega (arith, order) in
       let far = not_before_key (at placed m) (at placed early.n) (sorted_far placed_before placed_ranks placed up early.n m _ (omega (arith, order)) (omega (arith, late.within))) in
       let near = not_before_key (at placed late.n) (at placed m) (sorted_far placed_before placed_ranks placed up m late.n _ (omega arith) late.within) in
-      let same_as : (at placed m).key ≡ (at placed late.n).key = neither_before (at placed m).key (at placed late.n).key (subst (λ x. is_before (at placed m).key x ≡ false) one far) near in
-      (late.n, record { some = omega (arith, order); within = late.within; same = ap (λ x. is_eq (key_cmp x (at placed late.n).key)) same_as ∙ ap is_eq (tied_itself total_keys (at placed late.n).key) }, late.place)
+      let same_as : (at placed m).key ≡ (at placed late.n).key = neither_before (at placed m).key (at placed late.n).key (subst (λ x. is_before (at placed m).key x ≡ false) one far) near in (
+        late.n,
+        record {
+          some = omega (arith, order);
+          within = late.within;
+          same =
+              ap (λ x. is_eq (key_cmp x (at placed late.n).key)) same_as ∙ ap is_eq (tied_itself total_keys (at placed late.n).key);
+        },
+        late.place,
+      )
     where
       backwards : (late : Stood k) (early : Stood j) → (at placed early.n).key ≡ (at placed late.n).key → late.n ≤ early.n → ⊥
       backwards late early one ge =
@@ -273,7 +287,11 @@ pub one_more_repeats : (placed : List Placed) (most : ℕ) (found : Option ℕ) 
     → IsFirstRepeat placed (most + 1) (Some (lesser_of found place))
 one_more_repeats placed most None place repeat is before = (
   (most, repeat, sym is),
-  λ n within again. elim (eqb_tells n most) [ inl e ↦ (let same = ap (λ k. (at placed k).place) e.1 in omega (arith, is, same)) | inr other ↦ absurd (before n (below_more n most within other.1) again) ],
+  λ n within again. elim (eqb_tells n most) [
+    | inl e ↦ (let same = ap (λ k. (at placed k).place) e.1 in
+        omega (arith, is, same))
+    | inr other ↦ absurd (before n (below_more n most within other.1) again)
+  ],
 )
 one_more_repeats placed most (Some found) place repeat is before = (
   by_order (cases_lt found place),

@@ -1,5 +1,6 @@
 -- Records that are typed one after the other, and one by one.
-use Rattle.std.proofs.Common.{◌≡◌, ℕ, zero, suc, ◌+◌, ◌<◌, ◌==◌, true, false, List, [], ◌∷◌, drop, get_or, length, map, refl, subst, sym, ap, ◌∙◌, arith, Option, None, Some, Result, Ok, Err, if◌then◌else◌}
+use Rattle.std.proofs.Common.{◌≡◌, ℕ, zero, suc, ◌+◌, ◌<◌, ◌==◌, true, false, List, [], ◌∷◌, drop, get_or, length, map}
+use Rattle.std.proofs.Common.{refl, subst, sym, ap, ◌∙◌, arith, Option, None, Some, Result, Ok, Err, if◌then◌else◌}
 use Rattle.std.specs.List.{filter_map}
 use Rattle.std.specs.Result.{result_err, result_ok}
 use Rattle.bt_value.specs.Results.{all_read, unless, or_refused}
@@ -55,7 +56,8 @@ any_item columns fields row i j e =
 abbrev row_answer : List Value → Answer
 row_answer row = Ok row
 
-rows_of : (columns : List Column) (item : ℕ) (records : List Fields) (rows : List (List Value)) → length rows ≡ length records → ((k : ℕ) → k < length rows → IsRowOrNone columns (get_or records k []) (get_or rows k [])) → HaveValues rows
+rows_of : (columns : List Column) (item : ℕ) (records : List Fields) (rows : List (List Value)) → length rows ≡ length records
+    → ((k : ℕ) → k < length rows → IsRowOrNone columns (get_or records k []) (get_or rows k [])) → HaveValues rows
     → typed_from columns item records ≡ map row_answer rows
 rows_of columns item [] [] long are some = refl
 rows_of columns item [] (row ∷ rows) long are some = absurd (omega (arith, long))

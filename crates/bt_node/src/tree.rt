@@ -168,7 +168,8 @@ pub fn pack<V: Merge>(
     Ok(crown(alloc, shape, siblings)?)
 }
 
-/// The tree that [`pack`] makes of rows, of so many that come one at a time. Each is moved into its leaf at once, and no list of all is made.
+/// The tree that [`pack`] builds, from `count` rows that come one at a time. Each row moves into its leaf at once, so there is no list of all
+/// rows.
 pub fn pack_source<V: Merge, S: RowSource<V>>(
     alloc: Global,
     shape: Shape,

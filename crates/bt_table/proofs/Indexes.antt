@@ -1,5 +1,6 @@
 -- How a batch, a step of building or a load changes the indexes of a table, and that they are sound then. Serves the calls of a table.
-use Rattle.std.proofs.Common.{ℕ, zero, suc, ◌+◌, ◌≡◌, ◌∙◌, ◌&&◌, Bool, T, List, [], ◌∷◌, ◌++◌, ap, arith, drop, false, get_or, if◌then◌else◌, length, map, refl, set, slice_get, subst, sym, true, IfSome, Some}
+use Rattle.std.proofs.Common.{ℕ, zero, suc, ◌+◌, ◌≡◌, ◌∙◌, ◌&&◌, Bool, T, List, [], ◌∷◌, ◌++◌, ap, arith, drop, false, get_or}
+use Rattle.std.proofs.Common.{if◌then◌else◌, length, map, refl, set, slice_get, subst, sym, true, IfSome, Some}
 use Rattle.std.proofs.lemmas.List.{set-get_or, set-set}
 use Rattle.std.proofs.lemmas.List.Elements.{All-filter}
 use Rattle.std.proofs.lemmas.Option.{get_or_from_slice_get}
@@ -30,7 +31,8 @@ use Rattle.bt_fanout.proofs.offered.Standing.{stands_under}
 use Rattle.bt_fanout.proofs.offered.Suiting.{all_more, all_none, of_whole, suits_effects, suits_row}
 use Rattle.bt_fanout.proofs.offered.Turns.{packet_turns}
 use Rattle.bt_batch.specs.Batches.{RowMessages}
-use Rattle.bt_table.specs.Indexes.{EntryTree, Index, advanced, building_packet, built_index, index_named_from, index_with, indexes_after, indexes_of, is_complete, is_name_of, packed_index, packet_of, sent_count, sunk_index}
+use Rattle.bt_table.specs.Indexes.{EntryTree, Index, advanced, building_packet, built_index, index_named_from, index_with, indexes_after}
+use Rattle.bt_table.specs.Indexes.{indexes_of, is_complete, is_name_of, packed_index, packet_of, sent_count, sunk_index}
 use Rattle.bt_table.specs.inside.IndexTrees.{covers_all, entry_tree, packet_for, count_for, sunk_tree, sunk_trees, widest}
 use Rattle.bt_table.specs.Standing.{AllStand, AreSoundIndexes, HoldsSelection, IsSoundIndex}
 use Rattle.bt_fanout.specs.declared.cover.Cover.{Cover}
@@ -55,10 +57,12 @@ advanced-sound schema shape old new index sound packet cover turned = record {
       ∙ ap (rows_after entry_effect packet) sound.held ∙ turned;
 }
 
-module _ (schema : Schema) (shape : Shape) (rows : Rows (List Value)) (batch : RowMessages) (sorted : T (is_sorted key_cmp rows)) (before : AllStand schema rows) (after : AllStand schema (rows_after row_effect batch rows)) where
+module _ (schema : Schema) (shape : Shape) (rows : Rows (List Value)) (batch : RowMessages) (sorted : T (is_sorted key_cmp rows)) (before
+    : AllStand schema rows) (after : AllStand schema (rows_after row_effect batch rows)) where
   turns : (index : Index) → IsSoundIndex schema shape rows index → Turns index.def index.cover batch rows (sorted_batch (sent_for_all index.def index.cover (effects_of batch rows)))
   turns index sound =
-      packet_turns index.def index.cover (kinds_of schema.columns) batch rows sorted (stand schema index.def sound.keys rows before) (stand schema index.def sound.keys (rows_after row_effect batch rows) after)
+      packet_turns index.def index.cover (kinds_of schema.columns) batch rows sorted (stand schema index.def sound.keys rows before)
+      (stand schema index.def sound.keys (rows_after row_effect batch rows) after)
 
   -- ---- what is sent
 
@@ -87,7 +91,8 @@ module _ (schema : Schema) (shape : Shape) (rows : Rows (List Value)) (batch : R
   indexes_suit (head ∷ heads) (tree ∷ trees) many sound =
       all_more (λ head. All (SuitsEffect head.def) (effects_of (sorted_batch batch) rows)) head heads
       (subst (All (SuitsEffect head.def)) (sym (effects-sorted_batch batch rows sorted))
-      (suits_effects head.def (kinds_of schema.columns) sound.0.suits batch rows (stand schema head.def sound.0.keys rows before) (stand schema head.def sound.0.keys (rows_after row_effect batch rows) after)))
+      (suits_effects head.def (kinds_of schema.columns) sound.0.suits batch rows (stand schema head.def sound.0.keys rows before)
+      (stand schema head.def sound.0.keys (rows_after row_effect batch rows) after)))
       (indexes_suit heads trees (omega (arith, many)) sound.1)
 
   -- ---- indexes after the batch
@@ -180,7 +185,8 @@ module _ (schema : Schema) (shape : Shape) (rows : Rows (List Value)) (sorted : 
 
 -- ---- heads beside trees
 
-pub length-sunk : (heads : List IndexHead) (trees : List (Shape × EntryTree)) (packet : IndexHead → Messages EntryMessage) → length trees ≡ length heads → length (sunk_trees trees (map packet heads)) ≡ length heads
+pub length-sunk : (heads : List IndexHead) (trees : List (Shape × EntryTree)) (packet : IndexHead → Messages EntryMessage) → length trees ≡ length heads
+    → length (sunk_trees trees (map packet heads)) ≡ length heads
 length-sunk [] [] packet many = refl
 length-sunk [] (tree ∷ trees) packet many = refl
 length-sunk (head ∷ heads) [] packet many = absurd (omega (arith, many))
@@ -197,7 +203,8 @@ complete_are (head ∷ heads) [] many = absurd (omega (arith, many))
 complete_are (head ∷ heads) (tree ∷ trees) many = ap (λ rest. covers_all head && rest) (complete_are heads trees (omega (arith, many)))
 
 -- the indexes from a place on begin with that of the place
-pub index_at : (place : ℕ) (heads : List IndexHead) (trees : List (Shape × EntryTree)) (head : IndexHead) (tree : Shape × EntryTree) → slice_get heads place ≡ Some head → slice_get trees place ≡ Some tree
+pub index_at : (place : ℕ) (heads : List IndexHead) (trees : List (Shape × EntryTree)) (head : IndexHead) (tree : Shape × EntryTree)
+    → slice_get heads place ≡ Some head → slice_get trees place ≡ Some tree
     → indexes_of (drop place heads) (drop place trees) ≡ index_with head tree ∷ indexes_of (drop (suc place) heads) (drop (suc place) trees)
 index_at place [] trees head tree there beside = cc
 index_at place (h ∷ heads) [] head tree there beside = cc
@@ -208,7 +215,8 @@ index_at zero (h ∷ heads) (t ∷ trees) head tree there beside =
 index_at (suc place) (h ∷ heads) (t ∷ trees) head tree there beside = index_at place heads trees head tree there beside
 
 -- so the index at the place has a name, or the search goes on with the next one
-module _ (name : List ℕ) (place : ℕ) (heads : List IndexHead) (trees : List (Shape × EntryTree)) (head : IndexHead) (tree : Shape × EntryTree) (there : slice_get heads place ≡ Some head) (beside : slice_get trees place ≡ Some tree) where
+module _ (name : List ℕ) (place : ℕ) (heads : List IndexHead) (trees : List (Shape × EntryTree)) (head : IndexHead) (tree : Shape
+    × EntryTree) (there : slice_get heads place ≡ Some head) (beside : slice_get trees place ≡ Some tree) where
   named_at : index_named_from place name (indexes_of (drop place heads) (drop place trees))
       ≡ (if is_name_of name (index_with head tree) then Some (place, index_with head tree) else index_named_from (suc place) name (indexes_of (drop (suc place) heads) (drop (suc place) trees)))
   named_at = ap (index_named_from place name) (index_at place heads trees head tree there beside)
@@ -285,7 +293,8 @@ module _ (schema : Schema) (shape : Shape) (rows : Rows (List Value)) where
   sound-set (index ∷ indexes) (suc place) other sound one = (sound.0, sound-set indexes place other sound.1 one)
 
   -- the index that a name finds is one of them
-  pub sound-found : (place : ℕ) (name : List ℕ) (indexes : List Index) → AreSoundIndexes schema shape rows indexes → IfSome (index_named_from place name indexes) (λ found. IsSoundIndex schema shape rows found.1)
+  pub sound-found : (place : ℕ) (name : List ℕ) (indexes : List Index) → AreSoundIndexes schema shape rows indexes
+      → IfSome (index_named_from place name indexes) (λ found. IsSoundIndex schema shape rows found.1)
   sound-found place name [] sound = tt
   sound-found place name (index ∷ indexes) sound =
       elim (is_name_of name index) as (λ b. IfSome (if b then Some (place, index) else index_named_from (suc place) name indexes) (λ found. IsSoundIndex schema shape rows found.1)) [
@@ -313,7 +322,12 @@ module _ (batch : RowMessages) (rows : Rows (List Value)) where
   counts-within cover [] = refl
   counts-within cover (head ∷ heads) =
       let wide = wider cover head.cover in
-      λ i. record { name = head.name; count = length (packet-within head (widest wide heads) (λ k is. stays_among wide heads k (second_among_wider cover head.cover k is)) i) } ∷ counts-within wide heads i
+      λ i. record {
+        name = head.name;
+        count =
+            length (packet-within head (widest wide heads) (λ k is. stays_among wide heads k (second_among_wider cover head.cover k is)) i);
+      } ∷ counts-within
+      wide heads i
 
   -- so the effects within the widest cover send each index the same messages as all effects
   module _ (heads : List IndexHead) (wide : Cover) (wide_is : wide ≡ widest Nothing heads) (effects : List Effect) (effects_are : effects ≡ effects_within wide batch rows) where
@@ -328,5 +342,6 @@ module _ (batch : RowMessages) (rows : Rows (List Value)) where
   none_within cover is = sym (ap (λ c. effects_within c batch rows) is ∙ effects-nothing batch rows)
 
   -- the definitions suit the rows that the effects on them have
-  pub suit-within : (wide : Cover) (heads : List IndexHead) → All (λ head. All (SuitsEffect head.def) (effects_of batch rows)) heads → All (λ head. All (SuitsEffect head.def) (effects_within wide batch rows)) heads
+  pub suit-within : (wide : Cover) (heads : List IndexHead) → All (λ head. All (SuitsEffect head.def) (effects_of batch rows)) heads
+      → All (λ head. All (SuitsEffect head.def) (effects_within wide batch rows)) heads
   suit-within wide heads suit i d l = All-filter (λ effect. is_covered wide effect.key) (SuitsEffect (get_or heads i d).def) (effects_of batch rows) (suit i d l)

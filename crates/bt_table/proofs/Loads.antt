@@ -11,7 +11,12 @@ use Rattle.bt_table.proofs.Standing.{put-stand}
 map_by_key-stand : (schema : Schema) (rows : List (List Value)) → AreOf schema.columns rows → AllStand schema (map_by_key (keyed_rows schema.keys rows))
 map_by_key-stand schema [] fit = tt
 map_by_key-stand schema (row ∷ rows) fit =
-    put-stand schema (row_key schema.keys row) row (map_by_key (keyed_rows schema.keys rows)) (record { placed = refl; fits = fit.0.fits; in_range = fit.0.in_range }) (map_by_key-stand schema rows fit.1)
+    put-stand schema (row_key schema.keys row) row (map_by_key (keyed_rows schema.keys rows)) (record {
+      placed = refl;
+      fits = fit.0.fits;
+      in_range =
+          fit.0.in_range;
+    }) (map_by_key-stand schema rows fit.1)
 
 pub map_of-stand : (schema : Schema) (rows : List (List Value)) (pairs : RowMap) → AreOf schema.columns rows → map_of schema.keys rows ≡ Ok pairs → AllStand schema pairs
 map_of-stand schema rows pairs fit is = subst (AllStand schema) (map_of-map_by_key schema.keys rows pairs is) (map_by_key-stand schema rows fit)

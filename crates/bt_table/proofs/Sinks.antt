@@ -28,7 +28,8 @@ pub has_shape-after_batch : (shape : Shape) (t : RowTree) (batch : RowMessages) 
 has_shape-after_batch shape t batch has = sunk-has_shape row_meaning shape t has (sorted_batch batch)
 
 -- the batch changes it to the state that is given by the trees after the batch
-pub stepped : (schema : Schema) (shape : Shape) (t : RowTree) (indexes after : List Index) (batch : RowMessages) → HasShape row_meaning.weigh shape t → after ≡ indexes_after (holds row_effect t) batch indexes
+pub stepped : (schema : Schema) (shape : Shape) (t : RowTree) (indexes after : List Index) (batch : RowMessages) → HasShape row_meaning.weigh shape t
+    → after ≡ indexes_after (holds row_effect t) batch indexes
     → held_by schema (shape, sunk row_meaning shape t (sorted_batch batch)) after ≡ after_batch (held_by schema (shape, t) indexes) batch
 stepped schema shape t indexes after batch has are =
     λ i. record { schema = schema; shape = shape; rows = holds-after_batch shape t batch has i; tree = sunk row_meaning shape t (sorted_batch batch); indexes = are i }

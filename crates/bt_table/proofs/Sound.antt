@@ -70,7 +70,8 @@ message_of_schema schema item (Put fields) =
     ] refl (read_in_range schema.columns item fields)
 message_of_schema schema item (Del fields) = elim (read_key schema item fields) as (λ r. IfOk (map_ok del_of r) (IsOfSchema schema)) [ Ok key ↦ λ old stands. tt | Err refusal ↦ tt ]
 message_of_schema schema item (Ups fields) =
-    elim (upsert_as schema item fields) as (λ r. upsert_as schema item fields ≡ r → IfOk r (λ upsert. AreInRange upsert.0 × OpsInRange upsert.1) → IfOk (map_ok (ups_of schema) r) (IsOfSchema schema)) [
+    elim (upsert_as schema item fields) as (λ r. upsert_as schema item fields ≡ r → IfOk r (λ upsert. AreInRange upsert.0 × OpsInRange upsert.1)
+    → IfOk (map_ok (ups_of schema) r) (IsOfSchema schema)) [
       | Ok upsert ↦ λ is range.
           let fits = upsert_fits schema item fields upsert.0 upsert.1 is in
           ups_of_schema schema upsert.0 upsert.1 fits.0 range.0 fits.1 range.1
@@ -179,12 +180,14 @@ renewed_index-sound upkeep schema shape rows index sound = record {
   suits = sound.suits;
   keys = sound.keys;
   shaped = sound.shaped;
-  tree = subst (λ (s : Shape). HasShape entry_meaning.weigh shape (renewed_tree upkeep entry_meaning s index.tree.1)) (sym sound.shaped) (renewed-has_shape entry_meaning shape index.tree.1 sound.tree upkeep);
+  tree = subst (λ (s : Shape). HasShape entry_meaning.weigh shape (renewed_tree upkeep entry_meaning s index.tree.1)) (sym sound.shaped)
+      (renewed-has_shape entry_meaning shape index.tree.1 sound.tree upkeep);
   held = ap (λ (s : Shape). holds entry_effect (renewed_tree upkeep entry_meaning s index.tree.1)) sound.shaped ∙ renewed-holds entry_meaning shape index.tree.1 sound.tree upkeep ∙ sound.held;
 }
 
 -- a table with a sound index at a place
-pub with_index_at-sound : (table : PlainTable) (place : ℕ) (index : Index) → IsSoundIndex table.schema table.shape table.rows index → IsSoundTable table → IsSoundTable (with_index_at table place index)
+pub with_index_at-sound : (table : PlainTable) (place : ℕ) (index : Index) → IsSoundIndex table.schema table.shape table.rows index → IsSoundTable table
+    → IsSoundTable (with_index_at table place index)
 with_index_at-sound table place index one sound = record {
   tree = sound.tree;
   held = sound.held;
@@ -196,7 +199,8 @@ with_index_at-sound table place index one sound = record {
 module _ (table : PlainTable) (name : List ℕ) (found : ℕ × Index) (is : index_named name table.indexes ≡ Some found) (sound : IsSoundTable table) where
   -- an index that is found is one of those of the table
   pub found-sound : IsSoundIndex table.schema table.shape table.rows found.1
-  found-sound = subst (λ (f : Option (ℕ × Index)). IfSome f (λ g. IsSoundIndex table.schema table.shape table.rows g.1)) is (sound-found table.schema table.shape table.rows 0 name table.indexes sound.indexes)
+  found-sound = subst (λ (f : Option (ℕ × Index)). IfSome f (λ g. IsSoundIndex table.schema table.shape table.rows g.1)) is
+      (sound-found table.schema table.shape table.rows 0 name table.indexes sound.indexes)
 
   pub with_renewed_index-sound : (upkeep : Upkeep) → IsSoundTable (with_renewed_index upkeep table found)
   with_renewed_index-sound upkeep =

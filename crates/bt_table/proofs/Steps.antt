@@ -1,5 +1,6 @@
 -- A table with these trees takes a batch, gets, builds or drops an index, loads rows, gets another tree, or is shown. Serves the calls of a table.
-use Rattle.std.proofs.Common.{ℕ, zero, suc, arith, ◌≤◌, ◌<◌, ◌≡◌, ◌∙◌, ◌++◌, Bool, T, true, false, List, [], ◌∷◌, Option, Some, None, Ok, Err, ap, sym, refl, subst, length, length-set, map, option_map, set, slice_get, if◌then◌else◌, ◌+◌, ◌||◌, is_some, nat_le, IfSome}
+use Rattle.std.proofs.Common.{ℕ, zero, suc, arith, ◌≤◌, ◌<◌, ◌≡◌, ◌∙◌, ◌++◌, Bool, T, true, false, List, [], ◌∷◌, Option, Some, None, Ok, Err, ap, sym}
+use Rattle.std.proofs.Common.{refl, subst, length, length-set, map, option_map, set, slice_get, if◌then◌else◌, ◌+◌, ◌||◌, is_some, nat_le, IfSome}
 use Rattle.std.proofs.lemmas.Bool.{leb-false}
 use Rattle.std.proofs.lemmas.List.{length-map, length_push}
 use Rattle.std.specs.Prelude.{IsSome}
@@ -28,7 +29,10 @@ use Rattle.bt_batch.specs.Batches.{RowMessages, batch_refusals, messages_of}
 use Rattle.bt_fanout.specs.Entries.{Definition, IsWithin}
 use Rattle.bt_fanout.specs.Promises.{SuitsRows, own_puts}
 use Rattle.bt_fanout.specs.declared.cover.Cover.{Cover}
-use Rattle.bt_table.specs.Calls.{Apply, BuildStep, Call, CreateIndex, Drain, Draining, DropIndex, IsStep, Load, Primary, Rebuild, Rebuilding, Secondary, ShowsIndex, ShowsRows, Upkeep, after_build, after_load, built, dropped, index_refusals, is_bare, is_primary, load_refusals, most_indexes, renewed_tree, renewed_index, secondary, step, tree_named, unless_any, with_index, with_index_at, with_renewed, with_renewed_index, with_renewed_rows, with_rows, without_index}
+use Rattle.bt_table.specs.Calls.{Apply, BuildStep, Call, CreateIndex, Drain, Draining, DropIndex, IsStep, Load, Primary, Rebuild, Rebuilding, Secondary}
+use Rattle.bt_table.specs.Calls.{ShowsIndex, ShowsRows, Upkeep, after_build, after_load, built, dropped, index_refusals, is_bare, is_primary, load_refusals}
+use Rattle.bt_table.specs.Calls.{most_indexes, renewed_tree, renewed_index, secondary, step, tree_named, unless_any, with_index, with_index_at, with_renewed}
+use Rattle.bt_table.specs.Calls.{with_renewed_index, with_renewed_rows, with_rows, without_index}
 use Rattle.bt_table.specs.Indexes.{EntryTree, Index, advanced, built_index, index_named, index_of_ref, index_with, indexes_of, is_complete, packet_of, sent_count}
 use Rattle.bt_table.specs.inside.IndexTrees.{empty_head, entry_tree, packet_for, count_for, sunk_tree, sunk_trees, with_cover}
 use Rattle.bt_table.specs.inside.Parts.{AreSoundParts}
@@ -40,10 +44,13 @@ use Rattle.bt_table.specs.declared.reply.Reply.{Reply}
 use Rattle.bt_table.specs.declared.reply.Reply.TheVariants.{Batch, Built, Created, Drained, Dropped, Loaded, Rebuilt}
 use Rattle.bt_table.specs.declared.reply.SentCount.{SentCount}
 use Rattle.bt_table.specs.declared.trees.Trees.{Trees}
-use Rattle.bt_table.proofs.Indexes.{building_packet-is, counts_are, each_suits, holds_selection, indexes_of-append, indexes_of-remove, indexes_of-set, indexes_suit, length-indexes_of, length-remove_same, length-sunk, put_again, rows_within, set_same, sunk_is, with_entry_trees}
+use Rattle.bt_table.proofs.Indexes.{building_packet-is, counts_are, each_suits, holds_selection, indexes_of-append, indexes_of-remove, indexes_of-set}
+use Rattle.bt_table.proofs.Indexes.{indexes_suit, length-indexes_of, length-remove_same, length-sunk, put_again, rows_within, set_same, sunk_is}
+use Rattle.bt_table.proofs.Indexes.{with_entry_trees}
 use Rattle.bt_table.proofs.offered.KeyOrder.{keys_rise}
 use Rattle.bt_table.proofs.Sinks.{stepped}
-use Rattle.bt_table.proofs.Sound.{batch_keeps_sound, batch_of_schema, found-sound, none_building, renewed-holds, rows_sorted, with_built_index-sound, with_renewed_index-sound, with_renewed_rows-sound, with_rows-sound, with_index-sound, without_index-sound}
+use Rattle.bt_table.proofs.Sound.{batch_keeps_sound, batch_of_schema, found-sound, none_building, renewed-holds, rows_sorted, with_built_index-sound}
+use Rattle.bt_table.proofs.Sound.{with_renewed_index-sound, with_renewed_rows-sound, with_rows-sound, with_index-sound, without_index-sound}
 use Rattle.bt_table.proofs.Standing.{rows_after-stand}
 
 -- the call of an upkeep, and its reply
@@ -55,7 +62,8 @@ abbrev pub upkeep_reply : Upkeep → List ℕ → Reply
 upkeep_reply Draining name = Drained name
 upkeep_reply Rebuilding name = Rebuilt name
 
-upkeep_step : (upkeep : Upkeep) (table : PlainTable) (name : List ℕ) → step (Intact table) (upkeep_call upkeep name) ≡ map_ok (λ after. (Intact after, upkeep_reply upkeep name)) (with_renewed upkeep table name)
+upkeep_step : (upkeep : Upkeep) (table : PlainTable) (name : List ℕ)
+    → step (Intact table) (upkeep_call upkeep name) ≡ map_ok (λ after. (Intact after, upkeep_reply upkeep name)) (with_renewed upkeep table name)
 upkeep_step Draining table name = refl
 upkeep_step Rebuilding table name = refl
 
@@ -146,7 +154,8 @@ module _ (schema : Schema) (heads : List IndexHead) (kept : Option Trees) (trees
         pub batch_is_step : (state : TableState) → state_of schema heads kept ≡ state → least (batch_refusals schema items) ≡ None
             → IsStep state (state_of schema heads after) (Apply items) (Batch (length items) sent)
         batch_is_step state was allowed =
-            let counts = sent_are ∙ counts_are schema before.shape before.rows batch (rows_sorted before was_sound) was_sound.rows rows_stand heads trees.entries.items each_has_tree was_sound.indexes in
+            let counts = sent_are ∙ counts_are schema before.shape before.rows batch (rows_sorted before was_sound) was_sound.rows rows_stand heads
+            trees.entries.items each_has_tree was_sound.indexes in
             ap (λ s. step s (Apply items)) (sym was ∙ ap (state_of schema heads) is)
             ∙ ap (λ o. unless o (Intact (after_batch before batch), Batch (length items) (map (λ index. sent_count index (packet_of before.rows batch index)) indexes))) allowed
             ∙ (λ i. Ok (sym (state_is_put schema heads after new put (after_batch before batch) stepped_to) i, Batch (length items) (sym counts i)))
@@ -158,13 +167,15 @@ module _ (schema : Schema) (heads : List IndexHead) (kept : Option Trees) (trees
     -- ---- indexes
 
     -- a name that is free is refused by the number of indexes alone
-    pub refused_by_number : (name : List ℕ) → is_primary name ≡ false → is_some (index_named name indexes) ≡ false → least (index_refusals state name) ≡ least (one_if (nat_le most_indexes (length heads)) TooMany)
+    pub refused_by_number : (name : List ℕ) → is_primary name ≡ false → is_some (index_named name indexes) ≡ false
+        → least (index_refusals state name) ≡ least (one_if (nat_le most_indexes (length heads)) TooMany)
     refused_by_number name other free =
         ap (λ s. least (index_refusals s name)) state_is
         ∙ (λ i. least (one_if (other i || free i) NameTaken ++ one_if (nat_le most_indexes (length-indexes_of heads trees.entries.items each_has_tree i)) TooMany))
 
     module _ (taken : Trees) (took : kept ≡ Some taken) (others : List IndexHead) (new : Trees) (after : Option Trees) (put : after ≡ Some new) (rows_are : new.rows ≡ taken.rows) where
-      others_to : (entries : List (Shape × EntryTree)) → new.entries.items ≡ entries → held_by schema new.rows (indexes_of others new.entries.items) ≡ held_by schema trees.rows (indexes_of others entries)
+      others_to : (entries : List (Shape × EntryTree)) → new.entries.items ≡ entries
+          → held_by schema new.rows (indexes_of others new.entries.items) ≡ held_by schema trees.rows (indexes_of others entries)
       others_to entries are = (λ i. held_by schema (rows_are i) (indexes_of others (are i))) ∙ ap (λ (t : Trees). held_by schema t.rows (indexes_of others entries)) (same is took)
 
       -- the new index is after the others, or missing if memory ran out
@@ -195,7 +206,8 @@ module _ (schema : Schema) (heads : List IndexHead) (kept : Option Trees) (trees
         added_is_sound suits free true heads_are entries_are =
             put_is_sound schema others after new put
             (subst IsSoundTable (sym (added_to heads_are entries_are)) (with_index-sound before name def (subst (λ s. Suits s def) state_is suits) was_sound))
-            (ap length entries_are ∙ length_push taken.entries.items _ ∙ ap (λ (t : Trees). length t.entries.items + 1) (same is took) ∙ ap (λ n. n + 1) each_has_tree ∙ sym (ap length heads_are ∙ length_push heads _))
+            (ap length entries_are ∙ length_push taken.entries.items _ ∙ ap (λ (t : Trees). length t.entries.items + 1) (same is took)
+            ∙ ap (λ n. n + 1) each_has_tree ∙ sym (ap length heads_are ∙ length_push heads _))
             (one_more free heads_are)
         added_is_sound suits free false heads_are entries_are =
             put_is_sound schema others after new put (subst IsSoundTable (sym (not_added_to heads_are entries_are)) was_sound)
@@ -227,7 +239,8 @@ module _ (schema : Schema) (heads : List IndexHead) (kept : Option Trees) (trees
             (ap length removed ∙ length-remove_same place trees.entries.items heads each_has_tree ∙ sym (ap length heads_are))
             (let fewer = length-remove-le place heads in let few = few_indexes in let number = ap length heads_are in omega arith)
 
-        pub drop_is_step : (name own : List ℕ) (index : Index) → index_named name indexes ≡ Some (place, index) → own ≡ name → IsStep state (state_of schema others after) (DropIndex name) (Dropped own)
+        pub drop_is_step : (name own : List ℕ) (index : Index) → index_named name indexes ≡ Some (place, index) → own ≡ name
+            → IsStep state (state_of schema others after) (DropIndex name) (Dropped own)
         drop_is_step name own index found named =
             ap (λ s. step s (DropIndex name)) state_is ∙ ap (dropped before name) found
             ∙ (λ i. Ok (sym (state_is_put schema others after new put (without_index before place) removed_to) i, Dropped (sym named i)))
@@ -248,7 +261,8 @@ module _ (schema : Schema) (heads : List IndexHead) (kept : Option Trees) (trees
       abbrev new_entries : List (Shape × EntryTree)
       new_entries = map (λ head. entry_tree trees.rows.0 map_is head.def) heads
 
-      module _ (allowed : least (load_refusals indexes trees.rows.1) ≡ None) (new : Trees) (after : Option Trees) (put : after ≡ Some new) (rows_are : new.rows ≡ (trees.rows.0, packed trees.rows.0 map_is))
+      module _ (allowed : least (load_refusals indexes trees.rows.1) ≡ None) (new : Trees) (after : Option Trees) (put : after ≡ Some new) (rows_are
+          : new.rows ≡ (trees.rows.0, packed trees.rows.0 map_is))
           (entries_are : new.entries.items ≡ new_entries) where
         loaded_to : held_by schema new.rows (indexes_of heads new.entries.items) ≡ with_rows before map_is
         loaded_to =
@@ -287,7 +301,14 @@ module _ (schema : Schema) (heads : List IndexHead) (kept : Option Trees) (trees
         rows_to =
             (λ i. held_by schema (rows_are i) (indexes_of heads (entries_are i)))
             ∙ (λ i. held_by schema ((same is whole i).rows.0, renewed_tree upkeep row_meaning (same is whole i).rows.0 (same is whole i).rows.1) (indexes_of heads (same is took i).entries.items))
-            ∙ (λ i. record { schema = schema; shape = trees.rows.0; rows = renewed-holds row_meaning trees.rows.0 trees.rows.1 was_sound.tree upkeep i; tree = renewed_tree upkeep row_meaning trees.rows.0 trees.rows.1; indexes = indexes })
+            ∙ (λ i. record {
+              schema = schema;
+              shape = trees.rows.0;
+              rows = renewed-holds row_meaning trees.rows.0 trees.rows.1 was_sound.tree upkeep i;
+              tree =
+                  renewed_tree upkeep row_meaning trees.rows.0 trees.rows.1;
+              indexes = indexes;
+            })
 
         pub renewed_rows_is_sound : AreSoundParts schema heads after
         renewed_rows_is_sound =
@@ -297,7 +318,9 @@ module _ (schema : Schema) (heads : List IndexHead) (kept : Option Trees) (trees
         pub renewed_rows_is_step : (own : List ℕ) → own ≡ name → is_primary name ≡ true → IsStep state (state_of schema heads after) (upkeep_call upkeep name) (upkeep_reply upkeep own)
         renewed_rows_is_step own named primary =
             renewed_step
-            ∙ ap (λ b. map_ok (λ table. (Intact table, upkeep_reply upkeep name)) (if b then Ok (with_renewed_rows upkeep before) else or_refused NoSuchTree (option_map (with_renewed_index upkeep before) (index_named name indexes)))) primary
+            ∙ ap (λ b. map_ok (λ table. (Intact table, upkeep_reply upkeep name))
+            (if b then Ok (with_renewed_rows upkeep before) else or_refused NoSuchTree
+            (option_map (with_renewed_index upkeep before) (index_named name indexes)))) primary
             ∙ (λ i. Ok (sym (state_is_put schema heads after new put (with_renewed_rows upkeep before) rows_to) i, upkeep_reply upkeep (sym named i)))
 
     -- an index was found by its name
@@ -319,7 +342,8 @@ module _ (schema : Schema) (heads : List IndexHead) (kept : Option Trees) (trees
           λ i. advanced shown (sent i) (cover_is i)
 
       -- the index is changed in its place
-      module _ (taken new : Trees) (took : kept ≡ Some taken) (after : Option Trees) (put : after ≡ Some new) (rows_are : new.rows ≡ taken.rows) (others : List IndexHead) (head : IndexHead) (tree : Shape × EntryTree)
+      module _ (taken new : Trees) (took : kept ≡ Some taken) (after : Option Trees) (put : after ≡ Some new) (rows_are : new.rows ≡ taken.rows) (others
+          : List IndexHead) (head : IndexHead) (tree : Shape × EntryTree)
           (heads_are : others ≡ set heads place head) (entries_are : new.entries.items ≡ set taken.entries.items place tree) where
         tree_put : new.entries.items ≡ set trees.entries.items place tree
         tree_put = entries_are ∙ ap (λ (t : Trees). set t.entries.items place tree) (same is took)
@@ -341,12 +365,15 @@ module _ (schema : Schema) (heads : List IndexHead) (kept : Option Trees) (trees
           renewed_to = index_to ∙ ap (with_index_at before place) change_is
 
           pub renewed_index_is_sound : AreSoundParts schema others after
-          renewed_index_is_sound = put_is_sound schema others after new put (subst IsSoundTable (sym renewed_to) (with_renewed_index-sound before name (place, shown) found was_sound upkeep)) one_each few_still
+          renewed_index_is_sound = put_is_sound schema others after new put
+              (subst IsSoundTable (sym renewed_to) (with_renewed_index-sound before name (place, shown) found was_sound upkeep)) one_each few_still
 
           pub renewed_index_is_step : (own : List ℕ) → own ≡ name → is_primary name ≡ false → IsStep state (state_of schema others after) (upkeep_call upkeep name) (upkeep_reply upkeep own)
           renewed_index_is_step own named other =
               renewed_step upkeep name
-              ∙ ap (λ b. map_ok (λ table. (Intact table, upkeep_reply upkeep name)) (if b then Ok (with_renewed_rows upkeep before) else or_refused NoSuchTree (option_map (with_renewed_index upkeep before) (index_named name indexes)))) other
+              ∙ ap (λ b. map_ok (λ table. (Intact table, upkeep_reply upkeep name))
+              (if b then Ok (with_renewed_rows upkeep before) else or_refused NoSuchTree
+              (option_map (with_renewed_index upkeep before) (index_named name indexes)))) other
               ∙ ap (λ f. map_ok (λ table. (Intact table, upkeep_reply upkeep name)) (or_refused NoSuchTree (option_map (with_renewed_index upkeep before) f))) found
               ∙ (λ i. Ok (sym (state_is_put schema others after new put (with_renewed_index upkeep before (place, shown)) renewed_to) i, upkeep_reply upkeep (sym named i)))
 
@@ -362,11 +389,17 @@ module _ (schema : Schema) (heads : List IndexHead) (kept : Option Trees) (trees
               → is_complete shown ≡ false → IsStep state (state_of schema others after) (BuildStep name n) (Built own read complete)
           build_is_step own read complete named read_is complete_is building =
               ap (λ s. step s (BuildStep name n)) state_is ∙ ap (built before name n) found ∙ ap (λ b. if b then Err AlreadyComplete else Ok (after_build before name n (place, shown))) building
-              ∙ (λ i. Ok (sym (state_is_put schema others after new put (with_index_at before place (built_index n before.rows shown)) built_to) i, Built (sym named i) (sym read_is i) (sym complete_is i)))
+              ∙ (λ i. Ok (
+                sym (state_is_put schema others after new put (with_index_at before place (built_index n before.rows shown)) built_to) i,
+                Built
+                    (sym named i) (sym read_is i) (sym complete_is i),
+              ))
 
       -- its tree is taken out of its place, and another one is put there
-      module _ (taken new : Trees) (took : kept ≡ Some taken) (after : Option Trees) (put : after ≡ Some new) (rows_are : new.rows ≡ taken.rows) (head_there : slice_get heads place ≡ Some index.head.now)
-          (tree_there : slice_get trees.entries.items place ≡ Some index.tree.now) (out : Shape × EntryTree) (is_out : slice_get taken.entries.items place ≡ Some out) (hole : Shape × EntryTree) (others : List (Shape × EntryTree))
+      module _ (taken new : Trees) (took : kept ≡ Some taken) (after : Option Trees) (put : after ≡ Some new) (rows_are : new.rows ≡ taken.rows) (head_there
+          : slice_get heads place ≡ Some index.head.now)
+          (tree_there : slice_get trees.entries.items place ≡ Some index.tree.now) (out : Shape
+          × EntryTree) (is_out : slice_get taken.entries.items place ≡ Some out) (hole : Shape × EntryTree) (others : List (Shape × EntryTree))
           (others_are : others ≡ set taken.entries.items place hole) (tree : Shape × EntryTree) (entries_are : new.entries.items ≡ set others place tree) where
         out_is : out ≡ index.tree.now
         out_is = same tree_there (subst (λ (t : Trees). slice_get t.entries.items place ≡ Some out) (same is took) is_out)
@@ -387,7 +420,8 @@ module _ (schema : Schema) (heads : List IndexHead) (kept : Option Trees) (trees
           pub drained_index_is_step : (own : List ℕ) → own ≡ name → is_primary name ≡ false → IsStep state (state_of schema heads after) (Drain name) (Drained own)
           drained_index_is_step = renewed_index_is_step taken new took after put rows_are heads index.head.now tree heads_stay back Draining drained_is
 
-        module _ (n : ℕ) (packet : Messages EntryMessage) (cover : Cover) (packet_is : packet ≡ sorted_batch (own_puts shown.def (next_rows n shown.cover before.rows))) (cover_is : cover ≡ cover_after n shown.cover before.rows)
+        module _ (n : ℕ) (packet : Messages EntryMessage) (cover : Cover) (packet_is
+            : packet ≡ sorted_batch (own_puts shown.def (next_rows n shown.cover before.rows))) (cover_is : cover ≡ cover_after n shown.cover before.rows)
             (newer : List IndexHead) (newer_are : IfSome (slice_get heads place) (λ head. newer ≡ set heads place (with_cover head cover))) (tree_is : tree ≡ sunk_tree out packet) where
           newer_is : newer ≡ set heads place (with_cover index.head.now cover)
           newer_is = subst (λ o. IfSome o (λ head. newer ≡ set heads place (with_cover head cover))) head_there newer_are
@@ -398,7 +432,8 @@ module _ (schema : Schema) (heads : List IndexHead) (kept : Option Trees) (trees
           pub advanced_index_is_sound : AreSoundParts schema newer after
           advanced_index_is_sound = built_index_is_sound taken new took after put rows_are newer (with_cover index.head.now cover) tree newer_is back n built_is
 
-          pub advance_is_step : (own : List ℕ) (read : ℕ) (complete : Bool) → own ≡ name → read ≡ length (next_rows n shown.cover before.rows) → complete ≡ is_complete (built_index n before.rows shown)
+          pub advance_is_step : (own : List ℕ) (read : ℕ) (complete : Bool) → own ≡ name → read ≡ length (next_rows n shown.cover before.rows)
+              → complete ≡ is_complete (built_index n before.rows shown)
               → is_complete shown ≡ false → IsStep state (state_of schema newer after) (BuildStep name n) (Built own read complete)
           advance_is_step = build_is_step taken new took after put rows_are newer (with_cover index.head.now cover) tree newer_is back n built_is
 

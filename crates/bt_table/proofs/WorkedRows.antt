@@ -40,7 +40,8 @@ after state (call ∷ calls) = after (left_by state (step state call)) calls
 
 -- two puts of a key, a put and a del of another one, and an upsert
 abbrev batch : Call
-batch = Apply (Put (codes "3" ∷ codes "30" ∷ []) ∷ Put (codes "3" ∷ codes "31" ∷ []) ∷ Put (codes "1" ∷ codes "10" ∷ []) ∷ Del (codes "1" ∷ []) ∷ Ups (codes "9" ∷ codes "add" ∷ codes "qty" ∷ codes "5" ∷ []) ∷ [])
+batch = Apply (Put (codes "3" ∷ codes "30" ∷ []) ∷ Put (codes "3" ∷ codes "31" ∷ []) ∷ Put (codes "1" ∷ codes "10" ∷ []) ∷ Del (codes "1" ∷ []) ∷ Ups
+    (codes "9" ∷ codes "add" ∷ codes "qty" ∷ codes "5" ∷ []) ∷ [])
 
 pub batch_reply : reply_of empty batch ≡ Ok (Batch 5 [])
 unfolding eight_bytes values_on_literals

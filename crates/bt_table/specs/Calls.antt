@@ -1,5 +1,6 @@
 -- The calls on a table, the table after each, and the replies.
-use Rattle.std.specs.Prelude.{ℕ, ◌≡◌, ◌≢◌, ◌≤◌, ◌==◌, ◌||◌, ◌&&◌, ◌⊎◌, Bool, not, List, [], ◌∷◌, ◌++◌, is_some, length, map, nat_le, set, Option, Some, None, option_map, Result, Ok, Err, IfErr, IsErrOf, if◌then◌else◌, codes}
+use Rattle.std.specs.Prelude.{ℕ, ◌≡◌, ◌≢◌, ◌≤◌, ◌==◌, ◌||◌, ◌&&◌, ◌⊎◌, Bool, not, List, [], ◌∷◌, ◌++◌, is_some, length, map, nat_le}
+use Rattle.std.specs.Prelude.{set, Option, Some, None, option_map, Result, Ok, Err, IfErr, IsErrOf, if◌then◌else◌, codes}
 use Rattle.std.specs.Cmp.Lexicographic.{pointwise}
 use Rattle.std.specs.FinMap.{find}
 use Rattle.std.specs.List.{list_all, remove}

@@ -85,11 +85,14 @@ module _ {V D : Type 0} (value_text : V → List ℕ) (delta_text : D → List �
   siblings_more indent place [] i x is = cc
   siblings_more indent place (y ∷ ys) zero x is =
       let here : place ≡ place + 0 = omega arith in
-      append-nil (child_text value_text delta_text indent place y) ∙ ap (child_text value_text delta_text indent place) (same_item y x is) ∙ ap (λ (p : ℕ). child_text value_text delta_text indent p x) here
+      append-nil (child_text value_text delta_text indent place y) ∙ ap (child_text value_text delta_text indent place) (same_item y x is)
+      ∙ ap (λ (p : ℕ). child_text value_text delta_text indent p x) here
   siblings_more indent place (y ∷ ys) (suc i) x is =
       let here : suc place + i ≡ place + suc i = omega arith in
-      ap (λ (l : List ℕ). child_text value_text delta_text indent place y ++ l) (siblings_more indent (suc place) ys i x is ∙ ap (λ (p : ℕ). siblings_text value_text delta_text indent (suc place) (take i ys) ++ child_text value_text delta_text indent p x) here)
-      ∙ sym (append_assoc (child_text value_text delta_text indent place y) (siblings_text value_text delta_text indent (suc place) (take i ys)) (child_text value_text delta_text indent (place + suc i) x))
+      ap (λ (l : List ℕ). child_text value_text delta_text indent place y ++ l) (siblings_more indent (suc place) ys i x is
+      ∙ ap (λ (p : ℕ). siblings_text value_text delta_text indent (suc place) (take i ys) ++ child_text value_text delta_text indent p x) here)
+      ∙ sym (append_assoc (child_text value_text delta_text indent place y) (siblings_text value_text delta_text indent (suc place) (take i ys))
+      (child_text value_text delta_text indent (place + suc i) x))
 
   others_listed : (indent : List ℕ) (place : ℕ) (ns : Nodes V (Message V D)) → others_text value_text delta_text indent ns ≡ siblings_text value_text delta_text indent (suc place) (children ns)
   others_listed indent place none = refl
@@ -98,7 +101,9 @@ module _ {V D : Type 0} (value_text : V → List ℕ) (delta_text : D → List �
       ∙ sym (append_assoc (pivot_line indent k) (node_text value_text delta_text indent t) (siblings_text value_text delta_text indent (suc (suc place)) (children ns)))
 
   -- a node has its own lines, followed by those of its children
-  node_listed : (indent : List ℕ) (t : Tree V (Message V D)) → node_text value_text delta_text indent t ≡ own_text value_text delta_text indent (deeper indent) t ++ siblings_text value_text delta_text (deeper indent) 0 (children_of t)
+  node_listed : (indent : List ℕ) (t : Tree V (Message V D))
+      → node_text value_text delta_text indent t ≡ own_text value_text delta_text indent (deeper indent) t ++ siblings_text value_text delta_text
+      (deeper indent) 0 (children_of t)
   node_listed indent (leaf rows) = sym (append-nil _)
   node_listed indent (inner none buffer) =
       let own = inner_line indent 0 (length buffer) in
@@ -121,7 +126,8 @@ module _ {V D : Type 0} (value_text : V → List ℕ) (delta_text : D → List �
       let so_far = siblings_text value_text delta_text below 0 (take i xs) in
       let line = pivot_text below i (Some at.0) in
       let more : siblings_text value_text delta_text below 0 (take (i + 1) xs) ≡ so_far ++ child_text value_text delta_text below i at.0 =
-      ap (λ (n : ℕ). siblings_text value_text delta_text below 0 (take n xs)) next ∙ siblings_more below 0 xs i at.0 at.1 ∙ ap (λ (n : ℕ). so_far ++ child_text value_text delta_text below n at.0) here in
+      ap (λ (n : ℕ). siblings_text value_text delta_text below 0 (take n xs)) next ∙ siblings_more below 0 xs i at.0 at.1
+      ∙ ap (λ (n : ℕ). so_far ++ child_text value_text delta_text below n at.0) here in
       let wrote : after ≡ before ++ child_text value_text delta_text below i at.0 =
       text ∙ ap (λ (l : List ℕ). l ++ node_text value_text delta_text below child) (pivot ∙ ap (λ o. before ++ pivot_text below i o) at.1)
       ∙ ap (λ t. (before ++ line) ++ node_text value_text delta_text below t) (sym at.2) ∙ append_assoc before line (node_text value_text delta_text below at.0.1) in

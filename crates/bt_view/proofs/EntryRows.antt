@@ -62,7 +62,8 @@ module _ (kinds : List Kind) where
   shown-between range [] (r ∷ rs) all = absurd all
   shown-between range (e ∷ es) [] all = absurd all
   shown-between range (e ∷ es) (r ∷ rs) all =
-      subst (λ k. AreShown (cond (is_between range.from range.to e.0) (e ∷ between range.from range.to es) (between range.from range.to es)) (cond (is_between range.from range.to k) (r ∷ between range.from range.to rs) (between range.from range.to rs)))
+      subst (λ k. AreShown (cond (is_between range.from range.to e.0) (e ∷ between range.from range.to es) (between range.from range.to es))
+      (cond (is_between range.from range.to k) (r ∷ between range.from range.to rs) (between range.from range.to rs)))
       all.0 (by_test (is_between range.from range.to e.0) (shown-between range es rs all.2))
     where
       by_test : (b : Bool) → AreShown (between range.from range.to es) (between range.from range.to rs)
@@ -79,7 +80,8 @@ module _ (kinds : List Kind) where
       ∙ ap (λ k. (k, r.1) ∷ rows_of_entries kinds es) all.0 ∙ ap (λ rows. r ∷ rows) (shown-rows es rs all.2)
 
 -- a visitor of rows after the entries that rows are shown by
-pub gone-through : {S : Type 0} (visited : S → Key × List Value → S) (rows : Shown) (visitor : S) (kinds : List Kind) (entries : Rows (List Value)) (old new : List Kind × S) → rows_shown rows ≡ rows_of_entries kinds entries
+pub gone-through : {S : Type 0} (visited : S → Key × List Value → S) (rows : Shown) (visitor : S) (kinds : List Kind) (entries : Rows (List Value)) (old new
+    : List Kind × S) → rows_shown rows ≡ rows_of_entries kinds entries
     → ◌≡◌ {A = List Kind × S} old (kinds, visitor) → ◌≡◌ {A = List Kind × S} new (fold (after_entry visited) old entries) → new.1 ≡ fold visited visitor (rows_shown rows)
 gone-through {S} visited rows visitor kinds entries old new shows begins is =
     ap (λ (r : List Kind × S). r.1) (is ∙ ap (λ (r : List Kind × S). fold (after_entry visited) r entries) begins ∙ shown visited (kinds, visitor) entries) ∙ ap (fold visited visitor) (sym shows)

@@ -1,5 +1,6 @@
 -- What follows the front of a key, and the last of groups. Serves the groups of an index.
-use Rattle.std.proofs.Common.{◌≡◌, ◌∙◌, ◌≤◌, ℕ, Bool, true, false, not, IfSome, ℤ, List, [], ◌∷◌, ◌++◌, Option, Some, None, append_assoc, drop, length, map, option_map, if◌then◌else◌, refl, sym, ap, subst, take}
+use Rattle.std.proofs.Common.{◌≡◌, ◌∙◌, ◌≤◌, ℕ, Bool, true, false, not, IfSome, ℤ, List, [], ◌∷◌, ◌++◌, Option, Some, None}
+use Rattle.std.proofs.Common.{append_assoc, drop, length, map, option_map, if◌then◌else◌, refl, sym, ap, subst, take}
 use Rattle.std.proofs.lemmas.List.{get_or-append_right, length-map, length-take-le, map-append, take-append-drop, take-append-le, take-map, take_at}
 use Rattle.std.proofs.lemmas.Option.{none-some}
 use Rattle.std.specs.Prelude.{◌+◌, ◌-◌, ◌+ℤ◌, nat_le}
@@ -22,7 +23,8 @@ use Rattle.bt_view.proofs.IndexRows.{code-append, in_range-append}
 
 -- ---- codes in two parts
 
-code_in_parts : (first behind : List Kind) (front rest : Key) (values others : List Value) → IsCodeOf first front values → IsCodeOf behind rest others → IsCodeOf (first ++ behind) (front ++ rest) (values ++ others)
+code_in_parts : (first behind : List Kind) (front rest : Key) (values others : List Value) → IsCodeOf first front values → IsCodeOf behind rest others
+    → IsCodeOf (first ++ behind) (front ++ rest) (values ++ others)
 code_in_parts first behind front rest values others a b = record {
   of_kinds = map-append kind_of values others ∙ ap (λ ks. ks ++ map kind_of others) a.of_kinds ∙ ap (λ ks. first ++ ks) b.of_kinds;
   in_range = in_range-append values others a.in_range b.in_range;
@@ -43,10 +45,12 @@ or_values values None = values
 or_values values (Some found) = found
 
 -- the row of an entry is the values of its key, followed by the included ones
-pub row_values : (kinds : List Kind) (key : Key) (included row : List Value) → row_of_entry kinds (key, included) ≡ Some row → (values : List Value) × (IsCodeOf kinds key values × (row ≡ values ++ included))
+pub row_values : (kinds : List Kind) (key : Key) (included row : List Value) → row_of_entry kinds (key, included) ≡ Some row → (values : List Value)
+    × (IsCodeOf kinds key values × (row ≡ values ++ included))
 row_values kinds key included row = of_read (decoded kinds key) refl
   where
-    of_read : (read : Option (List Value)) → decoded kinds key ≡ read → option_map (λ values. values ++ included) read ≡ Some row → (values : List Value) × (IsCodeOf kinds key values × (row ≡ values ++ included))
+    of_read : (read : Option (List Value)) → decoded kinds key ≡ read → option_map (λ values. values ++ included) read ≡ Some row → (values : List Value)
+        × (IsCodeOf kinds key values × (row ≡ values ++ included))
     of_read None same is = absurd (none-some row is)
     of_read (Some values) same is = (values, (decoded_code kinds key values same, sym (ap (or_values row) is)))
 
@@ -67,11 +71,14 @@ module _ (kinds : List Kind) (g : ℕ × ℕ × Groups) (front : Key) (values : 
   as_many = sym (length-map values kind_of) ∙ ap length is.code.of_kinds ∙ length-take-le g.0 kinds is.few
 
   -- the row of an entry whose key begins with a front, by the row of what follows the front
-  pub row_behind : (key rest : Key) (included others : List Value) → key ≡ front ++ rest → row_of_entry (drop g.0 kinds) (rest, included) ≡ Some others → row_of_entry kinds (key, included) ≡ Some (values ++ others)
+  pub row_behind : (key rest : Key) (included others : List Value) → key ≡ front ++ rest → row_of_entry (drop g.0 kinds) (rest, included) ≡ Some others
+      → row_of_entry kinds (key, included) ≡ Some (values ++ others)
   row_behind key rest included others begins shows =
       let read = row_values (drop g.0 kinds) rest included others shows in
       let both : IsCodeOf (take g.0 kinds ++ drop g.0 kinds) (front ++ rest) (values ++ read.0) = code_in_parts (take g.0 kinds) (drop g.0 kinds) front rest values read.0 is.code read.1.0 in
-      let whole : IsCodeOf kinds key (values ++ read.0) = subst (λ k. IsCodeOf kinds k (values ++ read.0)) (sym begins) (subst (λ ks. IsCodeOf ks (front ++ rest) (values ++ read.0)) (take-append-drop g.0 kinds) both) in
+      let whole : IsCodeOf kinds key (values ++ read.0) =
+      subst (λ k. IsCodeOf kinds k (values ++ read.0)) (sym begins)
+      (subst (λ ks. IsCodeOf ks (front ++ rest) (values ++ read.0)) (take-append-drop g.0 kinds) both) in
       ap (option_map (λ all. all ++ included)) (code_decoded kinds key (values ++ read.0) whole)
       ∙ ap Some (append_assoc values read.0 included ∙ ap (λ row. values ++ row) (sym read.1.1))
 
@@ -141,14 +148,23 @@ one_last : (sums : List Sum) (values others : List Value) → IsLastOf values (S
 one_last sums values others is also = sym is.2.1 ∙ same_last sums is.0 is.1 others is.2.0 also
 
 -- a front is still that of the last group after a row is added to that group
-pub kept_front : (kinds : List Kind) (g : ℕ × ℕ × Groups) (row : List Value) (front : Option Key) → IsLastOf (take g.0 row) g.2 → IsFrontWhereKept kinds g front → IsFrontWhereKept kinds (g.0, g.1, grouped g.0 g.1 g.2 row) front
+pub kept_front : (kinds : List Kind) (g : ℕ × ℕ × Groups) (row : List Value) (front : Option Key) → IsLastOf (take g.0 row) g.2
+    → IsFrontWhereKept kinds g front → IsFrontWhereKept kinds (g.0, g.1, grouped g.0 g.1 g.2 row) front
 kept_front kinds g row None last is = tt
 kept_front kinds g row (Some front) last is = by_groups g.2 last is.1.last
   where
     by_groups : (groups : Groups) → IsLastOf (take g.0 row) groups → IsLastOf is.0 groups → (values : List Value) × IsFront kinds (g.0, g.1, grouped g.0 g.1 groups row) front values
     by_groups None own kept = (is.0, record { few = is.1.few; behind = is.1.behind; code = is.1.code; last = tt })
-    by_groups (Some sums) own kept =
-        (take g.0 row, record { few = is.1.few; behind = is.1.behind; code = subst (IsCodeOf (take g.0 kinds) front) (one_last sums is.0 (take g.0 row) kept own) is.1.code; last = last_grouped g.0 g.1 (Some sums) row })
+    by_groups (Some sums) own kept = (
+      take g.0 row,
+      record {
+        few = is.1.few;
+        behind = is.1.behind;
+        code =
+            subst (IsCodeOf (take g.0 kinds) front) (one_last sums is.0 (take g.0 row) kept own) is.1.code;
+        last = last_grouped g.0 g.1 (Some sums) row;
+      },
+    )
 
 -- the code of the first values of a row that was added is the front of the last group
 pub new_front : (kinds : List Kind) (g : ℕ × ℕ × Groups) (key : Key) (included row : List Value) (front : Option Key) → row_of_entry kinds (key, included) ≡ Some row
@@ -169,7 +185,8 @@ module _ (columns place : ℕ) (sums after : List Sum) (number : ℤ) (fits : Bo
   answers false = refl
 
   abbrev IsCounted : ℕ × ℕ × Groups → Type 0
-  IsCounted now = (row : List Value) → IsLastOf (take now.0 row) now.2 → number_in row now.1 ≡ number → ◌≡◌ {A = ℕ × ℕ × Groups} (columns, place, if not fits then None else Some after) (now.0, now.1, grouped now.0 now.1 now.2 row)
+  IsCounted now = (row : List Value) → IsLastOf (take now.0 row) now.2 → number_in row now.1 ≡ number
+      → ◌≡◌ {A = ℕ × ℕ × Groups} (columns, place, if not fits then None else Some after) (now.0, now.1, grouped now.0 now.1 now.2 row)
 
   counted_here : IsCounted (columns, place, Some sums)
   counted_here row last is =

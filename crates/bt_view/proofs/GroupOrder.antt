@@ -60,7 +60,8 @@ find_none k (s ∷ sums) before = ap (λ o. cond (is_eq o) (Some s) (find key_cm
 put_behind : (k : Key) (new : Sum) (sums : List Sum) → AreBefore k sums → put key_cmp k new (entries sums) ≡ entries sums ++ (k, new) ∷ []
 put_behind k new [] before = refl
 put_behind k new (s ∷ sums) before =
-    ap (λ o. by_order o ((k, new) ∷ (code_of s.group, s) ∷ entries sums) ((code_of s.group, new) ∷ entries sums) ((code_of s.group, s) ∷ put key_cmp k new (entries sums))) (behind (code_of s.group) k before.0)
+    ap (λ o. by_order o ((k, new) ∷ (code_of s.group, s) ∷ entries sums) ((code_of s.group, new) ∷ entries sums)
+    ((code_of s.group, s) ∷ put key_cmp k new (entries sums))) (behind (code_of s.group) k before.0)
     ∙ ap (λ es. (code_of s.group, s) ∷ es) (put_behind k new sums before.1)
 
 find_last : (s : Sum) (sums : List Sum) → AreBefore (code_of s.group) sums → find key_cmp (code_of s.group) (entries (listed sums s)) ≡ Some s
@@ -70,10 +71,12 @@ find_last s (t ∷ sums) before =
 
 put_last : (s new : Sum) (sums : List Sum) → AreBefore (code_of s.group) sums → new.group ≡ s.group → put key_cmp (code_of s.group) new (entries (listed sums s)) ≡ entries (listed sums new)
 put_last s new [] before same =
-    ap (λ o. by_order o ((code_of s.group, new) ∷ (code_of s.group, s) ∷ []) ((code_of s.group, new) ∷ []) ((code_of s.group, s) ∷ (code_of s.group, new) ∷ [])) (tied_itself total_keys (code_of s.group))
+    ap (λ o. by_order o ((code_of s.group, new) ∷ (code_of s.group, s) ∷ []) ((code_of s.group, new) ∷ [])
+    ((code_of s.group, s) ∷ (code_of s.group, new) ∷ [])) (tied_itself total_keys (code_of s.group))
     ∙ ap (λ group. (code_of group, new) ∷ []) (sym same)
 put_last s new (t ∷ sums) before same =
-    ap (λ o. by_order o ((code_of s.group, new) ∷ (code_of t.group, t) ∷ entries (listed sums s)) ((code_of t.group, new) ∷ entries (listed sums s)) ((code_of t.group, t) ∷ put key_cmp (code_of s.group) new (entries (listed sums s))))
+    ap (λ o. by_order o ((code_of s.group, new) ∷ (code_of t.group, t) ∷ entries (listed sums s)) ((code_of t.group, new) ∷ entries (listed sums s))
+    ((code_of t.group, t) ∷ put key_cmp (code_of s.group) new (entries (listed sums s))))
     (behind (code_of t.group) (code_of s.group) before.0)
     ∙ ap (λ es. (code_of t.group, t) ∷ es) (put_last s new sums before.1 same)
 
@@ -96,7 +99,8 @@ module _ (columns place : ℕ) (kinds : List Kind) where
   abbrev IsAll : List (List Value) → List Sum → Sum → Type 0
   IsAll rows sums sum = fold (and_row columns place) (Some (entries (listed sums sum))) rows ≡ option_map entries (fold (grouped columns place) (Some (listed sums sum)) rows)
 
-  all : (rows : List (List Value)) (sums : List Sum) (sum : Sum) → IsGroup sum.group → AreBefore (code_of sum.group) sums → NoneBefore columns (code_of sum.group) rows → Ascend columns kinds rows → IsAll rows sums sum
+  all : (rows : List (List Value)) (sums : List Sum) (sum : Sum) → IsGroup sum.group → AreBefore (code_of sum.group) sums
+      → NoneBefore columns (code_of sum.group) rows → Ascend columns kinds rows → IsAll rows sums sum
   all [] sums sum of before none ascend = refl
   all (row ∷ rows) sums sum of before none ascend =
       by_same (same_values sum.group (take columns row)) refl (λ ss s is_group are_before none_before. all rows ss s is_group are_before none_before ascend.2)

@@ -1,5 +1,6 @@
 -- Rows that are added to their groups one by one make the groups of the rows. Serves grouped sums.
-use Rattle.std.proofs.Common.{◌≡◌, ◌∙◌, ℕ, ◌+◌, ◌<◌, ◌≤◌, ◌&&◌, ◌++◌, Bool, true, false, true≢false, T, List, [], ◌∷◌, Option, Some, None, Ok, Err, append-nil, append_assoc, arith, refl, sym, ap, subst, fold, length, length-append, map, take, cond, if◌then◌else◌}
+use Rattle.std.proofs.Common.{◌≡◌, ◌∙◌, ℕ, ◌+◌, ◌<◌, ◌≤◌, ◌&&◌, ◌++◌, Bool, true, false, true≢false, T, List, [], ◌∷◌, Option, Some, None, Ok, Err}
+use Rattle.std.proofs.Common.{append-nil, append_assoc, arith, refl, sym, ap, subst, fold, length, length-append, map, take, cond, if◌then◌else◌}
 use Rattle.std.specs.Prelude.{ℤ, pos, ◌+ℤ◌, is_some, nat_le, option_map}
 use Rattle.std.specs.Cmp.{tied_itself}
 use Rattle.std.specs.FinMap.{find, is_sorted, nat_cmp-IsAntisymmetric, put, slice_cmp-IsAntisymmetric}
@@ -80,7 +81,8 @@ module _ (columns place : ℕ) where
   first_of None other = other
   first_of (Some v) other = Some v
 
-  find-more : (q : Key) (rows : List (List Value)) (row : List Value) → find key_cmp q (pairs (rows ++ row ∷ [])) ≡ first_of (find key_cmp q (pairs rows)) (cond (is_key q (code row)) (Some (value row)) None)
+  find-more : (q : Key) (rows : List (List Value)) (row : List Value)
+      → find key_cmp q (pairs (rows ++ row ∷ [])) ≡ first_of (find key_cmp q (pairs rows)) (cond (is_key q (code row)) (Some (value row)) None)
   find-more q [] row = refl
   find-more q (r ∷ rows) row = by_test (is_key q (code r)) (find-more q rows row)
     where
@@ -94,7 +96,8 @@ module _ (columns place : ℕ) where
   no_rows q [] none = refl
   no_rows q (r ∷ rows) none = by_test (is_key q (code r)) none (no_rows q rows)
     where
-      by_test : (b : Bool) → cond b (Some (value r)) (find key_cmp q (pairs rows)) ≡ None → (find key_cmp q (pairs rows) ≡ None → rows_of q rows ≡ []) → cond b (r ∷ rows_of q rows) (rows_of q rows) ≡ []
+      by_test : (b : Bool) → cond b (Some (value r)) (find key_cmp q (pairs rows)) ≡ None → (find key_cmp q (pairs rows) ≡ None → rows_of q rows ≡ [])
+          → cond b (r ∷ rows_of q rows) (rows_of q rows) ≡ []
       by_test true is rest = cc
       by_test false is rest = rest is
 
@@ -116,7 +119,8 @@ module _ (columns place : ℕ) where
   Follows rows (Some m) = AreGroups rows m
 
   length-more : (q : Key) (rows : List (List Value)) (row : List Value) → length (rows_of q (rows ++ row ∷ [])) ≡ length (rows_of q rows) + cond (is_key q (code row)) 1 0
-  length-more q rows row = ap length (rows-more q rows row) ∙ length-append (rows_of q rows) (cond (is_key q (code row)) (row ∷ []) []) ∙ ap (λ n. length (rows_of q rows) + n) (by_test (is_key q (code row)))
+  length-more q rows row = ap length (rows-more q rows row) ∙ length-append (rows_of q rows) (cond (is_key q (code row)) (row ∷ []) [])
+      ∙ ap (λ n. length (rows_of q rows) + n) (by_test (is_key q (code row)))
     where
       by_test : (b : Bool) → length (cond b (row ∷ []) []) ≡ cond b 1 0
       by_test true = refl
@@ -132,8 +136,10 @@ module _ (columns place : ℕ) where
   -- another key
   other-expected : (q : Key) (rows : List (List Value)) (row : List Value) → is_key q (code row) ≡ false → expected (rows ++ row ∷ []) q ≡ expected rows q
   other-expected q rows row other =
-      ap (option_map (λ v. sum_with (rows ++ row ∷ []) (q, v))) (find-more q rows row ∙ ap (λ b. first_of (find key_cmp q (pairs rows)) (cond b (Some (value row)) None)) other ∙ only (find key_cmp q (pairs rows)))
-      ∙ ap (λ (rs : List (List Value)). option_map (λ v. same_sum v rs) (find key_cmp q (pairs rows))) (rows-more q rows row ∙ ap (λ b. rows_of q rows ++ cond b (row ∷ []) []) other ∙ append-nil (rows_of q rows))
+      ap (option_map (λ v. sum_with (rows ++ row ∷ []) (q, v))) (find-more q rows row
+      ∙ ap (λ b. first_of (find key_cmp q (pairs rows)) (cond b (Some (value row)) None)) other ∙ only (find key_cmp q (pairs rows)))
+      ∙ ap (λ (rs : List (List Value)). option_map (λ v. same_sum v rs) (find key_cmp q (pairs rows))) (rows-more q rows row
+      ∙ ap (λ b. rows_of q rows ++ cond b (row ∷ []) []) other ∙ append-nil (rows_of q rows))
     where
       only : (o : Option (List Value)) → first_of o None ≡ o
       only None = refl
@@ -150,7 +156,8 @@ module _ (columns place : ℕ) where
   total-more rs row = fold-append (λ total r. total +ℤ number r) (pos 0) rs (row ∷ [])
 
   -- the first row of a key
-  first_row : (rows : List (List Value)) (m : Rows Sum) (row : List Value) → AreGroups rows m → find key_cmp (code row) m ≡ None → AreGroups (rows ++ row ∷ []) (put key_cmp (code row) (group_of columns place row) m)
+  first_row : (rows : List (List Value)) (m : Rows Sum) (row : List Value) → AreGroups rows m → find key_cmp (code row) m ≡ None
+      → AreGroups (rows ++ row ∷ []) (put key_cmp (code row) (group_of columns place row) m)
   first_row rows m row are new = record {
     sorted = is_sorted-put key_cmp total_keys (code row) (group_of columns place row) m are.sorted;
     found = λ q. find-put key_cmp total_keys q (code row) (group_of columns place row) m ∙ by_key q (is_key q (code row)) refl;
@@ -166,7 +173,8 @@ module _ (columns place : ℕ) where
 
       own : Some (group_of columns place row) ≡ expected (rows ++ row ∷ []) (code row)
       own =
-          let found = find-more (code row) rows row ∙ ap (λ o. first_of o (cond (is_key (code row) (code row)) (Some (value row)) None)) absent ∙ ap (λ b. cond b (Some (value row)) None) (is_itself (code row)) in
+          let found = find-more (code row) rows row ∙ ap (λ o. first_of o (cond (is_key (code row) (code row)) (Some (value row)) None)) absent
+          ∙ ap (λ b. cond b (Some (value row)) None) (is_itself (code row)) in
           let members = own-rows (code row) rows row (is_itself (code row)) ∙ ap (λ (rs : List (List Value)). rs ++ row ∷ []) (no_rows (code row) rows absent) in
           let total : pos 0 +ℤ number row ≡ number row = +ℤ_idl (number row) in
           sym (ap (option_map (λ v. sum_with (rows ++ row ∷ []) (code row, v))) found
@@ -243,7 +251,9 @@ module _ (columns place : ℕ) where
 
   steps : (rows more : List (List Value)) (state : Option (Rows Sum)) → Follows rows state → Follows (rows ++ more) (fold (and_row columns place) state more)
   steps rows [] state follows = subst (λ (rs : List (List Value)). Follows rs state) (sym (append-nil rows)) follows
-  steps rows (row ∷ more) state follows = subst (λ (rs : List (List Value)). Follows rs (fold (and_row columns place) (and_row columns place state row) more)) (append_assoc rows (row ∷ []) more) (steps (rows ++ row ∷ []) more (and_row columns place state row) (step rows row state follows))
+  steps rows (row ∷ more) state follows =
+      subst (λ (rs : List (List Value)). Follows rs (fold (and_row columns place) (and_row columns place state row) more)) (append_assoc rows (row ∷ []) more)
+      (steps (rows ++ row ∷ []) more (and_row columns place state row) (step rows row state follows))
 
   -- the groups by their codes
   abbrev keyed : List (List Value) → Rows (List Value) → Rows Sum
@@ -277,7 +287,8 @@ module _ (columns place : ℕ) where
       let one : nat_le (length (rows_of g.0 rows)) most_rows ≡ true = grind (arith, nat_tests, count) in
       ap (λ b. b && list_all is_counted (map (sum_with rows) groups)) one ∙ all_counted rows groups few
 
-  one_over : (rows : List (List Value)) (groups : Rows (List Value)) (q : Key) → is_some (find key_cmp q groups) ≡ true → most_rows < length (rows_of q rows) → list_all is_counted (map (sum_with rows) groups) ≡ false
+  one_over : (rows : List (List Value)) (groups : Rows (List Value)) (q : Key) → is_some (find key_cmp q groups) ≡ true → most_rows < length (rows_of q rows)
+      → list_all is_counted (map (sum_with rows) groups) ≡ false
   one_over rows [] q found over = absurd (true≢false (sym found))
   one_over rows (g ∷ groups) q found over = by_test (is_key q g.0) refl found (λ later. one_over rows groups q later over)
     where
@@ -285,7 +296,8 @@ module _ (columns place : ℕ) where
       anything_false true = refl
       anything_false false = refl
 
-      by_test : (b : Bool) → is_key q g.0 ≡ b → is_some (cond b (Some g.1) (find key_cmp q groups)) ≡ true → (is_some (find key_cmp q groups) ≡ true → list_all is_counted (map (sum_with rows) groups) ≡ false)
+      by_test : (b : Bool) → is_key q g.0 ≡ b → is_some (cond b (Some g.1) (find key_cmp q groups)) ≡ true
+          → (is_some (find key_cmp q groups) ≡ true → list_all is_counted (map (sum_with rows) groups) ≡ false)
           → (nat_le (length (rows_of g.0 rows)) most_rows && list_all is_counted (map (sum_with rows) groups)) ≡ false
       by_test true same is rest =
           let count : length (rows_of q rows) ≡ length (rows_of g.0 rows) = ap (λ k. length (rows_of k rows)) (same_key q g.0 same) in

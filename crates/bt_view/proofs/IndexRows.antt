@@ -1,5 +1,6 @@
 -- The rows of an index are under their keys as those of a table are, and are what its entries show. Serves scans and sums of an index.
-use Rattle.std.proofs.Common.{◌≡◌, ◌∙◌, ◌≤◌, ◌<◌, ℕ, zero, suc, arith, Bool, true, false, true≢false, T, List, [], ◌∷◌, ◌++◌, Option, Some, None, refl, sym, ap, subst, append_assoc, length, map, take, ◌&&◌, if◌then◌else◌}
+use Rattle.std.proofs.Common.{◌≡◌, ◌∙◌, ◌≤◌, ◌<◌, ℕ, zero, suc, arith, Bool, true, false, true≢false, T, List, [], ◌∷◌, ◌++◌}
+use Rattle.std.proofs.Common.{Option, Some, None, refl, sym, ap, subst, append_assoc, length, map, take, ◌&&◌, if◌then◌else◌}
 use Rattle.std.proofs.lemmas.List.{length-append, length-map, length-take, take_at}
 use Rattle.std.specs.Cmp.Lexicographic.{as_long}
 use Rattle.std.specs.FinMap.{is_sorted, put}
@@ -57,7 +58,8 @@ fit-at (c ∷ cs) [] place f under = absurd (true≢false (sym f))
 fit-at (c ∷ cs) (v ∷ vs) zero f under = (both_true (fits_kind c.kind v) (fit_columns cs vs) f).0
 fit-at (c ∷ cs) (v ∷ vs) (suc place) f under = fit-at cs vs place (both_true (fits_kind c.kind v) (fit_columns cs vs) f).1 (omega (arith, under))
 
-fit-picked : (cs : List Column) (vs : List Value) (places : List ℕ) → fit_columns cs vs ≡ true → All (λ place. place < length cs) places → fit_columns (map (column_in cs) places) (picked places vs) ≡ true
+fit-picked : (cs : List Column) (vs : List Value) (places : List ℕ) → fit_columns cs vs ≡ true → All (λ place. place < length cs) places
+    → fit_columns (map (column_in cs) places) (picked places vs) ≡ true
 fit-picked cs vs [] f under = refl
 fit-picked cs vs (place ∷ places) f under =
     ap (λ b. b && fit_columns (map (column_in cs) places) (picked places vs)) (fit-at cs vs place f (under 0 0 (omega arith)))
@@ -109,7 +111,8 @@ module _ (schema : Schema) (def : Definition) (on : All (λ place. place < lengt
   own_key-first : (row included : List Value) → fit_columns schema.columns row ≡ true → take of_index.keys (own_key row ++ included) ≡ own_key row
   own_key-first row included f =
       let as_many = as_long (λ (c : Column) v. fits_kind c.kind v) schema.columns row f in
-      take_at (own_key row) included of_index.keys (omega (arith, length-append (picked def.on row) (take schema.keys row), length-map def.on (value_in row), length-take schema.keys row, few, as_many))
+      take_at (own_key row) included of_index.keys
+      (omega (arith, length-append (picked def.on row) (take schema.keys row), length-map def.on (value_in row), length-take schema.keys row, few, as_many))
 
   stands_in_index : (key : Key) (row : List Value) → Stands schema key row → Stands of_index (code_of (picked def.on row) ++ key) (own_key row ++ picked def.include row)
   stands_in_index key row stands = record {
@@ -161,7 +164,8 @@ module _ (schema : Schema) (def : Definition) (on : All (λ place. place < lengt
   all_stand (r ∷ rows) all = by_test (passes def.condition r.1) (all_stand rows all.1)
     where
       by_test : (b : Bool) → AllStand of_index (select (index_row schema.keys def) rows)
-          → AllStand of_index (with_entry (option_map (λ (entry : Key × List Value). (entry.0, own_key r.1 ++ entry.1)) (if b then Some (code_of (picked def.on r.1) ++ r.0, picked def.include r.1) else None)) (select (index_row schema.keys def) rows))
+          → AllStand of_index (with_entry (option_map (λ (entry : Key × List Value). (entry.0, own_key r.1 ++ entry.1))
+          (if b then Some (code_of (picked def.on r.1) ++ r.0, picked def.include r.1) else None)) (select (index_row schema.keys def) rows))
       by_test true more =
           stand-put of_index (code_of (picked def.on r.1) ++ r.0) (own_key r.1 ++ picked def.include r.1) (select (index_row schema.keys def) rows) (stands_in_index r.0 r.1 all.0) more
       by_test false more = more
@@ -170,6 +174,7 @@ module _ (schema : Schema) (def : Definition) (on : All (λ place. place < lengt
   all_rise [] = tt
   all_rise (r ∷ rows) = by_entry (index_row schema.keys def r.0 r.1) (all_rise rows)
     where
-      by_entry : (entry : Option (Key × List Value)) → T (is_sorted key_cmp (select (index_row schema.keys def) rows)) → T (is_sorted key_cmp (with_entry entry (select (index_row schema.keys def) rows)))
+      by_entry : (entry : Option (Key × List Value)) → T (is_sorted key_cmp (select (index_row schema.keys def) rows))
+          → T (is_sorted key_cmp (with_entry entry (select (index_row schema.keys def) rows)))
       by_entry None more = more
       by_entry (Some entry) more = is_sorted-put key_cmp total_keys entry.0 entry.1 (select (index_row schema.keys def) rows) more

@@ -61,7 +61,8 @@ module _ (table : PlainTable) (index : Index) (from to : Option (List (List ℕ)
 
   module _ (schema : Schema) (shows : ShowsIndex table schema index) where
     -- unless memory ran out
-    pub scan_refused : (refusal : Refusal) → (refusal ≢ OutOfMemory → and_then (when_whole index.cover) (range_by schema) ≡ Err refusal) → refusal ≢ OutOfMemory → scan_with_keys_of from to (Secondary table index) ≡ Err refusal
+    pub scan_refused : (refusal : Refusal) → (refusal ≢ OutOfMemory → and_then (when_whole index.cover) (range_by schema) ≡ Err refusal)
+        → refusal ≢ OutOfMemory → scan_with_keys_of from to (Secondary table index) ≡ Err refusal
     scan_refused refusal is certain =
         refused range (is_whole index.cover) refusal (subst (λ s. and_then (when_whole index.cover) (range_by s) ≡ Err refusal) shows.schema_is (is certain))
 
@@ -76,7 +77,8 @@ module _ (table : PlainTable) (index : Index) (from to : Option (List (List ℕ)
         let shown = all_shown table.schema index.def on include shows.few table.rows shows.stand in
         let kinds = index_kinds table.schema index.def in
         ap (λ s. entries_by s own) shows.schema_is ∙ ap (λ es. rows_of_entries kinds (between own.from own.to es)) (shows.complete whole)
-        ∙ shown-rows kinds (between own.from own.to (select (entry_of index.def) table.rows)) (between own.from own.to rows) (shown-between kinds own (select (entry_of index.def) table.rows) rows shown)
+        ∙ shown-rows kinds (between own.from own.to (select (entry_of index.def) table.rows)) (between own.from own.to rows)
+        (shown-between kinds own (select (entry_of index.def) table.rows) rows shown)
 
     pub scan_done : (own : KeyRange) → and_then (when_whole index.cover) (range_by schema) ≡ Ok own → scan_with_keys_of from to (Secondary table index) ≡ Ok (entries_by schema own)
     scan_done own is =
@@ -90,13 +92,16 @@ module _ (table : PlainTable) (index : Index) (from to : Option (List (List ℕ)
       place_by schema = summed_place (index_schema schema index.def).columns (index_schema schema index.def).keys grouping column
 
       no_range : (r : Result KeyRange Refusal) (whole : Bool) (refusal : Refusal) → and_then (λ range. if whole then Ok range else Err Building) r ≡ Err refusal
-          → and_then (λ range. and_then (λ rows. and_then (λ place. groups_of grouping place (rows_within range rows)) (place_by table.schema)) (if whole then Ok rows else Err Building)) r ≡ Err refusal
+          → and_then (λ range. and_then (λ rows. and_then (λ place. groups_of grouping place (rows_within range rows)) (place_by table.schema))
+          (if whole then Ok rows else Err Building)) r ≡ Err refusal
       no_range (Ok range) true refusal is = cc
       no_range (Ok range) false refusal is = cc
       no_range (Err e) whole refusal is = cc
 
       has_range : (r : Result KeyRange Refusal) (whole : Bool) (own : KeyRange) → and_then (λ range. if whole then Ok range else Err Building) r ≡ Ok own
-          → (whole ≡ true) × (and_then (λ range. and_then (λ rows. and_then (λ place. groups_of grouping place (rows_within range rows)) (place_by table.schema)) (if whole then Ok rows else Err Building)) r
+          → (whole ≡ true) × (and_then (λ range. and_then
+          (λ rows. and_then (λ place. groups_of grouping place (rows_within range rows)) (place_by table.schema))
+          (if whole then Ok rows else Err Building)) r
           ≡ and_then (λ place. groups_of grouping place (rows_within own rows)) (place_by table.schema))
       has_range (Ok range) true own is = (refl, ap (λ q. and_then (λ place. groups_of grouping place (rows_within q rows)) (place_by table.schema)) (ok is))
         where
@@ -105,7 +110,8 @@ module _ (table : PlainTable) (index : Index) (from to : Option (List (List ℕ)
       has_range (Ok range) false own is = cc
       has_range (Err e) whole own is = cc
 
-      pub sums_refused : (refusal : Refusal) → (refusal ≢ OutOfMemory → and_then (when_whole index.cover) (range_by schema) ≡ Err refusal) → refusal ≢ OutOfMemory → sums_of grouping column from to (Secondary table index) ≡ Err refusal
+      pub sums_refused : (refusal : Refusal) → (refusal ≢ OutOfMemory → and_then (when_whole index.cover) (range_by schema) ≡ Err refusal)
+          → refusal ≢ OutOfMemory → sums_of grouping column from to (Secondary table index) ≡ Err refusal
       sums_refused refusal is certain =
           no_range range (is_whole index.cover) refusal (subst (λ s. and_then (when_whole index.cover) (range_by s) ≡ Err refusal) shows.schema_is (is certain))
 

@@ -1,5 +1,6 @@
 -- Groups after others: the last of the first ones and the first of the following ones. Serves the code that groups rows.
-use Rattle.std.proofs.Common.{◌≡◌, ◌<◌, ◌-◌, ◌+◌, ℕ, zero, suc, ℤ, Bool, true, false, if◌then◌else◌, List, [], ◌∷◌, ◌++◌, Some, None, option_map, get_or, set, take, length, append_assoc, refl, sym, subst, ap, ◌∙◌, arith}
+use Rattle.std.proofs.Common.{◌≡◌, ◌<◌, ◌-◌, ◌+◌, ℕ, zero, suc, ℤ, Bool, true, false, if◌then◌else◌, List, [], ◌∷◌, ◌++◌, Some}
+use Rattle.std.proofs.Common.{None, option_map, get_or, set, take, length, append_assoc, refl, sym, subst, ap, ◌∙◌, arith}
 use Rattle.std.proofs.lemmas.List.{length-set, take_more, take_more_set}
 use Rattle.std.proofs.Math.Seq.{take-length}
 use Rattle.bt_value.specs.Values.{same_values}
@@ -16,7 +17,8 @@ last_then [] last behind = elim (groups_then (last ∷ []) behind) as (λ z. z �
 last_then (s ∷ []) last behind = refl
 last_then (s ∷ r ∷ sums) last behind =
     ap (option_map (λ groups. s ∷ groups)) (last_then (r ∷ sums) last behind)
-    ∙ elim (groups_then (last ∷ []) behind) as (λ z. option_map (λ groups. s ∷ groups) (option_map (λ groups. r ∷ (sums ++ groups)) z) ≡ option_map (λ groups. s ∷ r ∷ (sums ++ groups)) z) [ None ↦ refl | Some x ↦ refl ]
+    ∙ elim (groups_then (last ∷ []) behind) as (λ z. option_map (λ groups. s ∷ groups) (option_map (λ groups. r ∷ (sums ++ groups)) z)
+    ≡ option_map (λ groups. s ∷ r ∷ (sums ++ groups)) z) [ None ↦ refl | Some x ↦ refl ]
 
 -- Groups with their last one, and the groups after them with their first one.
 pub record AreBehind (groups sums : List Sum) (last : Sum) (behind : List Sum) (first : Sum) : Type 0 where
@@ -34,7 +36,8 @@ module _ (groups sums : List Sum) (last : Sum) where
       ap (λ all. groups_then all (first ∷ others)) begin ∙ last_then sums last (first ∷ others) ∙ ap (λ same. option_map (λ groups. sums ++ groups) (by_test same last first others)) is
 
   -- both are the same group, which would have too many rows
-  pub last_over : (behind : List Sum) (first : Sum) → AreBehind groups sums last behind first → same_values last.group first.group ≡ true → with_more last first.count first.total ≡ None → groups_then groups behind ≡ None
+  pub last_over : (behind : List Sum) (first : Sum) → AreBehind groups sums last behind first → same_values last.group first.group ≡ true
+      → with_more last first.count first.total ≡ None → groups_then groups behind ≡ None
   last_over [] first are is over = absurd (omega (arith, are.some))
   last_over (t ∷ ts) first are is over =
       opened true t ts are.begin (ap (λ (x : Sum). same_values last.group x.group) (sym are.one) ∙ is)
@@ -49,7 +52,8 @@ module _ (groups sums : List Sum) (last : Sum) where
       ∙ ap (λ both. option_map (λ groups. sums ++ groups) (option_map (λ both. both ∷ ts) both)) (ap (λ (x : Sum). with_more last x.count x.total) (sym are.one) ∙ fits)
 
   -- they are different groups
-  pub last_other : (behind : List Sum) (first : Sum) → AreBehind groups sums last behind first → same_values last.group first.group ≡ false → groups_then groups behind ≡ Some ((sums ++ last ∷ []) ++ behind)
+  pub last_other : (behind : List Sum) (first : Sum) → AreBehind groups sums last behind first → same_values last.group first.group ≡ false
+      → groups_then groups behind ≡ Some ((sums ++ last ∷ []) ++ behind)
   last_other [] first are is = absurd (omega (arith, are.some))
   last_other (t ∷ ts) first are is =
       opened false t ts are.begin (ap (λ (x : Sum). same_values last.group x.group) (sym are.one) ∙ is) ∙ ap Some (sym (append_assoc sums (last ∷ []) (t ∷ ts)))

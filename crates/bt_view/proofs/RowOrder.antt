@@ -83,7 +83,9 @@ module _ (schema : Schema) (columns : ℕ) (few : columns ≤ schema.keys) (rang
           subst NotBehind (λ i. values_cmp (take_fewer columns schema.keys row few i) (take_fewer columns schema.keys other.1 few i))
           (firsts columns (take schema.keys row) (take schema.keys other.1) (t_first _ _ below))
 
-      by_test : (b : Bool) → NoneBefore columns (code_of (take columns row)) (rows_within range rows) → NoneBefore columns (code_of (take columns row)) (map (λ r. r.1) (cond b (other ∷ between range.from range.to rows) (between range.from range.to rows)))
+      by_test : (b : Bool) → NoneBefore columns (code_of (take columns row)) (rows_within range rows)
+          → NoneBefore columns (code_of (take columns row))
+          (map (λ r. r.1) (cond b (other ∷ between range.from range.to rows) (between range.from range.to rows)))
       by_test true more = (not_before (take columns row) (take columns other.1) (left.of_kinds ∙ sym right.of_kinds) left.in_range right.in_range order, more)
       by_test false more = more
 

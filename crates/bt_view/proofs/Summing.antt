@@ -51,7 +51,8 @@ module _ (table : PlainTable) (schema : Schema) (tree : Shape × RowTree) (shows
   abbrev place_by : Schema → Result ℕ Refusal
   place_by schema = summed_place schema.columns schema.keys grouping column
 
-  pub sums_of_rows : (state : TableState) (name : List ℕ) (own : KeyRange) (place : ℕ) → tree_named state name ≡ Ok (Primary table) → range_by schema ≡ Ok own → place_by schema ≡ Ok place → grouping ≤ schema.keys
+  pub sums_of_rows : (state : TableState) (name : List ℕ) (own : KeyRange) (place : ℕ) → tree_named state name ≡ Ok (Primary table) → range_by schema ≡ Ok own
+      → place_by schema ≡ Ok place → grouping ≤ schema.keys
       → sums state name grouping column from to ≡ or_refused TooMany (fold after_row (grouping, place, Some []) (between own.from own.to (holds row_effect tree.1))).2
   sums_of_rows state name own place named is placed few =
       ap (and_then (sums_of grouping column from to)) named

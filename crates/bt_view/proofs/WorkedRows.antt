@@ -30,7 +30,13 @@ at_key id qty = (code_of (value.Int (pos id) ∷ []), row id qty 7)
 abbrev with_cover : Cover → TableState
 with_cover cover = Intact (record (empty_table stock (record { fanout = 4; buffer = 3; leaf = 2; measure = measures.Messages })) {
   rows = at_key 1 20 ∷ at_key 2 10 ∷ at_key 3 20 ∷ [];
-  indexes = record { name = codes "q"; def = record { on = 1 ∷ []; include = 2 ∷ []; condition = None; keys = 1 }; cover = cover; tree = (record { fanout = 4; buffer = 3; leaf = 2; measure = measures.Messages }, leaf []) } ∷ [];
+  indexes = record {
+    name = codes "q";
+    def = record { on = 1 ∷ []; include = 2 ∷ []; condition = None; keys = 1 };
+    cover = cover;
+    tree =
+        (record { fanout = 4; buffer = 3; leaf = 2; measure = measures.Messages }, leaf []);
+  } ∷ [];
 })
 
 -- the columns that it is ordered by, those of the key, and the included ones; in ascending order of qty, and then of the key

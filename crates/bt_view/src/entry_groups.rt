@@ -1,7 +1,7 @@
 //! Groups of the rows that entries of an index show.
 //!
 //! The code of a group's columns is the front of the key of each of its entries. So an entry whose key begins with the front of the last group is of that
-//! group, and only what stands behind the front is decoded.
+//! group, and only what follows the front is decoded.
 ghost use Rattle.std.specs.Prelude.{◌≡◌, ◌≢◌, ◌≤◌, ◌++◌, [], IfOk, IfSome, List, MatchOption, Some, drop, length, option_map, take, ℕ};
 ghost use Rattle.bt_keycode.specs.Codes.{code_of};
 ghost use Rattle.bt_value.specs.declared.value.Value.{Value as value};
@@ -44,7 +44,7 @@ impl<'a> Model for EntryGroups<'a> {
     ghost invariant = { λ e. IsFrontWhereKept e.kinds.now e.groups e.front };
 }
 
-// What stands behind the front of a key.
+// The part of a key after its front.
 fn behind_front<'k>(front: &Key, key: &'k Key) -> Option<&'k [u8]>
     ensures { MatchOption result ((rest : List ℕ) → key.now ≢ front.now ++ rest) (λ rest. key.now ≡ front.now ++ rest.now) }
 {
@@ -75,7 +75,7 @@ fn number_of_entry(
     }
 }
 
-// The kinds behind so many of the first columns.
+// The kinds after the first `columns` ones.
 fn behind_columns(kinds: &[Kind], columns: usize) -> &[Kind]
     requires { columns ≤ length kinds.now }
     ensures { result.now ≡ drop columns kinds.now }
@@ -83,8 +83,8 @@ fn behind_columns(kinds: &[Kind], columns: usize) -> &[Kind]
     &kinds[columns..]
 }
 
-// The front of the keys of a row's group. It serves where keys have more columns than a group, so that others may be of it, and where the column that is
-// summed stands behind those of a group.
+// The front of the keys of a row's group. It is used if keys have more columns than a group, so that other keys may belong to the group,
+// and if the summed column is after those of a group.
 fn front_of(
     alloc: Global,
     kinds: &[Kind],

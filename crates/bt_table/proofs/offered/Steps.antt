@@ -21,7 +21,9 @@ use Rattle.bt_load.proofs.offered.Loaded.{map_of-sorted, text_rows-of}
 use Rattle.bt_keycode.specs.Standing.{AreOf}
 use Rattle.bt_table.proofs.Loads.{map_of-stand}
 use Rattle.bt_batch.specs.Batches.{batch_refusals, messages_of, read_key}
-use Rattle.bt_table.specs.Calls.{after_build, after_load, built, Call, Apply, BuildStep, CreateIndex, Drain, DropIndex, Get, Load, Rebuild, Upkeep, Draining, Rebuilding, dropped, is_bare, is_primary, load_refusals, name_refusals, sent_counts, step, unless_any, with_index, with_renewed, with_renewed_index, with_renewed_rows}
+use Rattle.bt_table.specs.Calls.{after_build, after_load, built, Call, Apply, BuildStep, CreateIndex, Drain, DropIndex, Get, Load}
+use Rattle.bt_table.specs.Calls.{Rebuild, Upkeep, Draining, Rebuilding, dropped, is_bare, is_primary, load_refusals, name_refusals}
+use Rattle.bt_table.specs.Calls.{sent_counts, step, unless_any, with_index, with_renewed, with_renewed_index, with_renewed_rows}
 use Rattle.bt_table.specs.Indexes.{Index, index_named, is_complete}
 use Rattle.bt_table.specs.Standing.{AreSoundIndexes, CompleteIndexesHold, HoldsSelection, IsSound, IsSoundTable, IsSoundUnlessLost, Suits}
 use Rattle.bt_table.specs.Tables.{PlainTable, TableState, Intact, Lost, after_batch, empty_table}
@@ -29,7 +31,8 @@ use Rattle.bt_table.specs.declared.reply.Reply.{Reply}
 use Rattle.bt_table.specs.declared.reply.Reply.TheVariants.{Batch, Created, Drained, Rebuilt, Row}
 use Rattle.bt_fanout.proofs.offered.Suiting.{all_more, all_none}
 use Rattle.bt_table.proofs.Indexes.{holds_selection}
-use Rattle.bt_table.proofs.Sound.{batch_keeps_sound, batch_of_schema, none_building, with_built_index-sound, with_index-sound, with_renewed_index-sound, with_renewed_rows-sound, with_rows-sound, without_index-sound}
+use Rattle.bt_table.proofs.Sound.{batch_keeps_sound, batch_of_schema, none_building, with_built_index-sound, with_index-sound}
+use Rattle.bt_table.proofs.Sound.{with_renewed_index-sound, with_renewed_rows-sound, with_rows-sound, without_index-sound}
 
 pub empty_is_sound : (schema : Schema) (shape : Shape) → schema.keys ≤ length schema.columns → IsRoomy shape → IsSoundTable (empty_table schema shape)
 empty_is_sound schema shape few roomy = record {
@@ -119,7 +122,8 @@ step_keeps_sound (Intact table) (Drain name) fits sound = renewed_keeps_sound Dr
 step_keeps_sound (Intact table) (Rebuild name) fits sound = renewed_keeps_sound Rebuilding table name (Rebuilt name) sound
 step_keeps_sound (Intact table) (Apply items) fits sound =
     let messages = messages_of table.schema items in
-    when_allowed (least (batch_refusals table.schema items)) (after_batch table messages) (Batch (length items) (sent_counts table messages)) (batch_keeps_sound table messages (batch_of_schema table.schema items) sound)
+    when_allowed (least (batch_refusals table.schema items)) (after_batch table messages) (Batch (length items) (sent_counts table messages))
+    (batch_keeps_sound table messages (batch_of_schema table.schema items) sound)
 step_keeps_sound (Intact table) (Get fields) fits sound =
     when_read (read_key table.schema 1 fields) table (λ key. Row (find key_cmp (code_of key) table.rows)) sound
 

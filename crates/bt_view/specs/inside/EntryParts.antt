@@ -30,7 +30,11 @@ module _ {S : Type 0} (visited : S → Key × List Value → S) where
   module _ (forked : S → S) (joined : S → S → S)
       (as_one : (visitor : S) (rows behind : List (Key × List Value)) → joined (fold visited visitor rows) (fold visited (forked visitor) behind) ≡ fold visited visitor (rows ++ behind)) where
     pub entries_as_one : (r : List Kind × S) (entries behind : List (Key × List Value))
-        → ◌≡◌ {A = List Kind × S} ((fold (after_entry visited) r entries).0, joined (fold (after_entry visited) r entries).1 (fold (after_entry visited) (r.0, forked r.1) behind).1) (fold (after_entry visited) r (entries ++ behind))
+        → ◌≡◌ {A = List Kind × S} (
+          (fold (after_entry visited) r entries).0,
+          joined (fold (after_entry visited) r entries).1
+              (fold (after_entry visited) (r.0, forked r.1) behind).1,
+        ) (fold (after_entry visited) r (entries ++ behind))
     entries_as_one r entries behind =
         ap (λ (s : List Kind × S). (s.0, joined s.1 (fold (after_entry visited) (r.0, forked r.1) behind).1)) (shown r entries)
         ∙ ap (λ (s : List Kind × S). (r.0, joined (fold visited r.1 (rows_of_entries r.0 entries)) s.1)) (shown (r.0, forked r.1) behind)

@@ -40,7 +40,8 @@ before_one same s t us = if same then option_map (λ both. both ∷ us) (with_mo
 abbrev pair : Sum → Sum → Sum
 pair s t = record s { count = s.count + t.count; total = s.total +ℤ t.total }
 
-in_all : (x y z : ℕ) (all : Groups) → (if nat_le (x + y) most_rows then (if nat_le ((x + y) + z) most_rows then all else None) else None) ≡ (if nat_le (y + z) most_rows then (if nat_le (x + (y + z)) most_rows then all else None) else None)
+in_all : (x y z : ℕ) (all : Groups) → (if nat_le (x + y) most_rows then (if nat_le ((x + y) + z) most_rows then all else None) else None)
+    ≡ (if nat_le (y + z) most_rows then (if nat_le (x + (y + z)) most_rows then all else None) else None)
 in_all x y z all = grind (arith, nat_tests)
 
 first_of : (fits : Bool) (s : Sum) (us : List Sum) → option_map (λ both. both ∷ us) (if fits then Some s else None) ≡ (if fits then Some (s ∷ us) else None)
@@ -74,8 +75,18 @@ one_one s t u us = by_same (same_values s.group t.group) (same_values t.group u.
     all_same =
         ap (λ g. if fits_two then g else None) (first_of (nat_le ((s.count + t.count) + u.count) most_rows) (pair (pair s t) u) us)
         ∙ in_all s.count t.count u.count (Some (pair (pair s t) u ∷ us))
-        ∙ ap (λ (n : ℕ). if fits_last then (if nat_le (s.count + (t.count + u.count)) most_rows then Some (record { group = s.group; count = n; total = (s.total +ℤ t.total) +ℤ u.total } ∷ us) else None) else None) (omega arith)
-        ∙ ap (λ (n : ℤ). if fits_last then (if nat_le (s.count + (t.count + u.count)) most_rows then Some (record { group = s.group; count = s.count + (t.count + u.count); total = n } ∷ us) else None) else None) (+ℤ_assoc s.total t.total u.total)
+        ∙ ap (λ (n : ℕ). if fits_last then (if nat_le (s.count + (t.count + u.count)) most_rows then Some (record {
+          group = s.group;
+          count = n;
+          total =
+              (s.total +ℤ t.total) +ℤ u.total;
+        } ∷ us) else None) else None) (omega arith)
+        ∙ ap (λ (n : ℤ). if fits_last then (if nat_le (s.count + (t.count + u.count)) most_rows then Some (record {
+          group = s.group;
+          count =
+              s.count + (t.count + u.count);
+          total = n;
+        } ∷ us) else None) else None) (+ℤ_assoc s.total t.total u.total)
         ∙ ap (λ g. if fits_last then g else None) (sym (first_of (nat_le (s.count + (t.count + u.count)) most_rows) (pair s (pair t u)) us))
 
     last_other : (fits : Bool) → (if fits then Some (pair s t ∷ u ∷ us) else None) ≡ option_map (λ both. both ∷ u ∷ us) (if fits then Some (pair s t) else None)
@@ -85,7 +96,8 @@ one_one s t u us = by_same (same_values s.group t.group) (same_values t.group u.
     first_other true = refl
     first_other false = refl
 
-    by_same : (a b : Bool) → same_values s.group t.group ≡ a → same_values t.group u.group ≡ b → joined_groups (before_one a s t []) (Some (u ∷ us)) ≡ joined_groups (Some (s ∷ [])) (before_one b t u us)
+    by_same : (a b : Bool) → same_values s.group t.group ≡ a → same_values t.group u.group ≡ b
+        → joined_groups (before_one a s t []) (Some (u ∷ us)) ≡ joined_groups (Some (s ∷ [])) (before_one b t u us)
     by_same true true e f = first_two fits_two true (outer e ∙ f) ∙ all_same ∙ sym (last_two fits_last true e)
     by_same true false e f = first_two fits_two false (outer e ∙ f) ∙ last_other fits_two ∙ sym (ap (λ same. before_one same s t (u ∷ us)) e)
     by_same false true e f = ap (λ same. option_map (λ groups. s ∷ groups) (before_one same t u us)) f ∙ first_other fits_last ∙ sym (last_two fits_last false e)

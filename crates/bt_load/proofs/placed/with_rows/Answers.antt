@@ -28,7 +28,8 @@ loop-one-preserved c =
     let row = taken_is [] first now p.place (places_of rest) left c.replace.result _ (c.replace.ensures.value ∙ c.index_mut.ensures.value) in
     let wanted = subst (λ (ps : List Placed). c.loop-one.pairs.items ++ map (pair_at first) ps ≡ map (pair_at first) c.args.placed.items) c.in-Some.ensures.steps.0 c.loop-one.invariant.wanted in
     record {
-      wanted = ap (λ ms. ms ++ map (pair_at first) rest) c.in_ok-push.ensures.items ∙ taken_more (pair_at first) p rest c.loop-one.pairs.items _ (p.key, c.replace.result) wanted (ap (λ r. (p.key, r)) row);
+      wanted = ap (λ ms. ms ++ map (pair_at first) rest) c.in_ok-push.ensures.items
+          ∙ taken_more (pair_at first) p rest c.loop-one.pairs.items _ (p.key, c.replace.result) wanted (ap (λ r. (p.key, r)) row);
       left = others_left [] first now p.place (places_of rest) left _;
     }
 

@@ -20,7 +20,8 @@ loop-place-preserved c =
     let others = typed_from columns (item + (place + 1)) (drop (place + 1) records) in
     let more : typed_from columns (item + place) (drop place records) ≡ read ∷ others =
     typed_next columns item place records c.index-records-place.result c.loop-place-test.true
-    ∙ ap (λ (answer : Result (List Value) Refusal). answer ∷ others) (ap (read_as columns (item + place)) (sym c.index-records-place.is) ∙ is_answer _ read c.read_row-read.ensures c.in_ok-add.ensures.memory)
+    ∙ ap (λ (answer : Result (List Value) Refusal). answer ∷ others) (ap (read_as columns (item + place)) (sym c.index-records-place.is)
+    ∙ is_answer _ read c.read_row-read.ensures c.in_ok-add.ensures.memory)
     in
     record {
       values = sym (with_value c.loop-place.reading.values c.add.new.self.values read others c.in_ok-add.ensures.values)

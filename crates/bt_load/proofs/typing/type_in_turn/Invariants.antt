@@ -9,5 +9,6 @@ use Rattle.bt_load.proofs.typing.type_in_turn.Given as goal
 abbrev pub invariant-loop-place : goal.invariant-loop-place
 invariant-loop-place l = record {
   values : l.reading.values ++ filter_map result_ok (typed_from l.schema.columns (1 + l.place) (drop l.place l.records)) ≡ filter_map result_ok (typed_from l.schema.columns 1 l.records);
-  refusal : least_from l.reading.refusal (filter_map result_err (typed_from l.schema.columns (1 + l.place) (drop l.place l.records))) ≡ least (filter_map result_err (typed_from l.schema.columns 1 l.records));
+  refusal : least_from l.reading.refusal (filter_map result_err (typed_from l.schema.columns (1 + l.place) (drop l.place l.records)))
+      ≡ least (filter_map result_err (typed_from l.schema.columns 1 l.records));
 }

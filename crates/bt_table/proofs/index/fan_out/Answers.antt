@@ -10,12 +10,15 @@ use Rattle.bt_table.proofs.index.fan_out.Goals as goal
 pub returns-then-matches-clause-packets : goal.returns-then-matches-clause-packets
 returns-then-matches-clause-packets g c =
     let none = none_within c.args.packet.now (holds row_effect c.args.tree.now.1) c.widest_cover-cover.result.now (search rules) in
-    IfOk-weaker c.packets_for.result _ _ (λ out e. e ∙ all_packets c.args.packet.now (holds row_effect c.args.tree.now.1) c.args.heads.now _ c.widest_cover-cover.ensures _ none) c.packets_for.ensures.packets
+    IfOk-weaker c.packets_for.result _ _ (λ out e. e
+    ∙ all_packets c.args.packet.now (holds row_effect c.args.tree.now.1) c.args.heads.now _ c.widest_cover-cover.ensures _ none)
+    c.packets_for.ensures.packets
 
 pub returns-then-matches-clause-sent : goal.returns-then-matches-clause-sent
 returns-then-matches-clause-sent g c =
     let none = none_within c.args.packet.now (holds row_effect c.args.tree.now.1) c.widest_cover-cover.result.now (search rules) in
-    IfOk-weaker c.packets_for.result _ _ (λ out e. e ∙ all_counts c.args.packet.now (holds row_effect c.args.tree.now.1) c.args.heads.now _ c.widest_cover-cover.ensures _ none) c.packets_for.ensures.sent
+    IfOk-weaker c.packets_for.result _ _ (λ out e. e
+    ∙ all_counts c.args.packet.now (holds row_effect c.args.tree.now.1) c.args.heads.now _ c.widest_cover-cover.ensures _ none) c.packets_for.ensures.sent
 
 pub packets_for-requires-2-clause-suits : goal.packets_for-requires-2-clause-suits
 packets_for-requires-2-clause-suits g c =
@@ -25,9 +28,11 @@ packets_for-requires-2-clause-suits g c =
 pub returns-clause-packets : goal.returns-clause-packets
 returns-clause-packets g c =
     IfOk-weaker c.packets_for-2.result _ _
-    (λ out e. e ∙ all_packets c.args.packet.now (holds row_effect c.args.tree.now.1) c.args.heads.now _ c.widest_cover-cover.ensures _ (c.as_slice.ensures.value ∙ c.in_ok-effects.ensures.effects)) c.packets_for-2.ensures.packets
+    (λ out e. e ∙ all_packets c.args.packet.now (holds row_effect c.args.tree.now.1) c.args.heads.now _ c.widest_cover-cover.ensures _
+    (c.as_slice.ensures.value ∙ c.in_ok-effects.ensures.effects)) c.packets_for-2.ensures.packets
 
 pub returns-clause-sent : goal.returns-clause-sent
 returns-clause-sent g c =
     IfOk-weaker c.packets_for-2.result _ _
-    (λ out e. e ∙ all_counts c.args.packet.now (holds row_effect c.args.tree.now.1) c.args.heads.now _ c.widest_cover-cover.ensures _ (c.as_slice.ensures.value ∙ c.in_ok-effects.ensures.effects)) c.packets_for-2.ensures.sent
+    (λ out e. e ∙ all_counts c.args.packet.now (holds row_effect c.args.tree.now.1) c.args.heads.now _ c.widest_cover-cover.ensures _ (c.as_slice.ensures.value
+    ∙ c.in_ok-effects.ensures.effects)) c.packets_for-2.ensures.sent

@@ -10,5 +10,6 @@ packed_entries-requires c =
 
 pub loop-head-preserved : goal.loop-head-preserved
 loop-head-preserved c =
-    mapped_next (λ head. entry_tree c.args.shape c.args.rows.now head.def) c.args.heads.now c.loop-head.entries.items _ c.loop-head.head-index c.head-item.result c.in_ok-packed_entries.field-0 (omega arith) c.loop-head.invariant
+    mapped_next (λ head. entry_tree c.args.shape c.args.rows.now head.def) c.args.heads.now c.loop-head.entries.items _ c.loop-head.head-index
+    c.head-item.result c.in_ok-packed_entries.field-0 (omega arith) c.loop-head.invariant
     c.head-item.is c.in_ok-packed_entries.ensures (c.push_reserved.ensures.items ∙ ap (λ l. l ++ c.in_ok-packed_entries.field-0 ∷ []) c.reserve.ensures.items)

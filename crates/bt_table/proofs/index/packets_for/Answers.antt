@@ -13,10 +13,12 @@ loop-head-preserved g c =
     let effects = c.args.effects.now in
     let head = c.head-item.result in
     record {
-      packets = mapped_next (packet_for effects) c.args.heads.now c.loop-head.packets.items _ c.loop-head.head-index head c.in_ok-packet.packet (omega arith) c.loop-head.invariant.packets c.head-item.is
+      packets = mapped_next (packet_for effects) c.args.heads.now c.loop-head.packets.items _ c.loop-head.head-index head c.in_ok-packet.packet (omega arith)
+          c.loop-head.invariant.packets c.head-item.is
           c.in_ok-packet.ensures.packet (c.push_reserved.ensures.items ∙ ap (λ l. l ++ c.in_ok-packet.packet ∷ []) c.reserve.ensures.items);
       sent =
           let name = ap (λ n. record { name = n; count = c.len-count.result }) c.in_ok-name.ensures in
           let count = ap (λ k. record { name = head.name; count = k }) (c.len-count.ensures.count ∙ ap length c.in_ok-packet.ensures.packet) in
-          mapped_next (count_for effects) c.args.heads.now c.loop-head.sent _ c.loop-head.head-index head _ (omega arith) c.loop-head.invariant.sent c.head-item.is (name ∙ count) c.in_ok-push.ensures.ok;
+          mapped_next (count_for effects) c.args.heads.now c.loop-head.sent _ c.loop-head.head-index head _ (omega arith) c.loop-head.invariant.sent
+          c.head-item.is (name ∙ count) c.in_ok-push.ensures.ok;
     }

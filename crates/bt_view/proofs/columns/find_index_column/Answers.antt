@@ -23,7 +23,8 @@ returns-in-Some-find_column c =
     let name = c.args.name.now in
     let none : named_from 0 name (map (column_in schema.columns) def.on) ≡ None = search rules in
     let is : named_from 0 name (take schema.keys schema.columns) ≡ Some (c.in-Some-find_column.place, c.in-Some-find_column.kind) = search rules in
-    ap (λ n. Some (n + c.in-Some-find_column.place, c.in-Some-find_column.kind)) (ap length c.on-on.ensures) ∙ sym (found_key name schema def c.in-Some-find_column.place c.in-Some-find_column.kind none is)
+    ap (λ n. Some (n + c.in-Some-find_column.place, c.in-Some-find_column.kind)) (ap length c.on-on.ensures)
+    ∙ sym (found_key name schema def c.in-Some-find_column.place c.in-Some-find_column.kind none is)
 
 pub returns-in_err-place : goal.returns-in_err-place
 returns-in_err-place c =
@@ -47,5 +48,6 @@ returns c =
     let none : named_from 0 name (map (column_in schema.columns) def.on) ≡ None = search rules in
     let neither : named_from 0 name (take schema.keys schema.columns) ≡ None = search rules in
     let is : named_from 0 name (map (column_in schema.columns) def.include) ≡ Some (place, kind) = search rules in
-    let counted : length c.on-on.result.now + length c.key_columns-keys.result.now ≡ length def.on + schema.keys = omega (arith, ap length c.on-on.ensures, ap length c.key_columns-keys.ensures.value, keys_long schema few) in
+    let counted : length c.on-on.result.now + length c.key_columns-keys.result.now ≡ length def.on + schema.keys =
+    omega (arith, ap length c.on-on.ensures, ap length c.key_columns-keys.ensures.value, keys_long schema few) in
     ap (λ n. Some (n + place, kind)) counted ∙ sym (found_included name schema def few none neither ∙ ap (later (length def.on + schema.keys)) is)

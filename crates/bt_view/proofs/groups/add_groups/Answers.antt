@@ -47,7 +47,12 @@ returns-then-same_values-clause-groups c =
     let is : same_values last.group first.group ≡ true = search rules in
     let fits : with_more last first.count first.total ≡ Some both = search rules in
     let came : c.append-then-same_values.new.self.items ≡ c.pop.new.self.items ++ set c.args.behind.items 0 both = search rules in
-    last_same c.args.groups.now.items c.pop.new.self.items last c.args.behind.items first both (record { begin = c.in-Some.ensures.items; some = within; one = c.index-first.ensures }) is fits ∙ ap Some (sym came)
+    last_same c.args.groups.now.items c.pop.new.self.items last c.args.behind.items first both (record {
+      begin = c.in-Some.ensures.items;
+      some = within;
+      one =
+          c.index-first.ensures;
+    }) is fits ∙ ap Some (sym came)
 
 pub returns-then-same_values-clause-bounded : goal.returns-then-same_values-clause-bounded
 returns-then-same_values-clause-bounded c =

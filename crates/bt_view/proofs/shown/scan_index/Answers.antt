@@ -11,4 +11,5 @@ returns-in_err-range-clause-answer c = λ table shows.
 
 pub returns-clause-answer : goal.returns-clause-answer
 returns-clause-answer c = λ table shows.
-    scan_done table (index_of_ref c.args.index) (option_copied c.args.from) (option_copied c.args.to) c.args.schema.now shows c.in_ok-range.range (search rules) ∙ ap Ok (sym c.in_ok-entries_in.ensures)
+    scan_done table (index_of_ref c.args.index) (option_copied c.args.from) (option_copied c.args.to) c.args.schema.now shows c.in_ok-range.range
+    (search rules) ∙ ap Ok (sym c.in_ok-entries_in.ensures)

@@ -11,22 +11,26 @@ use Rattle.bt_view.proofs.shown.sum_index.Goals as goal
 
 pub returns-in_err-range-clause-answer : goal.returns-in_err-range-clause-answer
 returns-in_err-range-clause-answer c = λ table shows.
-    let refused = sums_refused table (index_of_ref c.args.index) (option_copied c.args.from) (option_copied c.args.to) c.args.schema.now shows c.args.grouping c.args.column.now c.in_err-range.field-0.0 (search rules) in
+    let refused = sums_refused table (index_of_ref c.args.index) (option_copied c.args.from) (option_copied c.args.to) c.args.schema.now shows c.args.grouping
+    c.args.column.now c.in_err-range.field-0.0 (search rules) in
     search (rules, refused)
 
 pub returns-in-Err-clause-answer : goal.returns-in-Err-clause-answer
 returns-in-Err-clause-answer c = λ table shows.
-    let wanted = no_place table (index_of_ref c.args.index) (option_copied c.args.from) (option_copied c.args.to) c.args.schema.now shows c.args.grouping c.args.column.now c.in-Err.refusal c.in_ok-range.range (search rules) (search rules) in
+    let wanted = no_place table (index_of_ref c.args.index) (option_copied c.args.from) (option_copied c.args.to) c.args.schema.now shows c.args.grouping
+    c.args.column.now c.in-Err.refusal c.in_ok-range.range (search rules) (search rules) in
     search (rules, wanted)
 
 pub returns-clause-answer : goal.returns-clause-answer
 returns-clause-answer c = λ table shows.
-    let summed = sums_done table (index_of_ref c.args.index) (option_copied c.args.from) (option_copied c.args.to) c.args.schema.now shows c.args.grouping c.args.column.now c.in-Ok.place c.in_ok-range.range (search rules) (search rules) (search rules) in
+    let summed = sums_done table (index_of_ref c.args.index) (option_copied c.args.from) (option_copied c.args.to) c.args.schema.now shows c.args.grouping
+    c.args.column.now c.in-Ok.place c.in_ok-range.range (search rules) (search rules) (search rules) in
     of_shown _ (c.args.grouping, c.in-Ok.place, Some []) c.new.result _ (rows_shown c.in_ok-entries_in.field-0) summed c.new.ensures c.in_ok-entries_in.ensures
 
 pub returns-clause-unbounded : goal.returns-clause-unbounded
 returns-clause-unbounded c = λ table shows from_none to_none.
-    let summed = sums_done table (index_of_ref c.args.index) (option_copied c.args.from) (option_copied c.args.to) c.args.schema.now shows c.args.grouping c.args.column.now c.in-Ok.place c.in_ok-range.range (search rules) (search rules) (search rules) in
+    let summed = sums_done table (index_of_ref c.args.index) (option_copied c.args.from) (option_copied c.args.to) c.args.schema.now shows c.args.grouping
+    c.args.column.now c.in-Ok.place c.in_ok-range.range (search rules) (search rules) (search rules) in
     let entries = entries_by table (index_of_ref c.args.index) (option_copied c.args.from) (option_copied c.args.to) c.args.schema.now shows c.args.schema.now c.in_ok-range.range in
     let tree = Secondary table (index_of_ref c.args.index) in
     only_too_many _ (sums_of c.args.grouping c.args.column.now None None tree) (fold after_row (c.args.grouping, c.in-Ok.place, Some []) entries).2

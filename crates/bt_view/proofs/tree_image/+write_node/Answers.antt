@@ -9,7 +9,10 @@ write_node-requires g t c κs within = (omega (arith, child_below c.args.walk.no
 
 pub loop-place-preserved : goal.loop-place-preserved
 loop-place-preserved g t c =
-    child_written (g.D.Drawing.value_text c.args.drawing.now) (g.D.Drawing.delta_text c.args.drawing.now) (children_of c.args.walk.now) c.loop-place.place c.as_slice-below.result.now c.child-child.result c.args.out.now.items (own_text (g.D.Drawing.value_text c.args.drawing.now) (g.D.Drawing.delta_text c.args.drawing.now) c.args.indent.now c.as_slice-below.result.now c.args.walk.now)
+    child_written (g.D.Drawing.value_text c.args.drawing.now) (g.D.Drawing.delta_text c.args.drawing.now) (children_of c.args.walk.now) c.loop-place.place
+    c.as_slice-below.result.now c.child-child.result c.args.out.now.items
+    (own_text (g.D.Drawing.value_text c.args.drawing.now) (g.D.Drawing.delta_text c.args.drawing.now) c.args.indent.now c.as_slice-below.result.now
+    c.args.walk.now)
     c.loop-place.out.items c.write_pivot.new.out.items c.write_node.new.out.items c.child-child.ensures c.in_ok-write_pivot.ensures c.in_ok-write_node.ensures c.loop-place.invariant
 
 pub returns : goal.returns
@@ -17,4 +20,5 @@ returns g t c =
     let past = c.loop-place-test.false in
     let all = c.child_count-place-end.ensures in
     let below = c.as_slice-below.ensures.value ∙ c.in_ok-spaces.ensures in
-    node_written (g.D.Drawing.value_text c.args.drawing.now) (g.D.Drawing.delta_text c.args.drawing.now) c.args.walk.now c.args.indent.now c.as_slice-below.result.now c.loop-place.place c.args.out.now.items c.loop-place.out.items below (omega (arith, past, all)) c.loop-place.invariant
+    node_written (g.D.Drawing.value_text c.args.drawing.now) (g.D.Drawing.delta_text c.args.drawing.now) c.args.walk.now c.args.indent.now
+    c.as_slice-below.result.now c.loop-place.place c.args.out.now.items c.loop-place.out.items below (omega (arith, past, all)) c.loop-place.invariant

@@ -23,7 +23,8 @@ invariant_of-self-2 g c =
     let packets = rw (c.in_ok-packet.ensures.packet, c.as_slice.ensures.value) at c.in_ok-packets.ensures.packets in
     let sent = rw (c.in_ok-packet.ensures.packet, c.as_slice.ensures.value) at c.in_ok-packets.ensures.sent in
     let rows = rw c.in_ok-packet.ensures.packet at c.in_ok-after.ensures.rows in
-    batch_is_sound c.self.inside.schema c.self.inside.heads.items c.self.inside.trees c.in-Some.trees c.in-Some.is c.self.invariant c.args.items.now _ packets _ c.take_trees-trees.ensures.taken _ sent _ _ c.put_trees.ensures rows
+    batch_is_sound c.self.inside.schema c.self.inside.heads.items c.self.inside.trees c.in-Some.trees c.in-Some.is c.self.invariant c.args.items.now _ packets
+    _ c.take_trees-trees.ensures.taken _ sent _ _ c.put_trees.ensures rows
     c.in_ok-after.ensures.entries
 
 pub returns-clause-done : goal.returns-clause-done
@@ -31,5 +32,6 @@ returns-clause-done g c =
     let packets = rw (c.in_ok-packet.ensures.packet, c.as_slice.ensures.value) at c.in_ok-packets.ensures.packets in
     let sent = rw (c.in_ok-packet.ensures.packet, c.as_slice.ensures.value) at c.in_ok-packets.ensures.sent in
     let rows = rw c.in_ok-packet.ensures.packet at c.in_ok-after.ensures.rows in
-    batch_is_step c.self.inside.schema c.self.inside.heads.items c.self.inside.trees c.in-Some.trees c.in-Some.is c.self.invariant c.args.items.now _ packets _ c.take_trees-trees.ensures.taken _ sent _ _ c.put_trees.ensures rows
+    batch_is_step c.self.inside.schema c.self.inside.heads.items c.self.inside.trees c.in-Some.trees c.in-Some.is c.self.invariant c.args.items.now _ packets _
+    c.take_trees-trees.ensures.taken _ sent _ _ c.put_trees.ensures rows
     c.in_ok-after.ensures.entries c.args.self.now c.self.view_is c.in_ok-packet.ensures.allowed

@@ -18,7 +18,8 @@ returns-then-is_full-clause-refused c =
     let many : nat_le most_indexes (length c.self.inside.heads.items) ≡ true = grind (arith, nat_tests) in
     let free : is_some (index_named c.args.name.now (indexes_of c.self.inside.heads.items c.in-Some.trees.entries.items)) ≡ false =
     rw (c.as_slice.ensures.value, c.as_slice-2.ensures.value) at (sym (ap is_some c.find_index-found.ensures.found) ∙ is_some-map _ c.find_index-found.result ∙ sym c.if-is_some.ensures) in
-    refused_by_number c.self.inside.schema c.self.inside.heads.items c.self.inside.trees c.in-Some.trees c.in-Some.is c.self.invariant c.args.self.now c.self.view_is c.args.name.now (sym c.if-is_name_of_rows.ensures) free ∙ ap (λ b. least (one_if b TooMany)) many
+    refused_by_number c.self.inside.schema c.self.inside.heads.items c.self.inside.trees c.in-Some.trees c.in-Some.is c.self.invariant c.args.self.now
+    c.self.view_is c.args.name.now (sym c.if-is_name_of_rows.ensures) free ∙ ap (λ b. least (one_if b TooMany)) many
 
 pub returns-clause-free : goal.returns-clause-free
 returns-clause-free c =
@@ -26,4 +27,5 @@ returns-clause-free c =
     let few : nat_le most_indexes (length c.self.inside.heads.items) ≡ false = grind (arith, nat_tests) in
     let free : is_some (index_named c.args.name.now (indexes_of c.self.inside.heads.items c.in-Some.trees.entries.items)) ≡ false =
     rw (c.as_slice.ensures.value, c.as_slice-2.ensures.value) at (sym (ap is_some c.find_index-found.ensures.found) ∙ is_some-map _ c.find_index-found.result ∙ sym c.if-is_some.ensures) in
-    refused_by_number c.self.inside.schema c.self.inside.heads.items c.self.inside.trees c.in-Some.trees c.in-Some.is c.self.invariant c.args.self.now c.self.view_is c.args.name.now (sym c.if-is_name_of_rows.ensures) free ∙ ap (λ b. least (one_if b TooMany)) few
+    refused_by_number c.self.inside.schema c.self.inside.heads.items c.self.inside.trees c.in-Some.trees c.in-Some.is c.self.invariant c.args.self.now
+    c.self.view_is c.args.name.now (sym c.if-is_name_of_rows.ensures) free ∙ ap (λ b. least (one_if b TooMany)) few

@@ -18,15 +18,20 @@ pub invariant_of-self : goal.invariant_of-self
 invariant_of-self c =
     let entries = rw (c.shape-shape.ensures) at c.add_index-added.ensures.entries in
     let free : least (index_refusals c.args.self.now c.args.name) ≡ None = search rules in
-    added_is_sound c.self.inside.schema c.self.inside.heads.items c.self.inside.trees _ c.take_trees-rows.ensures.taken c.self.invariant c.args.self.now c.self.view_is _ c.take_trees-rows.ensures.taken _ _ _ c.put_trees.ensures refl
+    added_is_sound c.self.inside.schema c.self.inside.heads.items c.self.inside.trees _ c.take_trees-rows.ensures.taken c.self.invariant c.args.self.now
+    c.self.view_is _ c.take_trees-rows.ensures.taken _ _ _ c.put_trees.ensures refl
     c.args.name c.args.def c.requires free (is_ok c.add_index-added.result) c.add_index-added.ensures.heads entries
 
 pub returns-in_err-added-clause-unchanged : goal.returns-in_err-added-clause-unchanged
 returns-in_err-added-clause-unchanged c =
     let err : is_ok c.add_index-added.result ≡ false = ap is_ok c.in_err-added.was in
-    let heads = subst (λ b. c.add_index-added.new.heads.items ≡ (if b then c.self.inside.heads.items ++ empty_head c.args.name c.args.def ∷ [] else c.self.inside.heads.items)) err c.add_index-added.ensures.heads in
-    let entries = subst (λ b. c.add_index-added.new.entries.items ≡ (if b then c.take_trees-rows.result.entries.items ++ (c.shape-shape.result, leaf []) ∷ [] else c.take_trees-rows.result.entries.items)) err c.add_index-added.ensures.entries in
-    let wanted = not_added_is c.self.inside.schema c.self.inside.heads.items c.self.inside.trees _ c.take_trees-rows.ensures.taken c.self.invariant c.args.self.now c.self.view_is _ c.take_trees-rows.ensures.taken _ _ _ c.put_trees.ensures refl
+    let heads = subst (λ b. c.add_index-added.new.heads.items
+    ≡ (if b then c.self.inside.heads.items ++ empty_head c.args.name c.args.def ∷ [] else c.self.inside.heads.items)) err c.add_index-added.ensures.heads in
+    let entries = subst (λ b. c.add_index-added.new.entries.items
+    ≡ (if b then c.take_trees-rows.result.entries.items ++ (c.shape-shape.result, leaf []) ∷ [] else c.take_trees-rows.result.entries.items)) err
+    c.add_index-added.ensures.entries in
+    let wanted = not_added_is c.self.inside.schema c.self.inside.heads.items c.self.inside.trees _ c.take_trees-rows.ensures.taken c.self.invariant
+    c.args.self.now c.self.view_is _ c.take_trees-rows.ensures.taken _ _ _ c.put_trees.ensures refl
     c.args.name c.args.def heads entries in
     search (rules, wanted)
 
@@ -34,8 +39,12 @@ pub returns-clause-done : goal.returns-clause-done
 returns-clause-done c =
     let ok : is_ok c.add_index-added.result ≡ true = ap is_ok c.in_ok-added.was in
     let free : least (index_refusals c.args.self.now c.args.name) ≡ None = search rules in
-    let heads = subst (λ b. c.add_index-added.new.heads.items ≡ (if b then c.self.inside.heads.items ++ empty_head c.args.name c.args.def ∷ [] else c.self.inside.heads.items)) ok c.add_index-added.ensures.heads in
+    let heads = subst (λ b. c.add_index-added.new.heads.items
+    ≡ (if b then c.self.inside.heads.items ++ empty_head c.args.name c.args.def ∷ [] else c.self.inside.heads.items)) ok c.add_index-added.ensures.heads in
     let all = rw (c.shape-shape.ensures) at c.add_index-added.ensures.entries in
-    let entries = subst (λ b. c.add_index-added.new.entries.items ≡ (if b then c.take_trees-rows.result.entries.items ++ (c.take_trees-rows.result.rows.0, leaf []) ∷ [] else c.take_trees-rows.result.entries.items)) ok all in
-    create_is_step c.self.inside.schema c.self.inside.heads.items c.self.inside.trees _ c.take_trees-rows.ensures.taken c.self.invariant c.args.self.now c.self.view_is _ c.take_trees-rows.ensures.taken _ _ _ c.put_trees.ensures refl
+    let entries = subst (λ b. c.add_index-added.new.entries.items
+    ≡ (if b then c.take_trees-rows.result.entries.items ++ (c.take_trees-rows.result.rows.0, leaf []) ∷ [] else c.take_trees-rows.result.entries.items)) ok
+    all in
+    create_is_step c.self.inside.schema c.self.inside.heads.items c.self.inside.trees _ c.take_trees-rows.ensures.taken c.self.invariant c.args.self.now
+    c.self.view_is _ c.take_trees-rows.ensures.taken _ _ _ c.put_trees.ensures refl
     c.args.name c.args.def _ c.in-Ok.ensures heads entries free

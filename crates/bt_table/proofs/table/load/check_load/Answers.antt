@@ -16,7 +16,8 @@ building_first false = refl
 pub returns-then-not-are_complete-clause-refused : goal.returns-then-not-are_complete-clause-refused
 returns-then-not-are_complete-clause-refused c =
     let bare = is_bare c.args.trees.now.rows.1 in
-    let building : list_all is_complete (indexes_of c.args.heads.now c.args.trees.now.entries.items) ≡ false = sym (complete_are c.args.heads.now c.args.trees.now.entries.items c.requires) ∙ sym c.if-not-are_complete.ensures in
+    let building : list_all is_complete (indexes_of c.args.heads.now c.args.trees.now.entries.items) ≡ false =
+    sym (complete_are c.args.heads.now c.args.trees.now.entries.items c.requires) ∙ sym c.if-not-are_complete.ensures in
     ap (λ b. least (one_if (not b) Building ++ one_if (not bare) NotEmpty)) building ∙ building_first bare
 
 -- no index is building
@@ -25,10 +26,12 @@ all_complete complete bare is = ap (λ b. least (one_if (not b) Building ++ one_
 
 pub returns-then-not-is_bare-clause-refused : goal.returns-then-not-is_bare-clause-refused
 returns-then-not-is_bare-clause-refused c =
-    let complete : list_all is_complete (indexes_of c.args.heads.now c.args.trees.now.entries.items) ≡ true = sym (complete_are c.args.heads.now c.args.trees.now.entries.items c.requires) ∙ sym c.if-not-are_complete.ensures in
+    let complete : list_all is_complete (indexes_of c.args.heads.now c.args.trees.now.entries.items) ≡ true =
+    sym (complete_are c.args.heads.now c.args.trees.now.entries.items c.requires) ∙ sym c.if-not-are_complete.ensures in
     all_complete _ (is_bare c.args.trees.now.rows.1) complete ∙ ap (λ b. least (one_if (not b) NotEmpty)) (sym c.if-not-is_bare.ensures)
 
 pub returns-clause-free : goal.returns-clause-free
 returns-clause-free c =
-    let complete : list_all is_complete (indexes_of c.args.heads.now c.args.trees.now.entries.items) ≡ true = sym (complete_are c.args.heads.now c.args.trees.now.entries.items c.requires) ∙ sym c.if-not-are_complete.ensures in
+    let complete : list_all is_complete (indexes_of c.args.heads.now c.args.trees.now.entries.items) ≡ true =
+    sym (complete_are c.args.heads.now c.args.trees.now.entries.items c.requires) ∙ sym c.if-not-are_complete.ensures in
     all_complete _ (is_bare c.args.trees.now.rows.1) complete ∙ ap (λ b. least (one_if (not b) NotEmpty)) (sym c.if-not-is_bare.ensures)
