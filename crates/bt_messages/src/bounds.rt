@@ -5,14 +5,11 @@ ghost use Rattle.bt_messages.specs.Messages.{messages_before, messages_between, 
 ghost use Rattle.std.specs.Option.{option_copied};
 
 use crate::message::{Merge, Message};
-use crate::search::{count_before_near, likely_place};
+use crate::search::{count_before_near, likely_start};
 use bt_keycode::Key;
 use std::alloc::{AllocError, Global};
 use std::cmp::Ordering;
 use std::collections::VecDeque;
-
-// The first step of a search from a likely place, which is mostly within a few entries of the key's.
-const FIRST_STEP: usize = 4;
 
 /// The number of entries with a key before `key`, searched from a likely place.
 pub fn count_before<X>(messages: &[(Key, X)], key: &Key) -> usize
@@ -21,7 +18,8 @@ pub fn count_before<X>(messages: &[(Key, X)], key: &Key) -> usize
     ensures before { take result messages.now ≡ messages_before key.now messages.now }
     ensures from { drop result messages.now ≡ messages_from key.now messages.now }
 {
-    count_before_near(messages, likely_place(messages, key), FIRST_STEP, key)
+    let (place, step) = likely_start(messages, key);
+    count_before_near(messages, place, step, key)
 }
 
 /// The number of messages with a key at or before `key`.

@@ -10,6 +10,9 @@ use std::cmp::Ordering;
 // Among fewer entries than these a search begins at the first one.
 const FEW: usize = 8;
 
+// The first step from a likely place, which is mostly within a few entries of the key's.
+const FIRST_STEP: usize = 4;
+
 // A number of 16 bits: the largest one if `number` has more.
 fn sixteen_bits(number: u64) -> u32 {
     number.min(0xffff) as u32
@@ -30,20 +33,23 @@ fn place_along(first: u64, last: u64, number: u64, count: usize) -> usize {
     (part.wrapping_mul(sixteen_bits(count as u64)) / whole.max(1)) as usize
 }
 
-/// A place to begin the search for a key at: where it would be if the first eight bytes of the keys rose evenly. A search finds the
-/// key from any place, so nothing is promised of this one.
-pub(crate) fn likely_place<X>(entries: &[(Key, X)], key: &Key) -> usize {
+/// A place to begin the search for a key at, and the first step from there. The place is where the key would be if the first eight
+/// bytes of the keys rose evenly. A search finds the key from any place, so nothing is promised of this one.
+pub(crate) fn likely_start<X>(entries: &[(Key, X)], key: &Key) -> (usize, usize)
+    ensures { 1 ≤ result.1 }
+{
     let count = entries.len();
     if count < FEW {
-        return 0;
+        return (0, FIRST_STEP);
     }
-    let (first, last) = (&entries[0].0, &entries[count - 1].0);
-    place_along(
-        first.first_number(),
-        last.first_number(),
-        key.first_number(),
-        count,
-    )
+    let first = entries[0].0.first_number();
+    let last = entries[count - 1].0.first_number();
+    let number = key.first_number();
+    if number == first || number == last {
+        // Keys that have these bytes in common may be many. With a step as long as the entries, the search is a binary one.
+        return (count / 2, count);
+    }
+    (place_along(first, last, number, count), FIRST_STEP)
 }
 
 // A bracket of a key that begins at `place` or later. Its upper end is found by steps that double.
