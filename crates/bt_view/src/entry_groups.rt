@@ -1,7 +1,7 @@
 //! Groups of the rows that entries of an index show.
 //!
 //! The code of a group's columns is the front of the key of each of its entries. So an entry whose key begins with the front of the last group is of that
-//! group, and only what follows the front is decoded.
+//! group, and only what follows the front is read.
 ghost use Rattle.std.specs.Prelude.{◌≡◌, ◌≢◌, ◌≤◌, ◌++◌, [], IfOk, IfSome, List, MatchOption, Some, drop, length, option_map, take, ℕ};
 ghost use Rattle.bt_keycode.specs.Codes.{code_of};
 ghost use Rattle.bt_value.specs.declared.value.Value.{Value as value};
