@@ -1,8 +1,13 @@
 //! Loading rows into a table that has none.
 #![tactic(auto, using(crate::proofs::offered::Steps::unless_lost_hold))]
 
-ghost use Rattle.std.specs.Prelude.{◌≡◌, IfErr, IfOk, IsErrOf, None, OnErr, OnOk, Some, length};
+ghost use Rattle.std.specs.Prelude.{◌≡◌, ◌≢◌, [], Err, IfErr, IfOk, IsErrOf, None, Ok, OnErr, OnOk, Some, length};
+ghost use Rattle.std.specs.List.{All};
 ghost use Rattle.bt_value.specs.Refusals.{least};
+ghost use Rattle.bt_keycode.specs.Standing.{RowMap};
+ghost use Rattle.bt_load.specs.Maps.{map_of};
+ghost use Rattle.bt_fanout.specs.Promises.{SuitsRows};
+ghost use Rattle.bt_table.specs.inside.Loads.{ArePackedOf};
 ghost use Rattle.bt_table.specs.Calls as spec;
 ghost use Rattle.bt_table.specs.Indexes.{indexes_of};
 ghost use Rattle.bt_table.specs.Calls.{IsRefused, IsStep, Load};
@@ -13,9 +18,10 @@ use crate::index::{IndexHead, are_complete, pack_entries};
 use crate::reply::Reply;
 use crate::table::Table;
 use crate::trees::{Trees, put_trees};
-use bt_load::{InThreads, Loading, load_rows_by, read_records_by};
-use bt_node::{Tree, pack};
-use bt_row::Row;
+use bt_keycode::Key;
+use bt_load::{InThreads, Loading, SortedRows, load_rows_by, read_records_by, sorted_rows_by};
+use bt_node::{RowSource, Shape, Tree, pack, pack_source};
+use bt_row::{Row, Schema};
 use bt_value::Refusal;
 use std::alloc::Global;
 use std::thread::Threads;
@@ -40,6 +46,70 @@ fn check_load(heads: &[IndexHead], trees: &Trees) -> Result<(), Refusal>
         return Err(Refusal::NotEmpty);
     }
     Ok(())
+}
+
+// Rows in ascending order of their keys, from which a tree is packed.
+#[derive(Drop)]
+struct LoadedRows {
+    rows: SortedRows,
+}
+
+impl RowSource<Row> for LoadedRows {
+    ghost left = { λ loaded. loaded.rows };
+
+    fn next_row(&mut self) -> Option<(Key, Row)> {
+        self.rows.next_row()
+    }
+}
+
+// The packed tree of rows of a table without indexes, and the number of rows.
+fn packed_rows<L: Loading>(
+    loading: &L,
+    alloc: Global,
+    shape: Shape,
+    rows: Vec<Row>,
+    schema: &Schema,
+) -> Result<(Trees, usize), Refusal>
+    requires ready { L.accepts loading.now }
+    ensures packed { IfOk result (λ made. ArePackedOf shape schema.now rows.items [] made.0 made.1) }
+    ensures refused { IfErr result (λ refusal. refusal ≢ Refusal.OutOfMemory → map_of schema.now.keys rows.items ≡ Err refusal) }
+{
+    let count = rows.len();
+    let sorted = sorted_rows_by(loading, alloc, rows, schema)?;
+    let tree = pack_source(alloc, shape, count, LoadedRows { rows: sorted })?;
+    let trees = Trees {
+        rows: tree,
+        entries: Vec::new(alloc),
+    };
+    Ok((trees, count))
+}
+
+// The packed trees of rows and of their entries, and the number of rows.
+fn packed_trees<L: Loading>(
+    loading: &L,
+    alloc: Global,
+    shape: Shape,
+    heads: &[IndexHead],
+    rows: Vec<Row>,
+    schema: &Schema,
+) -> Result<(Trees, usize), Refusal>
+    requires ready { L.accepts loading.now }
+    requires suit { (pairs : RowMap) → map_of schema.now.keys rows.items ≡ Ok pairs → All (λ head. SuitsRows head.def pairs) heads.now }
+    ensures packed { IfOk result (λ made. ArePackedOf shape schema.now rows.items heads.now made.0 made.1) }
+    ensures refused { IfErr result (λ refusal. refusal ≢ Refusal.OutOfMemory → map_of schema.now.keys rows.items ≡ Err refusal) }
+{
+    if heads.is_empty() {
+        return packed_rows(loading, alloc, shape, rows, schema);
+    }
+    let pairs = load_rows_by(loading, alloc, rows, schema)?;
+    let count = pairs.len();
+    let entries = pack_entries(alloc, shape, heads, pairs.as_slice())?;
+    let tree = pack(alloc, shape, pairs)?;
+    let trees = Trees {
+        rows: tree,
+        entries,
+    };
+    Ok((trees, count))
 }
 
 impl Table {
@@ -84,18 +154,15 @@ impl Table {
         };
         let rows = read_records_by(loading, alloc, text, &self.schema)?;
         check_load(self.heads.as_slice(), trees)?;
-        let pairs = load_rows_by(loading, alloc, rows, &self.schema)?;
-        let count = pairs.len();
-        let shape = trees.rows.shape();
-        let entries = pack_entries(alloc, shape, self.heads.as_slice(), pairs.as_slice())?;
-        let loaded = pack(alloc, shape, pairs)?;
-        put_trees(
-            &mut self.trees,
-            Trees {
-                rows: loaded,
-                entries,
-            },
-        );
+        let (loaded, count) = packed_trees(
+            loading,
+            alloc,
+            trees.rows.shape(),
+            self.heads.as_slice(),
+            rows,
+            &self.schema,
+        )?;
+        put_trees(&mut self.trees, loaded);
         self.soundness();
         Ok(Reply::Loaded(count))
     }
