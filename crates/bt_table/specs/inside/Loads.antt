@@ -10,7 +10,7 @@ use Rattle.bt_table.specs.declared.index.IndexHead.{IndexHead}
 use Rattle.bt_table.specs.declared.trees.Trees.{Trees}
 use Rattle.bt_table.specs.inside.IndexTrees.{entry_tree}
 
--- trees are packed of the map of rows and of the entries of its indexes, and so many rows are there
+-- trees are packed from the map of rows and from the entries of its indexes, and `count` is the number of rows
 pub record ArePackedOf (shape : Shape) (schema : Schema) (rows : List (List Value)) (heads : List IndexHead) (trees : Trees) (count : ℕ) : Type 0 where
   pub pairs : RowMap
   pub mapped : map_of schema.keys rows ≡ Ok pairs
