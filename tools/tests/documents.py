@@ -132,7 +132,7 @@ def words_of_the_documents_are_spelled_right():
 
 def first_lines_of_the_documents_say_whom_they_are_for():
     def is_told(page):
-        return re.search(r"\bfor (?:readers|whoever|programs that)\b", " ".join(next(lines for lines in paragraphs(text_of(page)))), re.IGNORECASE)
+        return re.search(r"\bfor (?:readers|anyone who|programs that)\b", " ".join(next(lines for lines in paragraphs(text_of(page)))), re.IGNORECASE)
 
     expect([str(page) for page in PAGES if not is_told(page)], [])
 
@@ -331,7 +331,7 @@ def crates_depend_on_each_other_as_the_architecture_says():
 def the_sentence_is_the_same_on_both_pages():
     sentences = [" ".join(re.findall(r"^> (.*)$", text_of(page), re.MULTILINE)) for page in ("README.md", "docs/VERIFYING.md")]
     expect(sentences[0].split(), sentences[1].split())
-    expect_within("the bytes written are those of the plain table's run", sentences[0])
+    expect_within("exactly the bytes of the plain table's run", sentences[0])
 
 
 def the_measures_of_the_readme_are_those_of_the_results():

@@ -193,7 +193,7 @@ def a_script_that_runs_out_of_memory_is_rolled_back_whole():
                 table.replies(ADD)
                 wanted = probe(table)
                 bad = ADD + "index i on city\nbuild i 9\n" + ADD + "drop fails\n" + ADD
-                fault = expect_fault(durable().RolledBack, lambda: table.replies(bad), "nothing of the call was kept")
+                fault = expect_fault(durable().RolledBack, lambda: table.replies(bad), "nothing of the script was kept")
                 expect(isinstance(fault.__cause__, MemoryError), True)
                 expect((probe(table), table.number, table.is_lost), (wanted, 2, False))
                 expect_fault(durable().RolledBack, lambda: table.replies("get 1\ndrop fails\n"))
@@ -248,6 +248,24 @@ def a_group_is_kept_whole_or_not_at_all():
             expect_fault(durable().RequestReused, lambda: table.once("a", "get 1\n"))
         with durable().open(path / "t") as table:
             expect((probe(table), table.number), (wanted, 4))
+
+
+def rows_of_the_batches_before_one_that_fails_are_kept_and_counted():
+    """And in a group none of them are."""
+    with folder() as path, durable().open(path / "t", make=failing_session("whole")) as table:
+        table.replies(TABLE)
+        rows = [(1, "", 1), (2, "", 2), (3, "drop fails", 3)]
+        fault = expect_fault(durable().RolledBack, lambda: table.put(rows, most=2), "2 rows of this call were applied before it")
+        expect((fault.taken, table.scan(), table.number), (2, rows[:2], 2))
+        expect(pickle.loads(pickle.dumps(fault)).taken, 2)
+        expect(expect_fault(durable().RolledBack, lambda: table.put(rows[2:])).taken, 0)
+
+        def in_group():
+            with table.group():
+                expect(expect_fault(durable().RolledBack, lambda: table.put(rows, most=2)).taken, 0)
+
+        expect_fault(durable().RolledBack, in_group)
+        expect((table.scan(), table.number), (rows[:2], 2))
 
 
 def a_commit_that_fails_is_rolled_back_or_in_doubt():
@@ -696,6 +714,7 @@ TESTS_OF_TEXTS = [
     a_script_that_runs_out_of_memory_is_rolled_back_whole,
     an_interrupt_rolls_back_too,
     a_group_is_kept_whole_or_not_at_all,
+    rows_of_the_batches_before_one_that_fails_are_kept_and_counted,
     a_commit_that_fails_is_rolled_back_or_in_doubt,
     a_request_is_run_once,
     the_last_request_ids_are_kept,

@@ -30,7 +30,8 @@ from hashlib import sha256
 from typing import Any, NoReturn, Protocol
 
 from .calls import Calls, as_script, note
-from .language import PRIMARY, State, commands
+from .errors import before
+from .language import PRIMARY, State, Table, commands
 from .replies import answered
 from .session import Session
 
@@ -98,7 +99,13 @@ class Corrupt(Exception):
 
 
 class RolledBack(Exception):
-    """The call failed, and nothing of its script or group was kept: it can be made again. `__cause__` is what failed."""
+    """A script or a group failed, and nothing of it was kept: it can be run again. `__cause__` is what failed. `taken` is how many rows of a call of several
+    batches were kept before it, in earlier batches."""
+
+    taken = 0
+
+    def __str__(self) -> str:
+        return super().__str__() + before(self.taken)
 
 
 class InDoubt(Exception):
@@ -302,6 +309,21 @@ class Durable(Calls):
             self._note(script, replies)
         return replies
 
+    def _in_batches(self, given: Iterator[Any], most: int, lines: Callable[[list[Any], Table, int], str]) -> int:
+        """Each batch is kept by itself, unless a group is open: RolledBack says how many rows were kept before one that failed."""
+        kept = 0
+
+        def counted_lines(some: list[Any], table: Table, taken: int) -> str:
+            nonlocal kept
+            kept = 0 if self._is_in_group else taken
+            return lines(some, table, taken)
+
+        try:
+            return super()._in_batches(given, most, counted_lines)
+        except RolledBack as fault:
+            fault.taken = kept
+            raise
+
     # ---- groups ----
 
     @contextmanager
@@ -340,7 +362,7 @@ class Durable(Calls):
             self._is_changed = True
             self._roll_back()
             if isinstance(fault, Exception) and not isinstance(fault, Corrupt):
-                raise RolledBack(f"{self.path}: nothing of the call was kept: {str(fault) or type(fault).__name__}") from fault
+                raise RolledBack(f"{self.path}: nothing of the script was kept: {str(fault) or type(fault).__name__}") from fault
             raise
 
     def _begin(self) -> None:

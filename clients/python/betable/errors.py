@@ -7,7 +7,7 @@ from typing import Any
 from .language import counted
 
 
-def _before(taken: int) -> str:
+def before(taken: int) -> str:
     """The end of a message of a call that had applied earlier batches."""
     return f" ({counted(taken, 'row')} of this call {'was' if taken == 1 else 'were'} applied before it, in earlier batches)" if taken else ""
 
@@ -39,7 +39,7 @@ class Refused(Exception):
         self.reason, self.column, self.value, self.row, self.taken = reason, column, value, row, taken
         refusal = f"line {line}: refused {number} {name}" + ("" if item is None else f" {item}")
         place = "" if row is None else f"row {row}: "
-        super().__init__(refusal + (f": {place}{reason}" if reason else "") + _before(taken))
+        super().__init__(refusal + (f": {place}{reason}" if reason else "") + before(taken))
 
     def __reduce__(self) -> tuple[Any, ...]:
         return _unpickled, (type(self), self.args, self.__dict__)
@@ -50,7 +50,7 @@ class OutOfMemory(MemoryError):
     of them is incomplete, `is_lost` whether the table is lost, and `taken` how many rows of the call were applied before it, in earlier batches."""
 
     def __init__(self, replies: bytes = b"", is_cut: bool = False, is_lost: bool = False, taken: int = 0) -> None:
-        super().__init__("betable: out of memory" + (", and the table is lost: close this session and open a new one" if is_lost else "") + _before(taken))
+        super().__init__("betable: out of memory" + (", and the table is lost: close this session and open a new one" if is_lost else "") + before(taken))
         self.replies, self.is_cut, self.is_lost, self.taken = replies, is_cut, is_lost, taken
 
     def __reduce__(self) -> tuple[Any, ...]:
@@ -68,7 +68,7 @@ class RowError(Exception):
         self.reason, self.row, self.column, self.value, self.taken = reason, row, column, value, taken
         places = [] if row is None else [f"row {row}"]
         places += [] if column is None else [f"column '{column}'"]
-        super().__init__((", ".join(places) + ": " if places else "") + reason + _before(taken))
+        super().__init__((", ".join(places) + ": " if places else "") + reason + before(taken))
 
     def __reduce__(self) -> tuple[Any, ...]:
         return _unpickled, (type(self), self.args, self.__dict__)
