@@ -337,7 +337,7 @@ def the_sentence_is_the_same_on_both_pages():
 def the_measures_of_the_readme_are_those_of_the_results():
     told = {quoted(row[0])[0]: row[1:] for row in rows(section("README.md", "## Measures"))}
     measured = {}
-    for row in rows(section(MEASURES, "## Beside other programs")):
+    for row in rows(section(MEASURES, "## Compared with other programs")):
         measured.setdefault(quoted(row[0])[0], row[4:7])
     expect(told, {name: measured[name] for name in told})
     expect(len(told) >= 6, True)
