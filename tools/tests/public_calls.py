@@ -162,6 +162,13 @@ def the_document_names_each_file_of_definitions_and_each_public_function() -> No
 
 
 # Those that ask for no program.
+def contracts_that_a_page_quotes_are_those_of_the_sources() -> None:
+    """Line by line, without the indentation of a method, and up to its body."""
+    codes = [re.sub(r"(?m)^    ", "", path.read_text()) for path in TOP.glob("crates/bt_*/src/**/*.rt")]
+    quoted = re.findall(r"```text\n(pub fn .*?)```", (TOP / "docs/CONTRACTS.md").read_text(), flags=re.DOTALL)
+    expect((len(quoted) > 0, [contract for contract in quoted if not any(f"{contract}{{\n" in code for code in codes)]), (True, []))
+
+
 TESTS_OF_TEXTS = [
     each_public_function_is_called,
     functions_without_a_call_are_found,
@@ -169,6 +176,7 @@ TESTS_OF_TEXTS = [
     promises_are_put_between_their_two_lines,
     promises_of_the_document_are_those_of_the_sources,
     the_document_names_each_file_of_definitions_and_each_public_function,
+    contracts_that_a_page_quotes_are_those_of_the_sources,
 ]
 
 TESTS: list[object] = []
