@@ -123,7 +123,7 @@ pub struct Unused;
 """,
 }
 
-LIST = """12 definitions in 4 files, as `tools/reading_list` finds them from the clauses of `answer`, in reading order:
+LIST = """12 definitions in 4 files, as `tools/reading_list` finds them from the clauses of `answer`, each file after those that it rests on:
 
 - `lower/specs/Texts`: `Letters`
 - `lower/specs/Weights`: `weight_of`, `more`, `Row`, `Cell`, `total`
