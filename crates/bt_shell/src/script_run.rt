@@ -131,12 +131,16 @@ pub fn replies_to<T, C: ScriptWorkforce<T>>(
     workforce: &C,
 ) -> Result<Vec<u8>, RunFault>
     requires ready { C.accepts workforce.now }
-    ensures { IfOk result (λ text. text.items ≡ run script.now) }
+    ensures replies { IfOk result (λ text. text.items ≡ run script.now) }
+    ensures memory { OnErr result (IsErrOf result RunFault.OutOfMemory) }
 {
     let mut table = None;
     let mut writer = Counted::new(Vec::new(alloc));
-    run_commands(rt, alloc, script, &mut table, &mut writer, workforce)?;
-    Ok(writer.into_inner())
+    match run_commands(rt, alloc, script, &mut table, &mut writer, workforce) {
+        Ok(_refused) => Ok(writer.into_inner()),
+        // A vector takes all bytes if there is memory for them.
+        Err(_fault) => Err(RunFault::OutOfMemory),
+    }
 }
 
 /// What a run has in memory between commands: the script, and the table if there is one. The caller decides whether it is freed after the run.
