@@ -1,8 +1,9 @@
 // c_calls [ROWS [ROUNDS]]: the cost of one call from C to betable through include/betable.h, and to SQLite and LMDB through their own interfaces: puts of
-// one row, batches of a hundred, gets of a row, and sums of the rows of a city. A row is an int, a city and a quantity. Rows are in C variables before and
-// after a call. So a call of betable includes writing its script and reading its reply, a call of SQLite its bindings and columns, and a call of LMDB the
-// packing of key and value. Each round gives each engine new, empty tables, and begins with a different engine. The results of all engines are compared.
-// The program prints the processor time of a call of betable, and the ratio of the other engines to it in the same round; both are medians of all rounds.
+// one row, batches of a hundred, gets of a row, pages of a hundred rows from a key on, and sums of the rows of a city. A row is an int, a city and a quantity.
+// Rows are in C variables before and after a call. So a call of betable includes packing its bytes and unpacking its reply, a call of SQLite its bindings and
+// columns, and a call of LMDB the packing of key and value. The calls of betable are measured on packed bytes and as scripts; sums are always a script. Each
+// round gives each engine new, empty tables, and begins with a different engine. The results of all engines are compared. The program prints the processor
+// time of a call of betable on packed bytes, and the ratio of the others to it in the same round; both are medians of all rounds.
 //
 // betable is in memory, SQLite is ':memory:' without journal, and LMDB is on a file in memory, written in place and never synced. A put of one row is a
 // batch, a statement outside of a transaction, and a transaction; a batch of a hundred puts is a batch, and a transaction. Sums are over an index on the
@@ -20,7 +21,7 @@
 
 #include "betable.h"
 
-enum { CITIES = 1000, BATCH = 100, ENGINES = 3, STEPS = 4, MOST_ROUNDS = 99 };
+enum { CITIES = 1000, BATCH = 100, ENGINES = 4, STEPS = 5, PAGE = 100, MOST_ROUNDS = 99 };
 
 typedef struct {
   int64_t id;
@@ -34,6 +35,7 @@ typedef struct {
   void (*put)(const Row *rows, size_t count);
   void (*make_index)(void);
   int64_t (*get)(int64_t id);                                  // the quantity plus the length of the city
+  int64_t (*page)(int64_t id);                                 // the sum of what get returns for the first hundred rows from this id on
   int64_t (*sum)(const char *city, const char *next_city);     // the total plus the number of rows
   void (*close)(void);
 } Engine;
@@ -43,10 +45,10 @@ static void fail(const char *why) {
   exit(1);
 }
 
-// ---- betable ----
+// ---- betable, as scripts ----
 
 static betable_session session = BETABLE_CLOSED;
-static char script[1 << 16], reply[1 << 12];
+static char script[1 << 16], reply[1 << 13];
 
 static size_t run(size_t length) {
   if (betable_run(&session, (const unsigned char *)script, length) != BETABLE_DONE || betable_refused_count(&session) > 0) fail("betable refused a script");
@@ -60,7 +62,7 @@ static void betable_begin(void) {
   run((size_t)sprintf(script, "table 16 1024 256 1 id:int city:text qty:int\n"));
 }
 
-static void betable_put(const Row *rows, size_t count) {
+static void script_put(const Row *rows, size_t count) {
   size_t at = (size_t)sprintf(script, "batch\n");
   for (size_t i = 0; i < count; i++) at += (size_t)sprintf(script + at, "put %lld,%s,%lld\n", (long long)rows[i].id, rows[i].city, (long long)rows[i].qty);
   run(at + (size_t)sprintf(script + at, "end\n"));
@@ -68,7 +70,7 @@ static void betable_put(const Row *rows, size_t count) {
 
 static void betable_index(void) { run((size_t)sprintf(script, "index by_city on city include qty\nbuild by_city 100000000\n")); }
 
-static int64_t betable_get(int64_t id) {
+static int64_t script_get(int64_t id) {
   long long found, qty;
   char city[16];
   run((size_t)sprintf(script, "get %lld\n", (long long)id));
@@ -85,10 +87,65 @@ static int64_t betable_sum(const char *city, const char *next_city) {
 
 static void betable_end(void) { betable_close(&session); }
 
+// ---- betable, on packed bytes ----
+
+static unsigned char packed[1 << 13], answer[1 << 13];
+static betable_fault fault;
+
+// The machine is little endian, as packed bytes are.
+static unsigned char *add(unsigned char *at, const void *bytes, size_t count) {
+  memcpy(at, bytes, count);
+  return at + count;
+}
+
+static unsigned char *header(uint32_t number) { return add(add(packed, "BTV\1", 4), &number, 4); }
+
+static size_t answered(betable_status status) {
+  if (status != BETABLE_DONE) fail("betable refused packed bytes");
+  return betable_copy_replies(&session, 0, answer, sizeof answer);
+}
+
+static void packed_put(const Row *rows, size_t count) {
+  unsigned char *at = header((uint32_t)count);
+  for (size_t i = 0; i < count; i++) {
+    size_t length = strlen(rows[i].city);
+    *at++ = 0;
+    at = add(at, &rows[i].id, 8);
+    *at++ = (unsigned char)length;
+    at = add(add(at, rows[i].city, length), &rows[i].qty, 8);
+  }
+  if (betable_apply(&session, packed, (size_t)(at - packed), &fault) != BETABLE_DONE) fail("betable refused changes");
+}
+
+// The quantity plus the length of the city of the row here, and the place after it.
+static int64_t unpacked(const unsigned char **at) {
+  int64_t qty;
+  size_t length = (*at)[8];
+  memcpy(&qty, *at + 9 + length, 8);
+  *at += 17 + length;
+  return qty + (int64_t)length;
+}
+
+static int64_t packed_get(int64_t id) {
+  size_t count = answered(betable_get(&session, packed, (size_t)(add(header(1), &id, 8) - packed), &fault));
+  const unsigned char *at = answer + 4;
+  if (count == 4 || memcmp(at, &id, 8) != 0) fail("betable has not the row");
+  return unpacked(&at);
+}
+
+static int64_t packed_page(int64_t id) {
+  unsigned char *at = add(add(header(PAGE), "\7primary\1\1", 10), &id, 8);
+  *at++ = 0;
+  size_t count = answered(betable_page(&session, packed, (size_t)(at - packed), &fault));
+  int64_t total = 0;
+  for (const unsigned char *row = answer + 4; row < answer + count;) total += unpacked(&row);
+  return total;
+}
+
 // ---- SQLite ----
 
 static sqlite3 *db;
-static sqlite3_stmt *sql_put, *sql_get, *sql_sum;
+static sqlite3_stmt *sql_put, *sql_get, *sql_page, *sql_sum;
 
 static void execute(const char *sql) {
   if (sqlite3_exec(db, sql, NULL, NULL, NULL) != SQLITE_OK) fail(sqlite3_errmsg(db));
@@ -105,6 +162,7 @@ static void sqlite_begin(void) {
   execute("PRAGMA journal_mode=OFF; PRAGMA synchronous=OFF; CREATE TABLE t(id INTEGER PRIMARY KEY, city TEXT NOT NULL, qty INTEGER NOT NULL)");
   sql_put = prepared("INSERT OR REPLACE INTO t VALUES(?,?,?)");
   sql_get = prepared("SELECT city,qty FROM t WHERE id=?");
+  sql_page = prepared("SELECT city,qty FROM t WHERE id>=? ORDER BY id LIMIT 100");
 }
 
 static void sqlite_put(const Row *rows, size_t count) {
@@ -133,6 +191,18 @@ static int64_t sqlite_get(int64_t id) {
   return qty + (int64_t)strlen(city);
 }
 
+static int64_t sqlite_page(int64_t id) {
+  int64_t total = 0;
+  sqlite3_bind_int64(sql_page, 1, id);
+  while (sqlite3_step(sql_page) == SQLITE_ROW) {
+    char city[16];
+    snprintf(city, sizeof city, "%s", (const char *)sqlite3_column_text(sql_page, 0));
+    total += sqlite3_column_int64(sql_page, 1) + (int64_t)strlen(city);
+  }
+  sqlite3_reset(sql_page);
+  return total;
+}
+
 static int64_t sqlite_sum(const char *city, const char *next_city) {
   sqlite3_bind_text(sql_sum, 1, city, -1, SQLITE_STATIC);
   sqlite3_bind_text(sql_sum, 2, next_city, -1, SQLITE_STATIC);
@@ -143,7 +213,7 @@ static int64_t sqlite_sum(const char *city, const char *next_city) {
 }
 
 static void sqlite_end(void) {
-  sqlite3_finalize(sql_put), sqlite3_finalize(sql_get), sqlite3_finalize(sql_sum);
+  sqlite3_finalize(sql_put), sqlite3_finalize(sql_get), sqlite3_finalize(sql_page), sqlite3_finalize(sql_sum);
   sqlite3_close(db);
 }
 
@@ -229,6 +299,29 @@ static int64_t lmdb_get(int64_t id) {
   return qty + (int64_t)strlen(city);
 }
 
+static int64_t lmdb_page(int64_t id) {
+  MDB_txn *transaction;
+  MDB_cursor *cursor;
+  unsigned char bytes[8];
+  int64_t total = 0;
+  pack((uint64_t)id, bytes);
+  MDB_val key = {8, bytes}, value;
+  check(mdb_txn_begin(env, NULL, MDB_RDONLY, &transaction));
+  check(mdb_cursor_open(transaction, by_id, &cursor));
+  int code = mdb_cursor_get(cursor, &key, &value, MDB_SET_RANGE);
+  for (int i = 0; i < PAGE && code == 0; i++, code = mdb_cursor_get(cursor, &key, &value, MDB_NEXT)) {
+    int64_t qty;
+    char city[16];
+    memcpy(&qty, value.mv_data, 8);
+    memcpy(city, (char *)value.mv_data + 8, value.mv_size - 8);
+    city[value.mv_size - 8] = 0;
+    total += qty + (int64_t)strlen(city);
+  }
+  mdb_cursor_close(cursor);
+  mdb_txn_abort(transaction);
+  return total;
+}
+
 static int64_t lmdb_sum(const char *city, const char *next_city) {
   MDB_txn *transaction;
   MDB_cursor *cursor;
@@ -256,11 +349,12 @@ static void lmdb_end(void) {
 // ---- the rounds ----
 
 static const Engine ENGINE[ENGINES] = {
-    {"betable", betable_begin, betable_put, betable_index, betable_get, betable_sum, betable_end},
-    {"SQLite", sqlite_begin, sqlite_put, sqlite_index, sqlite_get, sqlite_sum, sqlite_end},
-    {"LMDB", lmdb_begin, lmdb_put, lmdb_index, lmdb_get, lmdb_sum, lmdb_end},
+    {"betable", betable_begin, packed_put, betable_index, packed_get, packed_page, betable_sum, betable_end},
+    {"as scripts", betable_begin, script_put, betable_index, script_get, packed_page, betable_sum, betable_end},
+    {"SQLite", sqlite_begin, sqlite_put, sqlite_index, sqlite_get, sqlite_page, sqlite_sum, sqlite_end},
+    {"LMDB", lmdb_begin, lmdb_put, lmdb_index, lmdb_get, lmdb_page, lmdb_sum, lmdb_end},
 };
-static const char *const STEP[STEPS] = {"put of one row", "batch of a hundred puts", "get of a row", "sums of a city"};
+static const char *const STEP[STEPS] = {"put of one row", "batch of a hundred puts", "get of a row", "page of a hundred rows", "sums of a city"};
 
 static double processor_seconds(void) {
   struct timespec now;
@@ -296,6 +390,10 @@ static int64_t measure(const Engine *engine, const Row *rows, size_t count, doub
   for (size_t i = 0; i < count; i++) answers += engine->get(rows[next_number(&state) % count].id);
   seconds[2] = (processor_seconds() - begin) / (double)count;
 
+  begin = processor_seconds();
+  for (size_t i = 0; i < count / 20; i++) answers += engine->page(rows[next_number(&state) % count].id);
+  seconds[3] = (processor_seconds() - begin) / (double)(count / 20);
+
   engine->make_index();
   begin = processor_seconds();
   for (size_t i = 0; i < sums; i++) {
@@ -304,7 +402,7 @@ static int64_t measure(const Engine *engine, const Row *rows, size_t count, doub
     name_city(number, city), name_city(number + 1, next_city);
     answers += engine->sum(city, next_city);
   }
-  seconds[3] = (processor_seconds() - begin) / (double)sums;
+  seconds[4] = (processor_seconds() - begin) / (double)sums;
   engine->close();
   return answers;
 }
@@ -345,9 +443,14 @@ int main(int count, char **words) {
     }
     for (size_t step = 0; step < STEPS; step++) own[step][round] = 1e6 * seconds[0][step];
   }
-  printf("%zu rows, the middle of %zu rounds\n\n| Call | betable | %s | %s |\n|---|---|---|---|\n", row_count, rounds, ENGINE[1].name, ENGINE[2].name);
-  for (size_t step = 0; step < STEPS; step++)
-    printf("| %s | %.2f µs | %.2f | %.2f |\n", STEP[step], middle(own[step], rounds), middle(ratio[1][step], rounds), middle(ratio[2][step], rounds));
+  printf("%zu rows, the middle of %zu rounds\n\n| Call | betable |", row_count, rounds);
+  for (size_t at = 1; at < ENGINES; at++) printf(" %s |", ENGINE[at].name);
+  printf("\n|---|---|---|---|---|\n");
+  for (size_t step = 0; step < STEPS; step++) {
+    printf("| %s | %.2f µs |", STEP[step], middle(own[step], rounds));
+    for (size_t at = 1; at < ENGINES; at++) printf(" %.2f |", middle(ratio[at][step], rounds));
+    printf("\n");
+  }
   free(rows);
   return 0;
 }

@@ -24,6 +24,7 @@
 
 #include <stdbool.h>
 #include <stddef.h>
+#include <stdint.h>
 
 #ifdef __GNUC__
 #define BETABLE_NOT_NULL __attribute__((nonnull))
@@ -57,8 +58,21 @@ typedef enum {
     /* The session is not open. Nothing was done, and its address was not read. */
     BETABLE_NOT_OPEN = 3,
     /* The session is open already. Nothing was done. */
-    BETABLE_ALREADY_OPEN = 4
+    BETABLE_ALREADY_OPEN = 4,
+    /* A call on packed bytes was refused, and nothing has changed. Its fault says why. */
+    BETABLE_REFUSED = 5
 } betable_status;
+
+/* Why a call on packed bytes was refused, and where. Written if the result is REFUSED. */
+typedef struct {
+    /* The number of the refusal, as docs/SCRIPT.md lists them. 1 (Syntax): the bytes do not begin with the letters BTV, the version, 1, and four bytes more.
+       6 (BadField): the bytes of the item are none of its layout. 3 (NoTable): there is no table. */
+    uint64_t refusal;
+    /* The item, counted from 1: a change, the key, or 1 for the lower bound of a page and 2 for the upper one. 0 if it is none of them. */
+    uint64_t item;
+    /* The column, counted from 1. 0 if it is none. */
+    uint64_t column;
+} betable_fault;
 
 /* Opens a session, which has no table. DONE, OUT_OF_MEMORY or ALREADY_OPEN. */
 betable_status betable_open(betable_session *session) BETABLE_NOT_NULL;
@@ -66,7 +80,40 @@ betable_status betable_open(betable_session *session) BETABLE_NOT_NULL;
 /* Carries out the commands of a script on the session's table. Their replies replace the previous ones. DONE, OUT_OF_MEMORY, REPLY_CUT or NOT_OPEN. */
 betable_status betable_run(betable_session *session, const unsigned char *script, size_t length) BETABLE_NOT_NULL;
 
-/* The number of bytes of the replies to the last script. 0 if the session is not open. */
+/* The calls on packed bytes do what commands do, without text in between. Packed bytes begin with the letters BTV, the version of the layout, 1, and a number of
+ * four bytes. Numbers are little endian, there is no padding, and there are no pointers. A value has the kind of its column: an int is eight bytes; a text, or
+ * bytes, are one byte for the length and then the bytes; a flag is one byte, 0 or 1. docs/C.md has examples.
+ *
+ * Their replies replace those of the last call, and are read by betable_replies_length and betable_copy_replies. They are rows: the letters BTV, the version,
+ * and the values of each row, one row after another, to the end. */
+
+/* Applies changes in order: all of them, or none. After the header, whose number is that of the changes, each change is
+ *   - a put: 0, and the values of all columns;
+ *   - a del: 1, and the values of the key columns; or
+ *   - an upsert: 2, the values of the key columns, the number of operations in one byte, and each operation: 0 for set, 1 for add, 2 for max or 3 for min, the
+ *     place of its column, counted from 0, in one byte, and the value to set, or the number in eight bytes.
+ * The reply is empty. DONE, OUT_OF_MEMORY, NOT_OPEN or REFUSED. After OUT_OF_MEMORY the table is as it was, or lost. */
+betable_status betable_apply(betable_session *session, const unsigned char *changes, size_t length, betable_fault *fault) BETABLE_NOT_NULL;
+
+/* Replies with the row of a key, or with no row. After the header, whose number is 1, are the values of the key columns. DONE, OUT_OF_MEMORY, NOT_OPEN or
+   REFUSED. */
+betable_status betable_get(betable_session *session, const unsigned char *key, size_t length, betable_fault *fault) BETABLE_NOT_NULL;
+
+/* Replies with the first rows of a range of a tree, in ascending order of its key, at most as many as the number in the header. After the header are the name
+ * of the tree, as a text, a lower bound and an upper one. A bound is
+ *   - 0: there is none;
+ *   - 1, a number of values in one byte, and the values of that many of the first key columns of the tree; or
+ *   - 2, and the values of all key columns of the tree: the place directly after the row with this key.
+ * Rows at or after the lower bound and before the upper one are in the range. The values of the key columns of a tree are the first of each of its rows, so the
+ * next page begins with 2 and the first bytes of the last row. DONE, OUT_OF_MEMORY, NOT_OPEN or REFUSED. */
+betable_status betable_page(betable_session *session, const unsigned char *page, size_t length, betable_fault *fault) BETABLE_NOT_NULL;
+
+/* Replies with the columns of the rows of a tree. After the header, whose number is 1, is the name of the tree, as a text. The reply is the letters BTV, the
+   version, the number of key columns in eight bytes, and each column: its kind in one byte (0 int, 1 text, 2 flag, 4 bytes) and its name, as a text. DONE,
+   OUT_OF_MEMORY, NOT_OPEN or REFUSED. */
+betable_status betable_columns(betable_session *session, const unsigned char *name, size_t length, betable_fault *fault) BETABLE_NOT_NULL;
+
+/* The number of bytes of the replies to the last script, or to the last call on packed bytes. 0 if the session is not open. */
 size_t betable_replies_length(betable_session *session) BETABLE_NOT_NULL;
 
 /* Copies the bytes of these replies from a place on, as many as there are and as fit, and returns their number. The replies are kept. */

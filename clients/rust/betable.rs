@@ -12,9 +12,32 @@
 //! }
 //! ```
 //!
+//! Typed calls do without text:
+//!
+//! ```text
+//! session.put(&[(2, "Bergen"), (3, "Molde")])?;
+//! session.upsert(&3, &[Op::Set("city", Value::Text("Alta"))])?;
+//! let mut rows = session.scan("primary", &2, &())?;
+//! while let Some(row) = rows.next()? {
+//!     let (id, city): (i64, &str) = row.try_into()?;
+//! }
+//! ```
+//!
 //! A call takes a session by `&mut`, so one call at a time uses it. It is not `Send`, so it stays on its thread. It is closed when it is dropped. Cargo builds
 //! this crate with Cargo.toml; clients/rust/build uses only rustc. Both link the libbt_c.a of the folder that BETABLE_LIBRARY names.
 
+mod changes;
+mod fault;
+mod packed;
+mod rows;
+mod values;
+
+pub use changes::{Changes, Op};
+pub use fault::Fault;
+pub use rows::{Row, Rows};
+pub use values::{FromValue, Kind, Packer, ToValue, Value, Values};
+
+use packed::{CallFault, Tree};
 use std::error::Error;
 use std::fmt;
 use std::ptr::null_mut;
@@ -29,6 +52,10 @@ struct Handle {
 extern "C" {
     fn betable_open(session: *mut Handle) -> u32;
     fn betable_run(session: *mut Handle, script: *const u8, length: usize) -> u32;
+    fn betable_apply(session: *mut Handle, changes: *const u8, length: usize, fault: *mut CallFault) -> u32;
+    fn betable_get(session: *mut Handle, key: *const u8, length: usize, fault: *mut CallFault) -> u32;
+    fn betable_page(session: *mut Handle, page: *const u8, length: usize, fault: *mut CallFault) -> u32;
+    fn betable_columns(session: *mut Handle, name: *const u8, length: usize, fault: *mut CallFault) -> u32;
     fn betable_replies_length(session: *mut Handle) -> usize;
     fn betable_copy_replies(session: *mut Handle, from: usize, out: *mut u8, room: usize) -> usize;
     fn betable_refused_count(session: *mut Handle) -> usize;
@@ -38,6 +65,7 @@ extern "C" {
 
 const DONE: u32 = 0;
 const REPLY_CUT: u32 = 2;
+const REFUSED: u32 = 5;
 
 /// The library ran out of memory.
 #[derive(Debug)]
@@ -59,7 +87,17 @@ impl fmt::Display for OutOfMemory {
 impl Error for OutOfMemory {}
 
 /// A table, or none so far, that lives between scripts.
-pub struct Session(Handle);
+pub struct Session {
+    handle: Handle,
+    /// The trees whose columns typed calls have read since the last script.
+    trees: Vec<Tree>,
+    /// The packed bytes of a typed call.
+    packed: Vec<u8>,
+    /// The reply to a typed call.
+    reply: Vec<u8>,
+    /// Where the values of a row of the reply end, from the start of the row.
+    ends: Vec<usize>,
+}
 
 impl Session {
     pub fn new() -> Result<Session, OutOfMemory> {
@@ -67,16 +105,17 @@ impl Session {
         if unsafe { betable_open(&mut handle) } != DONE {
             return Err(OutOfMemory { replies: Replies::default(), is_cut: false, is_lost: false });
         }
-        Ok(Session(handle))
+        Ok(Session { handle, trees: Vec::new(), packed: Vec::new(), reply: Vec::new(), ends: Vec::new() })
     }
 
     /// Carries out the commands of a script, and returns their replies.
     pub fn run(&mut self, script: &[u8]) -> Result<Replies, OutOfMemory> {
-        let status = unsafe { betable_run(&mut self.0, script.as_ptr(), script.len()) };
-        let mut bytes = vec![0; unsafe { betable_replies_length(&mut self.0) }];
-        let count = unsafe { betable_copy_replies(&mut self.0, 0, bytes.as_mut_ptr(), bytes.len()) };
+        self.trees.clear();
+        let status = unsafe { betable_run(&mut self.handle, script.as_ptr(), script.len()) };
+        let mut bytes = vec![0; unsafe { betable_replies_length(&mut self.handle) }];
+        let count = unsafe { betable_copy_replies(&mut self.handle, 0, bytes.as_mut_ptr(), bytes.len()) };
         bytes.truncate(count);
-        let replies = Replies { bytes, refused_count: unsafe { betable_refused_count(&mut self.0) } };
+        let replies = Replies { bytes, refused_count: unsafe { betable_refused_count(&mut self.handle) } };
         if status != DONE {
             return Err(OutOfMemory { replies, is_cut: status == REPLY_CUT, is_lost: self.is_lost() });
         }
@@ -85,13 +124,13 @@ impl Session {
 
     /// Whether the table was lost when memory ran out.
     pub fn is_lost(&mut self) -> bool {
-        unsafe { betable_is_lost(&mut self.0) }
+        unsafe { betable_is_lost(&mut self.handle) }
     }
 }
 
 impl Drop for Session {
     fn drop(&mut self) {
-        unsafe { betable_close(&mut self.0) };
+        unsafe { betable_close(&mut self.handle) };
     }
 }
 

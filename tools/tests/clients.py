@@ -67,6 +67,7 @@ def what_tests_share_is_built():
         c_program(source)
     if shutil.which("rustc"):
         rust_program(RUST_EXAMPLE)
+        rust_program(HERE / "rust/typed.rs")
 
 
 def is_installed(tool, what):
@@ -182,9 +183,9 @@ def sessions_of_two_threads_do_not_meet():
 
 def programs_of_the_document_print_what_they_say():
     """Those of docs/C.md and docs/PYTHON.md, by the lines that follow them."""
-    for page, language, ending in (("C.md", "c", ".c"), ("PYTHON.md", "python", ".py"), ("C.md", "rust", ".rs")):
-        code, after = (TOP / "docs" / page).read_text().split(f"```{language}\n")[1].split("```\n", 1)
-        source, wanted = Path(programs().name) / f"ten_lines{ending}", after.split("```text\n")[1].split("```")[0]
+    for page, language, ending, place in (("C.md", "c", ".c", 1), ("PYTHON.md", "python", ".py", 1), ("C.md", "rust", ".rs", 1), ("C.md", "rust", ".rs", 2)):
+        code, after = (TOP / "docs" / page).read_text().split(f"```{language}\n")[place].split("```\n", 1)
+        source, wanted = Path(programs().name) / f"ten_lines{place}{ending}", after.split("```text\n")[1].split("```")[0]
         source.write_text(code)
         if language == "rust" and not is_installed("rustc", "clients/rust is"):
             continue
@@ -290,6 +291,32 @@ def rust_sessions_stay_on_their_thread():
         expect_within("cannot be sent between threads safely", compiled.stderr)
 
 
+def typed_calls_hold(what):
+    if is_installed("rustc", "clients/rust is"):
+        ended = subprocess.run([rust_program(HERE / "rust/typed.rs"), what], capture_output=True, text=True, timeout=SECONDS)
+        expect((ended.returncode, ended.stdout, ended.stderr), (0, "", ""))
+
+
+def typed_changes_in_rust_leave_the_images_of_scripts():
+    typed_calls_hold("changes")
+
+
+def typed_reads_in_rust_give_the_rows_of_replies():
+    typed_calls_hold("reads")
+
+
+def pages_in_rust_repeat_and_lose_no_row():
+    typed_calls_hold("pages")
+
+
+def wrong_typed_calls_in_rust_say_where_and_change_nothing():
+    typed_calls_hold("wrong")
+
+
+def typed_calls_in_rust_allocate_nothing_for_a_value():
+    typed_calls_hold("allocations")
+
+
 def refused_memory_is_answered():
     """Each request, alone and with those after it: what is returned, what state is left, and that all memory is freed."""
     program = c_program(HERE / "c/refused_memory.c", "-Wl,--wrap=malloc,--wrap=realloc,--wrap=free")
@@ -329,6 +356,11 @@ TESTS_OF_TEXTS = [
     refusals_have_line_and_name,
     wrong_use_is_answered,
     rust_sessions_stay_on_their_thread,
+    typed_changes_in_rust_leave_the_images_of_scripts,
+    typed_reads_in_rust_give_the_rows_of_replies,
+    pages_in_rust_repeat_and_lose_no_row,
+    wrong_typed_calls_in_rust_say_where_and_change_nothing,
+    typed_calls_in_rust_allocate_nothing_for_a_value,
     refused_memory_is_answered,
     valgrind_finds_nothing,
 ]

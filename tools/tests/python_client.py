@@ -299,8 +299,10 @@ def names_are_never_a_piece_of_a_script():
     methods = {
         "batch": lambda s: s.batch([client.put(4, text, True, b"")]),
         "close": None,
+        "columns": lambda s: s.columns(text),
         "get": lambda s: s.get(text),
         "is_lost": None,
+        "iterate": lambda s: s.iterate(text),
         "load": lambda s: s.load([(4, text, True, text)]),
         "load_csv": lambda s: s.load_csv(text),
         "put": lambda s: s.put([(4, text, True, b"")]),
@@ -527,7 +529,7 @@ def the_reason_is_that_of_the_least_refusal():
 
 
 class NoMemory:
-    """The library; a run returns that memory ran out after the first replies of the script were made."""
+    """The library; a run returns that memory ran out after the first replies of the script were made, and changes that it ran out before they were applied."""
 
     def __init__(self, library, script):
         self.library, self.script = library, script
@@ -537,6 +539,9 @@ class NoMemory:
 
     def betable_run(self, handle, script, size):
         self.library.betable_run(handle, self.script, len(self.script))
+        return 1
+
+    def betable_apply(self, handle, changes, size, fault):
         return 1
 
 

@@ -14,9 +14,9 @@
 The library is libbt_c.so, in the folder that BETABLE_LIBRARY names, or else beside this package, in out/ of the repository, where bin/build_c builds it, or
 where the Debian package has it. docs/SCRIPT.md has the language, and docs/PYTHON.md the calls and their errors.
 
-Layers over sessions have the same calls: `open` gives a table that is kept on disk (docs/DURABLE.md), `Replicas` and `Sharded` one on several machines
-(docs/CLUSTER.md), and `python3 -m betable serve` serves one by HTTP (docs/SERVICE.md). They are imported when they are first used. `python3 -m betable shell`
-is a prompt (docs/HOW_TO.md).
+Layers over sessions have the same calls, but for the limit of a scan, `iterate` and `columns`: `open` gives a table that is kept on disk (docs/DURABLE.md),
+`Replicas` and `Sharded` one on several machines (docs/CLUSTER.md), and `python3 -m betable serve` serves one by HTTP (docs/SERVICE.md). They are imported when
+they are first used. `python3 -m betable shell` is a prompt (docs/HOW_TO.md).
 """
 
 from importlib import import_module
@@ -26,6 +26,7 @@ from typing import TYPE_CHECKING, Any
 from .calls import MOST_MESSAGES, Calls
 from .errors import OutOfMemory, Refused, RowError, RowTypeError, RowValueError
 from .messages import OPERATIONS, Message, delete, field, put, record, upsert
+from .packed import TreeColumn
 from .replies import Reply
 from .session import Session
 
@@ -81,6 +82,7 @@ __all__ = [
     "ShardEnded",
     "ShardLost",
     "Sharded",
+    "TreeColumn",
     "Unanswered",
     "Unreachable",
     "__version__",

@@ -22,6 +22,8 @@ from .rows import Column, Layout, UNKNOWN, Value, as_iterator, as_tuple, key_fie
 
 MOST_MESSAGES = language.MOST_MESSAGES
 Row = tuple[Value, ...]
+# The lines of a batch, of what is given for it, the table, and how many rows of the call were applied before.
+Lines = Callable[[list[Any], Table, int], str]
 
 
 class Calls(ABC):
@@ -62,7 +64,7 @@ class Calls(ABC):
         """Puts rows, each a tuple or a list with a value for each column, or a dict by their names, and returns their number. More than `most` of them are
         several batches; each batch is applied whole or not at all."""
         given = as_iterator(rows, "rows", "[(1, ..), (2, ..)]")
-        return self._in_batches(given, most, lambda some, table, taken: records(some, layout(table).columns, "put ", taken + 1, taken))
+        return self._in_batches(given, most, put_lines)
 
     def load(self, rows: Iterable[Any]) -> int:
         """Fills a table that has no rows with these, all at once, and returns how many."""
@@ -98,9 +100,9 @@ class Calls(ABC):
 
     def scan(self, tree: str = "primary", start: tuple[Any, ...] | None = None, stop: tuple[Any, ...] | None = None) -> list[Row]:
         """The rows of a tree in ascending order of their keys, from those that begin with the values `start` to before those that begin with `stop`."""
-        name = _name(tree, "a tree")
+        name = checked_name(tree, "a tree")
         there = layout(self.state.table, name)
-        return self._rows(b"scan", f"scan {name}\n{_bounds(there, start, stop)}go\n", there.kinds)
+        return self._rows(b"scan", f"scan {name}\n{bounds(there, start, stop)}go\n", there.kinds)
 
     def sums(
         self, tree: str, columns: int, column: str, start: tuple[Any, ...] | None = None, stop: tuple[Any, ...] | None = None
@@ -110,9 +112,9 @@ class Calls(ABC):
             raise TypeError(f"the number of columns of a group is an int, and not {shown(columns)}: write sums('by_city', 1, 'qty')")
         if not 0 <= columns <= 999_999_999:
             raise ValueError(f"the number of columns of a group is 1 to 8, and not {shown(columns)}")
-        name = _name(tree, "a tree")
+        name = checked_name(tree, "a tree")
         there = layout(self.state.table, name)
-        script = f"sums {name} {columns:d} {_name(column, 'a column')}\n{_bounds(there, start, stop)}go\n"
+        script = f"sums {name} {columns:d} {checked_name(column, 'a column')}\n{bounds(there, start, stop)}go\n"
         return self._rows(b"sums", script, there.key_kinds[:columns])
 
     # What the calls share.
@@ -125,7 +127,7 @@ class Calls(ABC):
             raise RuntimeError("the columns of the table are unknown, since memory ran out as it was made")
         return table
 
-    def _in_batches(self, given: Iterator[Any], most: int, lines: Callable[[list[Any], Table, int], str]) -> int:
+    def _in_batches(self, given: Iterator[Any], most: int, lines: Lines) -> int:
         """Applies what is given, `most` at a time, as the lines that are made of it, and returns how many there were."""
         if most is not MOST_MESSAGES:
             if isinstance(most, bool) or not isinstance(most, int):
@@ -137,16 +139,20 @@ class Calls(ABC):
             some = list(islice(given, most))
             table = self._table()
             if some:
-                script = f"batch\n{lines(some, table, taken)}end\n"
                 try:
-                    reply = self.replies(script)
+                    self._apply(some, table, taken, lines)
                 except OutOfMemory as fault:
                     raise OutOfMemory(fault.replies, fault.is_cut, fault.is_lost, taken) from None
-                if reply.startswith(b"refused "):
-                    self._refuse_if_refused(script.encode(), reply, taken, some)
                 taken += len(some)
             if len(some) < most:
                 return taken
+
+    def _apply(self, some: list[Any], table: Table, taken: int, lines: Lines) -> None:
+        """Applies one batch."""
+        script = f"batch\n{lines(some, table, taken)}end\n"
+        reply = self.replies(script)
+        if reply.startswith(b"refused "):
+            self._refuse_if_refused(script.encode(), reply, taken, some)
 
     def _loaded(self, script: bytes, path: str | None = None) -> int:
         reply = self.replies(script)
@@ -165,7 +171,13 @@ class Calls(ABC):
             raise refusal(command, reply, self.state, [Reply(reply.decode(), command.head.word)], taken, rows, path)
 
 
-def _bounds(there: Layout, start: Any, stop: Any) -> str:
+def put_lines(rows: list[Any], table: Table, taken: int) -> str:
+    """The lines that put rows."""
+    return records(rows, layout(table).columns, "put ", taken + 1, taken)
+
+
+def bounds(there: Layout, start: Any, stop: Any) -> str:
+    """The lines of the bounds of a scan."""
     if start is None and stop is None or there is UNKNOWN:
         return ""
     given = [(word, values) for word, values in (("from", start), ("to", stop)) if values is not None]
@@ -181,7 +193,7 @@ def as_script(script: Any) -> bytes:
     raise TypeError(f"a script is a str or bytes, and not {shown(script)} of type {type(script).__name__}")
 
 
-def _name(name: Any, what: str) -> str:
+def checked_name(name: Any, what: str) -> str:
     """A name, which is data and never a piece of a script."""
     if not isinstance(name, str):
         raise TypeError(f"{what} is named by a str, and not by {shown(name)} of type {type(name).__name__}")

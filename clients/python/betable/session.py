@@ -5,18 +5,22 @@ from __future__ import annotations
 import ctypes
 import os
 import threading
+from collections.abc import Callable, Iterator
 from itertools import islice
 from pathlib import Path
 from types import TracebackType
 from typing import Any
 
 from . import language
-from .calls import Calls, as_script, note, note_unanswered
+from .calls import Calls, Lines, Row, as_script, bounds, checked_name, note, note_unanswered
 from .errors import OutOfMemory
-from .language import State, counted
+from .language import State, Table, counted
+from .messages import message_lines
+from .packed import MOST_ROWS, TreeColumn, columns_of_reply, name_bytes, packing, page_bytes
 from .replies import answered
+from .rows import UNKNOWN, Layout, layout, shown
 
-DONE, OUT_OF_MEMORY, REPLY_CUT, NOT_OPEN, ALREADY_OPEN = range(5)
+DONE, OUT_OF_MEMORY, REPLY_CUT, NOT_OPEN, ALREADY_OPEN, REFUSED = range(6)
 # Replies of fewer bytes are copied by one call.
 SHORT_REPLIES = 4_096
 LIBRARY = "libbt_c.so"
@@ -26,6 +30,10 @@ SYSTEM_FOLDER = Path("/usr/lib/betable")
 
 class _Handle(ctypes.Structure):
     _fields_ = [("at", ctypes.c_void_p), ("is_open", ctypes.c_bool)]
+
+
+class _Fault(ctypes.Structure):
+    _fields_ = [("refusal", ctypes.c_uint64), ("item", ctypes.c_uint64), ("column", ctypes.c_uint64)]
 
 
 def _library_path() -> Path:
@@ -48,9 +56,14 @@ def _library_path() -> Path:
 def _loaded_library() -> ctypes.CDLL:
     library = ctypes.CDLL(str(_library_path()))
     handle, size = ctypes.POINTER(_Handle), ctypes.c_size_t
+    of_packed = [handle, ctypes.c_char_p, size, ctypes.POINTER(_Fault)]
     calls: list[tuple[str, list[Any], Any]] = [
         ("betable_open", [handle], ctypes.c_uint),
         ("betable_run", [handle, ctypes.c_char_p, size], ctypes.c_uint),
+        ("betable_apply", of_packed, ctypes.c_uint),
+        ("betable_get", of_packed, ctypes.c_uint),
+        ("betable_page", of_packed, ctypes.c_uint),
+        ("betable_columns", of_packed, ctypes.c_uint),
         ("betable_replies_length", [handle], size),
         ("betable_copy_replies", [handle, size, ctypes.c_char_p, size], size),
         ("betable_refused_count", [handle], size),
@@ -68,11 +81,14 @@ _library: ctypes.CDLL | None = None
 
 class Session(Calls):
     """A table, or none so far, that lives between scripts. It belongs to the thread that opened it: another thread that uses it gets a RuntimeError.
-    A closed session raises ValueError."""
+    A closed session raises ValueError.
+
+    Rows, messages, keys and pages go to the library as packed bytes. What cannot be packed, and what the library refuses, goes the way of `Calls`, by text: it
+    takes the values, or says why it refuses them."""
 
     def __init__(self) -> None:
         global _library
-        self._handle = _Handle()
+        self._handle, self._fault = _Handle(), _Fault()
         self._thread = threading.current_thread()
         self._state = State()
         self._room = ctypes.create_string_buffer(SHORT_REPLIES)
@@ -125,19 +141,24 @@ class Session(Calls):
     def replies(self, script: str | bytes) -> bytes:
         """The bytes of the replies to a script, whether commands are refused or not."""
         script = as_script(script)
-        handle, room = self._open_handle(), self._room
+        handle = self._open_handle()
         status = self._library.betable_run(handle, script, len(script))
-        count = self._library.betable_copy_replies(handle, 0, room, SHORT_REPLIES)
-        if count == SHORT_REPLIES:
-            length = self._library.betable_replies_length(handle)
-            room = ctypes.create_string_buffer(length)
-            count = self._library.betable_copy_replies(handle, 0, room, length)
-        replies = ctypes.string_at(room, count)
+        replies = self._copied()
         if b"table" in script or b"index" in script or b"build" in script or b"drop" in script:
             self._note(script, replies, status == DONE)
         if status != DONE:
             raise OutOfMemory(replies, status == REPLY_CUT, self.is_lost)
         return replies
+
+    def _copied(self) -> bytes:
+        """The replies of the last call."""
+        library, handle, room = self._library, self._handle, self._room
+        count = library.betable_copy_replies(handle, 0, room, SHORT_REPLIES)
+        if count == SHORT_REPLIES:
+            length = library.betable_replies_length(handle)
+            room = ctypes.create_string_buffer(length)
+            count = library.betable_copy_replies(handle, 0, room, length)
+        return room[:count]
 
     def _note(self, script: bytes, replies: bytes, is_whole: bool) -> None:
         count = 0
@@ -152,3 +173,93 @@ class Session(Calls):
     def is_lost(self) -> bool:
         """Whether the table was lost as memory ran out."""
         return bool(self._library.betable_is_lost(self._open_handle()))
+
+    # ---- packed bytes ----
+
+    def get(self, *key: Any) -> Row | None:
+        """The row of a key, or None."""
+        table = self.state.table
+        if table is not None:
+            there = packing(layout(table))
+            if self._is_done(self._library.betable_get, there.key(key)):
+                rows = there.rows(self._copied())
+                return rows[0] if rows else None
+        return super().get(*key)
+
+    def scan(
+        self, tree: str = "primary", start: tuple[Any, ...] | None = None, stop: tuple[Any, ...] | None = None, limit: int | None = None
+    ) -> list[Row]:
+        """The rows of a tree in ascending order of their keys, from those that begin with the values `start` to before those that begin with `stop`. With a
+        limit they are the first ones, no more than that, and the library reads no others."""
+        most = MOST_ROWS if limit is None else _checked_count(limit, "the limit of a scan", 0)
+        name = checked_name(tree, "a tree")
+        there = layout(self.state.table, name)
+        script = f"scan {name}\n{bounds(there, start, stop)}go\n"
+        if there is UNKNOWN:
+            return self._rows(b"scan", script, there.kinds)[:limit]
+        packed = packing(there)
+        return self._page(name, there, most, packed.bound(start), packed.bound(stop), script)
+
+    def iterate(
+        self, tree: str = "primary", start: tuple[Any, ...] | None = None, stop: tuple[Any, ...] | None = None, page: int = 1_000
+    ) -> Iterator[Row]:
+        """The rows that a scan gives, which are read a page at a time as they are asked for. Each page begins directly after the last row of the one before, so
+        no row comes twice; the rows that follow are those of the table when their page is read."""
+        most = _checked_count(page, "the size of a page", 1)
+        name = checked_name(tree, "a tree")
+        there = layout(self.state.table, name)
+        script = f"scan {name}\n{bounds(there, start, stop)}go\n"
+        if there is UNKNOWN:
+            return iter(self._rows(b"scan", script, there.kinds))
+        packed = packing(there)
+        return self._pages(name, there, most, packed.bound(start), packed.bound(stop), script)
+
+    def columns(self, tree: str = "primary") -> list[TreeColumn]:
+        """The columns of the rows of a tree, each with its name, its kind, and whether it belongs to the key of the tree."""
+        name = checked_name(tree, "a tree")
+        if self._is_done(self._library.betable_columns, name_bytes(name)):
+            return columns_of_reply(self._copied())
+        # The same refusal, in words.
+        self._rows(b"scan", f"scan {name}\ngo\n", [])
+        raise RuntimeError(f"the columns of '{name}' are refused, and its rows are not")
+
+    def _apply(self, some: list[Any], table: Table, taken: int, lines: Lines) -> None:
+        packed = packing(layout(table))
+        changes = packed.changes(some) if lines is message_lines else packed.puts(some)
+        if not self._is_done(self._library.betable_apply, changes):
+            super()._apply(some, table, taken, lines)
+
+    def _is_done(self, call: Callable[..., int], packed: bytes | None) -> bool:
+        """Whether a call on packed bytes was done. If there are none, or if they are refused, it was not, and nothing has changed."""
+        if packed is None:
+            return False
+        status = call(self._open_handle(), packed, len(packed), self._fault)
+        if status == OUT_OF_MEMORY:
+            raise OutOfMemory(b"", False, self.is_lost)
+        return status == DONE
+
+    def _page(self, name: str, there: Layout, most: int, lower: bytes | None, upper: bytes | None, script: str) -> list[Row]:
+        """The first rows between two packed bounds. Where there is none, or where the page is refused, the script of the scan takes its place."""
+        page = None if lower is None or upper is None else page_bytes(name, most, lower, upper)
+        if self._is_done(self._library.betable_page, page):
+            return packing(there).rows(self._copied())
+        return self._rows(b"scan", script, there.kinds)[:most]
+
+    def _pages(self, name: str, there: Layout, most: int, lower: bytes | None, upper: bytes | None, script: str) -> Iterator[Row]:
+        while True:
+            if layout(self.state.table, name) is not there:
+                raise RuntimeError(f"the tree '{name}' was dropped, or made again, while its rows were read")
+            rows = self._page(name, there, most, lower, upper, script)
+            yield from rows
+            if len(rows) < most:
+                return
+            lower = packing(there).after(rows[-1])
+
+
+def _checked_count(count: Any, what: str, least: int) -> int:
+    """A number of rows, or the most that a page has."""
+    if isinstance(count, bool) or not isinstance(count, int):
+        raise TypeError(f"{what} is an int, and not {shown(count)}")
+    if count < least:
+        raise ValueError(f"{what} is {least} or more, and not {shown(count)}")
+    return min(count, MOST_ROWS)

@@ -1,4 +1,6 @@
 pub mod Batches
+pub mod CheckedChanges
 pub mod MergedLists
+pub mod offered
 pub mod PieceReadings
 pub mod Ranges

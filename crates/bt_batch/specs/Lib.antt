@@ -1,2 +1,3 @@
 pub mod inside
 pub mod Batches
+pub mod Changes

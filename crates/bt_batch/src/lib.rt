@@ -16,13 +16,23 @@
 //! for (key, message) in packet.iter() { .. }                                  // by rising key
 //! ```
 //!
-//! The definitions are in `specs`: `Batches` says which messages records encode, and why they are refused.
+//! A caller who has values in place of records adds them to [`Changes`], which checks each by the schema and gives the same packet.
+//!
+//! ```text
+//! let mut changes = Changes::new(alloc, &schema);
+//! changes.put(alloc, row)?;                                                   // refused as BadField 1 or BadLength 1 if the row doesn't fit
+//! let packet = changes.into_packet(alloc)?;
+//! ```
+//!
+//! The definitions are in `specs`: `Batches` says which messages records encode, and why they are refused, and `Changes` the same of values.
 #![tactic(auto)]
 
 mod batch_packet;
+mod changes;
 mod line_messages;
 mod merging;
 
 pub use batch_packet::{read_packet, read_packet_alone};
+pub use changes::Changes;
 pub use line_messages::MOST_MESSAGES;
 pub use merging::merged_pieces;

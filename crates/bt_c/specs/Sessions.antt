@@ -1,12 +1,19 @@
 -- The session of a handle, before and after a call.
-use Rattle.std.specs.Prelude.{ℕ, Bool, true, false, Option, Some, None}
+use Rattle.std.specs.Prelude.{ℕ, ◌≡◌, Bool, true, false, List, Option, Some, None, Result, Err}
 use Rattle.std.specs.Option.{MatchOption}
+use Rattle.bt_value.specs.Refusals.{number_of}
+use Rattle.bt_value.specs.declared.refusal.Refusal.TheVariants.{NoTable}
+use Rattle.bt_table.specs.Calls.{StaysOrIsLost}
+use Rattle.bt_table.specs.Tables.{Intact, Lost, TableState}
+use Rattle.bt_packed.specs.Calls.{applied, on_ok}
+use Rattle.bt_packed.specs.Layout.{fault_at}
+use Rattle.bt_packed.specs.declared.fault.Fault.{Fault}
 use Rattle.bt_shell.specs.Steps.{State}
-use Rattle.bt_table.specs.Tables.{Intact, Lost}
+use Rattle.bt_c.specs.declared.fault.FaultInC.{FaultInC}
 use Rattle.bt_c.specs.declared.handle.Handle.{Handle}
 use Rattle.bt_c.specs.declared.session.Session.{Session}
 use Rattle.bt_c.specs.declared.status.Status.{Status}
-use Rattle.bt_c.specs.declared.status.Status.TheVariants.{AlreadyOpen, Done, NotOpen, OutOfMemory, ReplyCut}
+use Rattle.bt_c.specs.declared.status.Status.TheVariants.{AlreadyOpen, Done, NotOpen, OutOfMemory, Refused, ReplyCut}
 
 -- the session, if the handle is open
 abbrev pub session_of : Handle → Option Session
@@ -29,3 +36,32 @@ code_of OutOfMemory = 1
 code_of ReplyCut = 2
 code_of NotOpen = 3
 code_of AlreadyOpen = 4
+code_of Refused = 5
+
+-- ---- calls on packed bytes
+
+-- there is no table
+abbrev pub no_table : Fault
+no_table = fault_at NoTable 0 0
+
+-- the table after packed changes, or the fault
+abbrev pub applied_to : State → List ℕ → Result State Fault
+applied_to None bytes = Err no_table
+applied_to (Some table) bytes = on_ok Some (applied table bytes)
+
+-- the reply of a table to a question in packed bytes, or the fault
+abbrev pub asked : (TableState → List ℕ → Result (List ℕ) Fault) → State → List ℕ → Result (List ℕ) Fault
+asked answer None bytes = Err no_table
+asked answer (Some table) bytes = answer table bytes
+
+-- a fault as C sees it
+abbrev pub fault_of : Fault → FaultInC
+fault_of fault = record { refusal = number_of fault.refusal; item = fault.item; column = fault.column }
+
+-- an answer is this fault, which C sees, and it is not that memory ran out
+abbrev pub IsFault : {T : Type 0} → Result T Fault → FaultInC → Type 0
+IsFault answer seen = (fault : Fault) × (answer ≡ Err fault) × (seen ≡ fault_of fault)
+
+-- a session keeps its table, or has lost it
+abbrev pub StaysOrIsLostIn : Session → Session → Type 0
+StaysOrIsLostIn old new = MatchOption old.table (new.table ≡ None) (λ before. MatchOption new.table ⊥ (StaysOrIsLost before))

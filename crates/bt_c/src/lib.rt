@@ -12,7 +12,7 @@
 //! ```
 #![tactic(auto)]
 
-ghost use Rattle.std.specs.Prelude.{◌≡◌, ◌≢◌, ◌⊎◌, ◌-◌, [], IfSome, List, None, Some, ℕ, drop, flat_map, is_some, length, min, take, true, false};
+ghost use Rattle.std.specs.Prelude.{◌≡◌, ◌≢◌, ◌⊎◌, ◌-◌, [], IfErr, IfSome, Ok, OnOk, List, None, Some, ℕ, drop, flat_map, is_some, length, min, take, true, false};
 ghost use Rattle.std.specs.Option.{MatchOption};
 ghost use Rattle.bt_script.specs.Commands.{commands};
 ghost use Rattle.bt_shell.specs.Faults.{StopsBetweenReplies, StopsWithinReply, lost_reply};
@@ -20,16 +20,21 @@ ghost use Rattle.bt_shell.specs.Runs.{AreOneRun, EndsBetweenCommands, after_comm
 ghost use Rattle.bt_shell.specs.Steps.{State};
 ghost use Rattle.bt_table.specs.Standing.{CompleteIndexesHold, IsSoundUnlessLost};
 ghost use Rattle.bt_table.specs.Tables.{Lost};
-ghost use Rattle.bt_c.specs.Sessions.{StaysOpen, code_of, is_lost, session_of};
+ghost use Rattle.bt_packed.specs.Calls.{got, packed_page, told_columns};
+ghost use Rattle.bt_c.specs.Sessions.{IsFault, StaysOpen, StaysOrIsLostIn, applied_to, asked, code_of, fault_of, is_lost, session_of};
 ghost use Rattle.bt_c.specs.declared.status.Status.TheVariants as status;
 
+mod fault;
 mod handle;
 mod parts;
 mod session;
 mod slot;
 mod status;
 
+use bt_packed::Fault;
 use bt_script::RunFault;
+use bt_value::Refusal;
+pub use fault::FaultInC;
 pub use handle::Handle;
 pub use session::Session;
 pub use status::Status;
@@ -94,6 +99,124 @@ pub extern "C" fn betable_run(alloc: Global, handle: &mut Handle, script: &[u8])
         // A run reads no stream.
         Err(RunFault::Read) => unreachable!(),
     }
+}
+
+// The code of the result of a call on packed bytes, and its fault.
+fn code_of_answer(ended: Result<(), Fault>, fault: &mut FaultInC) -> u32
+    ensures done { OnOk ended (result ≡ code_of status.Done) }
+    ensures memory { IfErr ended (λ f. f.refusal ≡ Refusal.OutOfMemory → result ≡ code_of status.OutOfMemory) }
+    ensures refused { IfErr ended (λ f. f.refusal ≢ Refusal.OutOfMemory → (result ≡ code_of status.Refused) × (fault.new ≡ fault_of f)) }
+{
+    match ended {
+        Ok(()) => Status::Done.code(),
+        Err(
+            Fault {
+                refusal: Refusal::OutOfMemory,
+                ..
+            },
+        ) => Status::OutOfMemory.code(),
+        Err(other) => {
+            *fault = FaultInC::of(other);
+            Status::Refused.code()
+        }
+    }
+}
+
+/// Applies packed changes to the table, all or none. The replies are emptied.
+///
+/// `Done`: the table has applied all of them. `Refused`: the fault says which change is refused and why, and the table is as it was. `OutOfMemory`: the table
+/// is as it was, or lost.
+#[unsafe(no_mangle)]
+pub extern "C" fn betable_apply(
+    alloc: Global,
+    handle: &mut Handle,
+    changes: &[u8],
+    fault: &mut FaultInC,
+) -> u32
+    ensures closed { session_of handle.old ≡ None → (result ≡ code_of status.NotOpen) × (session_of handle.new ≡ None) }
+    ensures ends { is_some (session_of handle.old) ≡ true → (result ≡ code_of status.Done) ⊎ (result ≡ code_of status.OutOfMemory) ⊎ (result ≡ code_of status.Refused) }
+    ensures done { result ≡ code_of status.Done → StaysOpen handle.old handle.new (λ old new. applied_to old.table changes.now ≡ Ok new.table) }
+    ensures refused { result ≡ code_of status.Refused → StaysOpen handle.old handle.new (λ old new. IsFault (applied_to old.table changes.now) fault.new × (new.table ≡ old.table)) }
+    ensures memory { result ≡ code_of status.OutOfMemory → StaysOpen handle.old handle.new StaysOrIsLostIn }
+    ensures unanswered { IfSome (session_of handle.new) (λ session. session.text.items ≡ []) }
+    ensures sound { IfSome (session_of handle.new) (λ session. IfSome session.table IsSoundUnlessLost) }
+    ensures complete { IfSome (session_of handle.new) (λ session. IfSome session.table CompleteIndexesHold) }
+{
+    let Some(mut session) = handle.take(alloc) else {
+        return Status::NotOpen.code();
+    };
+    let ended = session.apply(alloc, changes);
+    *handle = Handle::of(session);
+    code_of_answer(ended, fault)
+}
+
+/// Replies with the packed row of a packed key, or with no row. The reply can be copied until the next call that replies. The table is as it was.
+#[unsafe(no_mangle)]
+pub extern "C" fn betable_get(
+    alloc: Global,
+    handle: &mut Handle,
+    key: &[u8],
+    fault: &mut FaultInC,
+) -> u32
+    ensures closed { session_of handle.old ≡ None → (result ≡ code_of status.NotOpen) × (session_of handle.new ≡ None) }
+    ensures ends { is_some (session_of handle.old) ≡ true → (result ≡ code_of status.Done) ⊎ (result ≡ code_of status.OutOfMemory) ⊎ (result ≡ code_of status.Refused) }
+    ensures done { result ≡ code_of status.Done → StaysOpen handle.old handle.new (λ old new. asked got old.table key.now ≡ Ok new.text.items) }
+    ensures refused { result ≡ code_of status.Refused → StaysOpen handle.old handle.new (λ old _. IsFault (asked got old.table key.now) fault.new) }
+    ensures unanswered { result ≢ code_of status.Done → IfSome (session_of handle.new) (λ session. session.text.items ≡ []) }
+    ensures table { is_some (session_of handle.old) ≡ true → StaysOpen handle.old handle.new (λ old new. new.table ≡ old.table) }
+{
+    let Some(mut session) = handle.take(alloc) else {
+        return Status::NotOpen.code();
+    };
+    let ended = session.get(alloc, key);
+    *handle = Handle::of(session);
+    code_of_answer(ended, fault)
+}
+
+/// Replies with the packed rows of a page of a tree, in ascending order of their keys, as [`betable_get`] does.
+#[unsafe(no_mangle)]
+pub extern "C" fn betable_page(
+    alloc: Global,
+    handle: &mut Handle,
+    page: &[u8],
+    fault: &mut FaultInC,
+) -> u32
+    ensures closed { session_of handle.old ≡ None → (result ≡ code_of status.NotOpen) × (session_of handle.new ≡ None) }
+    ensures ends { is_some (session_of handle.old) ≡ true → (result ≡ code_of status.Done) ⊎ (result ≡ code_of status.OutOfMemory) ⊎ (result ≡ code_of status.Refused) }
+    ensures done { result ≡ code_of status.Done → StaysOpen handle.old handle.new (λ old new. asked packed_page old.table page.now ≡ Ok new.text.items) }
+    ensures refused { result ≡ code_of status.Refused → StaysOpen handle.old handle.new (λ old _. IsFault (asked packed_page old.table page.now) fault.new) }
+    ensures unanswered { result ≢ code_of status.Done → IfSome (session_of handle.new) (λ session. session.text.items ≡ []) }
+    ensures table { is_some (session_of handle.old) ≡ true → StaysOpen handle.old handle.new (λ old new. new.table ≡ old.table) }
+{
+    let Some(mut session) = handle.take(alloc) else {
+        return Status::NotOpen.code();
+    };
+    let ended = session.page(alloc, page);
+    *handle = Handle::of(session);
+    code_of_answer(ended, fault)
+}
+
+/// Replies with the packed columns of the tree that packed bytes name, as [`betable_get`] does.
+#[unsafe(no_mangle)]
+pub extern "C" fn betable_columns(
+    alloc: Global,
+    handle: &mut Handle,
+    name: &[u8],
+    fault: &mut FaultInC,
+) -> u32
+    ensures closed { session_of handle.old ≡ None → (result ≡ code_of status.NotOpen) × (session_of handle.new ≡ None) }
+    ensures ends { is_some (session_of handle.old) ≡ true → (result ≡ code_of status.Done) ⊎ (result ≡ code_of status.OutOfMemory) ⊎ (result ≡ code_of status.Refused) }
+    ensures done { result ≡ code_of status.Done → StaysOpen handle.old handle.new (λ old new. asked told_columns old.table name.now ≡ Ok new.text.items) }
+    ensures refused { result ≡ code_of status.Refused → StaysOpen handle.old handle.new (λ old _. IsFault (asked told_columns old.table name.now) fault.new) }
+    ensures unanswered { result ≢ code_of status.Done → IfSome (session_of handle.new) (λ session. session.text.items ≡ []) }
+    ensures table { is_some (session_of handle.old) ≡ true → StaysOpen handle.old handle.new (λ old new. new.table ≡ old.table) }
+{
+    let Some(mut session) = handle.take(alloc) else {
+        return Status::NotOpen.code();
+    };
+    let ended = session.columns(alloc, name);
+    *handle = Handle::of(session);
+    code_of_answer(ended, fault)
 }
 
 /// The number of bytes of the replies to the last script: none, if there is no session.

@@ -1,15 +1,18 @@
 //! A table that lives between calls, and the replies that can be copied.
-ghost use Rattle.std.specs.Prelude.{◌≡◌, ◌-◌, ◌++◌, [], IfOk, IfSome, IsErrOf, OnErr, OnOk, None, Some, drop, flat_map, length, min, take};
+ghost use Rattle.std.specs.Prelude.{◌≡◌, ◌≢◌, ◌-◌, ◌++◌, [], Err, IfErr, IfOk, IfSome, IsErrOf, Ok, OnErr, OnOk, None, Some, drop, flat_map, length, min, take};
 ghost use Rattle.bt_script.specs.Commands.{commands};
 ghost use Rattle.bt_shell.specs.Faults.{StopsBetweenReplies, StopsWithinReply, lost_reply};
 ghost use Rattle.bt_shell.specs.Runs.{after_commands, refused_count, replies};
 ghost use Rattle.bt_table.specs.Standing.{CompleteIndexesHold, IsSoundUnlessLost};
 ghost use Rattle.bt_table.specs.Tables.{Lost};
-ghost use Rattle.bt_c.specs.Sessions.{is_lost};
+ghost use Rattle.bt_packed.specs.Calls.{got, packed_page, told_columns};
+ghost use Rattle.bt_c.specs.Sessions.{StaysOrIsLostIn, applied_to, asked, is_lost};
 
+use bt_packed::{Fault, apply_packed, columns_packed, get_packed, page_packed};
 use bt_script::{Counted, RunFault};
 use bt_shell::run_commands;
 use bt_table::{Alone, Table};
+use bt_value::Refusal;
 use std::alloc::Global;
 use std::mem;
 
@@ -57,6 +60,16 @@ impl Session {
         }
     }
 
+    // Empties the replies, and sets the number of refused commands to 0.
+    fn clear(&mut self)
+        ensures table { self.new.table ≡ self.old.table }
+        ensures text { self.new.text.items ≡ [] }
+        ensures refused { self.new.refused ≡ 0 }
+    {
+        self.text.clear();
+        self.refused = 0;
+    }
+
     /// Carries out the commands of a script. Their replies replace the previous ones.
     pub fn run(&mut self, alloc: Global, script: &[u8]) -> Result<(), RunFault>
         ensures written { OnOk result (self.new.text.items ≡ replies self.old.table (commands script.now)) }
@@ -70,9 +83,83 @@ impl Session {
         ensures sound { IfSome self.new.table IsSoundUnlessLost }
         ensures complete { IfSome self.new.table CompleteIndexesHold }
     {
-        self.text.clear();
-        self.refused = 0;
+        self.clear();
         self.refused = run_into(alloc, script, &mut self.table, &mut self.text)?;
+        Ok(())
+    }
+
+    /// Applies packed changes to the table. The replies are emptied.
+    pub fn apply(&mut self, alloc: Global, changes: &[u8]) -> Result<(), Fault>
+        ensures done { OnOk result (applied_to self.old.table changes.now ≡ Ok self.new.table) }
+        ensures fault { IfErr result (λ fault. fault.refusal ≢ Refusal.OutOfMemory → (applied_to self.old.table changes.now ≡ Err fault) × (self.new.table ≡ self.old.table)) }
+        ensures memory { IfErr result (λ fault. fault.refusal ≡ Refusal.OutOfMemory → StaysOrIsLostIn self.old self.new) }
+        ensures text { self.new.text.items ≡ [] }
+        ensures refused { self.new.refused ≡ 0 }
+        ensures sound { IfSome self.new.table IsSoundUnlessLost }
+        ensures complete { IfSome self.new.table CompleteIndexesHold }
+    {
+        self.clear();
+        match &mut self.table {
+            None => Err(Fault::of_call(Refusal::NoTable)),
+            Some(table) => apply_packed(alloc, table, changes),
+        }
+    }
+
+    // Takes the bytes of the replies, in whose room the next ones are written.
+    fn take_room(&mut self, alloc: Global) -> Vec<u8>
+        ensures table { self.new.table ≡ self.old.table }
+        ensures text { self.new.text.items ≡ [] }
+        ensures refused { self.new.refused ≡ 0 }
+    {
+        self.refused = 0;
+        mem::replace(&mut self.text, Vec::new(alloc))
+    }
+
+    /// Replies with the packed row of a packed key, or with no row.
+    pub fn get(&mut self, alloc: Global, key: &[u8]) -> Result<(), Fault>
+        ensures done { OnOk result (asked got self.old.table key.now ≡ Ok self.new.text.items) }
+        ensures fault { IfErr result (λ fault. fault.refusal ≢ Refusal.OutOfMemory → asked got self.old.table key.now ≡ Err fault) }
+        ensures no_text { IfErr result (λ _. self.new.text.items ≡ []) }
+        ensures table { self.new.table ≡ self.old.table }
+        ensures refused { self.new.refused ≡ 0 }
+    {
+        let room = self.take_room(alloc);
+        let Some(table) = &self.table else {
+            return Err(Fault::of_call(Refusal::NoTable));
+        };
+        self.text = get_packed(alloc, table, key, room)?;
+        Ok(())
+    }
+
+    /// Replies with the packed rows of a page.
+    pub fn page(&mut self, alloc: Global, page: &[u8]) -> Result<(), Fault>
+        ensures done { OnOk result (asked packed_page self.old.table page.now ≡ Ok self.new.text.items) }
+        ensures fault { IfErr result (λ fault. fault.refusal ≢ Refusal.OutOfMemory → asked packed_page self.old.table page.now ≡ Err fault) }
+        ensures no_text { IfErr result (λ _. self.new.text.items ≡ []) }
+        ensures table { self.new.table ≡ self.old.table }
+        ensures refused { self.new.refused ≡ 0 }
+    {
+        let room = self.take_room(alloc);
+        let Some(table) = &self.table else {
+            return Err(Fault::of_call(Refusal::NoTable));
+        };
+        self.text = page_packed(alloc, table, page, room)?;
+        Ok(())
+    }
+
+    /// Replies with the packed columns of a tree.
+    pub fn columns(&mut self, alloc: Global, name: &[u8]) -> Result<(), Fault>
+        ensures done { OnOk result (asked told_columns self.old.table name.now ≡ Ok self.new.text.items) }
+        ensures fault { IfErr result (λ fault. fault.refusal ≢ Refusal.OutOfMemory → asked told_columns self.old.table name.now ≡ Err fault) }
+        ensures no_text { IfErr result (λ _. self.new.text.items ≡ []) }
+        ensures table { self.new.table ≡ self.old.table }
+        ensures refused { self.new.refused ≡ 0 }
+    {
+        let _room = self.take_room(alloc);
+        let Some(table) = &self.table else {
+            return Err(Fault::of_call(Refusal::NoTable));
+        };
+        self.text = columns_packed(alloc, table, name)?;
         Ok(())
     }
 

@@ -15,6 +15,8 @@ pub enum Status {
     NotOpen,
     /// The handle has a session already.
     AlreadyOpen,
+    /// The call was refused: its fault says why. Nothing has changed.
+    Refused,
 }
 
 impl Status {
@@ -28,6 +30,7 @@ impl Status {
             Status::ReplyCut => 2,
             Status::NotOpen => 3,
             Status::AlreadyOpen => 4,
+            Status::Refused => 5,
         }
     }
 }

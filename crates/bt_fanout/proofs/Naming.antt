@@ -32,13 +32,6 @@ placed : (old : List ℕ) (place : ℕ) (found : Option (List ℕ)) →
 placed old place None = refl
 placed old place (Some places) = ap Some (sym (append_assoc old (place ∷ []) places))
 
--- the place of one more name
-pub one_place : (columns : List Column) (name : List ℕ) (names : List (List ℕ)) (c : ℕ × Kind) (old new : List ℕ) → named_from 0 name columns ≡ Some c → new ≡ old ++ c.0 ∷ [] →
-    option_map (λ others. old ++ others) (places_of columns (name ∷ names)) ≡ option_map (λ others. new ++ others) (places_of columns names)
-one_place columns name names c old new is more =
-    ap (λ found. option_map (λ others. old ++ others) (option_and_then (λ (d : ℕ × Kind). option_map (λ places. d.0 ∷ places) (places_of columns names)) found)) is
-    ∙ placed old c.0 (places_of columns names) ∙ ap (λ front. option_map (λ others. front ++ others) (places_of columns names)) (sym more)
-
 -- a name that no column has
 pub no_place : (columns : List Column) (name : List ℕ) (names : List (List ℕ)) → named_from 0 name columns ≡ None → places_of columns (name ∷ names) ≡ None
 no_place columns name names is = ap (λ found. option_and_then (λ (d : ℕ × Kind). option_map (λ places. d.0 ∷ places) (places_of columns names)) found) is
@@ -160,13 +153,6 @@ one_there columns name names there = by_column (named_from 0 name columns) (plac
     by_column (Some c) None e = refl
     by_column (Some c) (Some places) e = refl
 
-pub one_absent : (columns : List Column) (name : List ℕ) (names : List (List ℕ)) → is_none (named_from 0 name columns) ≡ true → is_some (places_of columns (name ∷ names)) ≡ false
-one_absent columns name names absent = by_column (named_from 0 name columns) absent
-  where
-    by_column : (o : Option (ℕ × Kind)) → is_none o ≡ true → is_some (option_and_then (λ (c : ℕ × Kind). option_map (λ places. c.0 ∷ places) (places_of columns names)) o) ≡ false
-    by_column None e = refl
-    by_column (Some c) e = cc
-
 -- a fault of the second part, and the result together with the first part
 pub both_faulty : {S T : Type 0} (first : Result S Refusal) (second : Result T Refusal) (fault result : Refusal) → Some fault ≡ result_err second →
     both_read {T = Unit {0}} first (Err fault) ≡ Err result → both_read first second ≡ Err result
@@ -179,17 +165,6 @@ both_faulty (Err r) (Err other) fault result is e =
     let same : fault ≡ other = cc in
     let answer : lesser r fault ≡ result = cc in
     ap Err (ap (lesser r) (sym same) ∙ answer)
-
--- without one the first part decides
-pub first_refused : {S T : Type 0} (first : Result S Refusal) (second : Result T Refusal) (refusal : Refusal) → None ≡ result_err second → first ≡ Err refusal → both_read first second ≡ Err refusal
-first_refused first (Err other) refusal none is = cc
-first_refused (Ok x) (Ok y) refusal none is = cc
-first_refused (Err r) (Ok y) refusal none is = let same : r ≡ refusal = cc in ap Err same
-
-pub first_decides : {S T : Type 0} (first : Result S Refusal) (second : Result T Refusal) (P : Refusal → Type 0) → None ≡ result_err second → IfErr first P → IfErr (both_read first second) P
-first_decides first (Err other) P none certain = cc
-first_decides (Ok x) (Ok y) P none certain = tt
-first_decides (Err r) (Ok y) P none certain = certain
 
 pub stays_refused : {A : Type 0} (U : Type 0) (both : Result A Refusal) (refusal : Refusal) → both ≡ Err refusal → IfErr both (λ e. ◌≡◌ {A = Result U Refusal} (Err refusal) (Err e))
 stays_refused U (Ok a) refusal is = cc

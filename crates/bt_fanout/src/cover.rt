@@ -65,7 +65,5 @@ pub(crate) fn copy_cover(alloc: Global, cover: &Cover) -> Result<Cover, AllocErr
 pub(crate) fn next_key(alloc: Global, key: &Key) -> Result<Key, AllocError>
     ensures { IfOk result (λ next. next ≡ key.now ++ 0 ∷ []) }
 {
-    let mut bytes = Vec::from_slice(alloc, key.as_slice())?;
-    bytes.push(0)?;
-    Key::from_bytes(alloc, bytes.as_slice())
+    key.next(alloc)
 }

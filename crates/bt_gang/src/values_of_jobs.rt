@@ -9,8 +9,8 @@ use std::alloc::{AllocError, Global};
 use std::sync::Wait;
 use std::thread::Threads;
 
-/// One worker is started for each group of this many grains of messages or keys. Starting a thread takes about 30 µs. Flushing four grains
-/// of messages takes as long, at the default grain of 64.
+/// One worker is started for each group of this many grains of messages or keys: for 256 messages at the default grain of 64. Starting a thread
+/// takes about 30 µs, and flushing a hundred messages 36 µs, so a worker has about three times as much to do as its start takes.
 const GRAINS_PER_WORKER: usize = 4;
 
 /// The number of workers that is worth starting for this many messages or keys.

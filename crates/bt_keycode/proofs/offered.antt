@@ -2,6 +2,7 @@
 pub mod Codes
 pub mod Decoded
 pub mod FirstNumbers
+pub mod NextKeys
 pub mod Occurrences
 pub mod Order
 pub mod Ranges

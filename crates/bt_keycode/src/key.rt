@@ -1,5 +1,5 @@
 //! Keys: lists of bytes, ordered byte by byte.
-ghost use Rattle.std.specs.Prelude.{◌≡◌, ◌+◌, ◌++◌, ◌≤◌, [], IfNone, IfOk, IfSome, OnOk, OnErr, drop, length};
+ghost use Rattle.std.specs.Prelude.{◌≡◌, ◌+◌, ◌++◌, ◌≤◌, ◌∷◌, [], IfNone, IfOk, IfSome, OnOk, OnErr, drop, length};
 ghost use Rattle.bt_value.specs.Hex.{hex_text};
 ghost use Rattle.bt_value.specs.Paddings.{padded};
 ghost use Rattle.bt_keycode.specs.Keys.{key_cmp};
@@ -118,6 +118,15 @@ impl Key {
         ensures { IfOk result (λ copy. copy ≡ self.now) }
     {
         Ok(Key::of(self.bytes.copy(alloc)?))
+    }
+
+    /// The smallest key that is larger than this one: its bytes followed by a byte 0.
+    pub fn next(&self, alloc: Global) -> Result<Self, AllocError>
+        ensures { IfOk result (λ next. next ≡ self.now ++ 0 ∷ []) }
+    {
+        let mut bytes = Vec::from_slice(alloc, self.as_slice())?;
+        bytes.push(0)?;
+        Key::from_bytes(alloc, bytes.as_slice())
     }
 
     /// The number of bytes.

@@ -14,8 +14,7 @@ use Rattle.bt_node.specs.Messages.{Meaning, Messages, Rows, before, from, load, 
 use Rattle.bt_node.specs.Plans.{fullest, most, place_of, total}
 use Rattle.bt_node.specs.Trees.{Nodes, Shape, Siblings, Tree, children, height, height_below, inner, leaf, node, nodes, none}
 use Rattle.bt_node.specs.declared.form.mode.Mode.TheVariants.{Absorb}
-use Rattle.bt_node.proofs.lemmas.deals.Parts.{AllNonEmpty, full-deal, joined, joined-deal}
-use Rattle.bt_node.proofs.offered.FlushSteps.{anywhere, fit_there, led-full, length-shared, some_length}
+use Rattle.bt_node.proofs.offered.FlushSteps.{AllNonEmpty, anywhere, fit_there, full-deal, joined, joined-deal, led-full, length-shared, some_length}
 use Rattle.bt_node.proofs.offered.ShapedTrees.{sunk-has_shape}
 use Rattle.bt_laws.proofs.LeafCounts.{node_wide, nodes_wide}
 use Rattle.bt_laws.specs.FlushSizes.{FlushesAreFew, FlushesAreFewInAll, FlushesAreLarge, arrived, sunk_all, flush_count}

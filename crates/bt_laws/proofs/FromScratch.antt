@@ -20,7 +20,7 @@ use Rattle.bt_table.specs.Standing.{AreSoundIndexes, IsSoundIndex, IsSoundTable}
 use Rattle.bt_table.specs.Tables.{Intact, PlainTable, TableState}
 use Rattle.bt_table.specs.declared.reply.Reply.{Reply}
 use Rattle.bt_table.specs.declared.reply.Reply.TheVariants.{Rebuilt}
-use Rattle.bt_table.proofs.Indexes.{holds_selection, sound-found}
+use Rattle.bt_table.proofs.offered.SoundTables.{holds_selection, sound-found}
 use Rattle.bt_view.specs.Images.{entry_image, image, image_of, row_image}
 use Rattle.bt_laws.specs.CanonicalForms.{AreOfOneDefinition, HaveSameRows, all_rebuilt, image_after, image_from_scratch, is_of_all_rows}
 

@@ -35,7 +35,7 @@ use Rattle.bt_table.specs.Calls.{Load, NamedTree, Rebuild, after_load, load_refu
 use Rattle.bt_table.specs.Standing.{IsSoundTable}
 use Rattle.bt_table.specs.Tables.{Intact, PlainTable}
 use Rattle.bt_table.specs.declared.reply.Reply.TheVariants.{Loaded}
-use Rattle.bt_table.proofs.Sound.{rows_sorted}
+use Rattle.bt_table.proofs.offered.SoundTables.{rows_sorted}
 use Rattle.std.proofs.lemmas.Bool.Decides.{nat_tests}
 use Rattle.bt_laws.specs.Dumps.{AreShown, HasPlainHeader, IsReadyFor, dump_of, header_line}
 use Rattle.bt_laws.specs.StoredTables.{HasOnlyBytes, IsStored}

@@ -17,7 +17,7 @@ use Rattle.bt_node.proofs.offered.PackedTrees.{crown-dry, packed-has_shape, pack
 use Rattle.bt_fanout.specs.Effects.{RowMessage, row_effect, row_meaning}
 use Rattle.bt_table.specs.Calls.{Primary, Rebuild}
 use Rattle.bt_table.specs.Tables.{Intact, PlainTable, RowTree}
-use Rattle.bt_table.proofs.Sound.{rows_sorted}
+use Rattle.bt_table.proofs.offered.SoundTables.{rows_sorted}
 use Rattle.bt_view.specs.Images.{change_text, row_image}
 use Rattle.bt_laws.specs.CanonicalForms.{ImagesTellRows, image_after}
 use Rattle.bt_laws.specs.StoredTables.{HasOnlyBytes, IsStored}

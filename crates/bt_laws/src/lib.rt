@@ -11,6 +11,8 @@
 //!   scripts whose end was lost is still a log.
 //! - [`canonical_form`]: the image of a rebuilt tree depends only on the columns, the shape and the rows of the table. So images of rebuilt
 //!   trees compare tables, even if different calls were made on them before.
+//! - [`records_as_values`]: a record of a batch encodes the message of the values that it is read as. So values can be given to a table in
+//!   place of the records that encode them, with the same refusals.
 //! - [`dump_and_load`]: a table that loads the dump of another table has the same rows, and the same images.
 #![tactic(auto)]
 
@@ -19,9 +21,11 @@ mod cuts;
 mod dumps;
 mod flushes;
 mod heights;
+mod values;
 
 pub use canonical::canonical_form;
 pub use cuts::cut_script;
 pub use dumps::dump_and_load;
 pub use flushes::flush_sizes;
 pub use heights::tree_height;
+pub use values::records_as_values;

@@ -44,15 +44,6 @@ spelt : (i j : ℕ) (o : Option (List Value)) (row : List Value) → or_refused 
 spelt i j None row e = cc
 spelt i j (Some values) row e = e
 
--- a record that encodes a row does so as any item
-pub any_item : (columns : List Column) (fields : Fields) (row : List Value) (i j : ℕ) → read_as columns i fields ≡ Ok row → read_as columns j fields ≡ Ok row
-any_item columns fields row i j e =
-    elim (length fields == length columns) as (λ b. (if b then or_refused (BadField i) (values_of columns fields) else Err (BadLength i)) ≡ Ok row
-    → (if b then or_refused (BadField j) (values_of columns fields) else Err (BadLength j)) ≡ Ok row) [
-      | true ↦ λ e. spelt i j (values_of columns fields) row e
-      | false ↦ λ e. cc
-    ] e
-
 abbrev row_answer : List Value → Answer
 row_answer row = Ok row
 

@@ -32,7 +32,7 @@
 //!
 //! [`Tree::walk`] returns a [`Walk`], which reads a tree as the map that it represents. It gives the value at one key (`get`) and at several
 //! keys (`values`). It shows the rows between two bounds to a [`Visitor`] (`visit`) or copies them (`rows`). It shows the first rows from a
-//! key on, up to a limit (`visit_first`), at a cost that depends only on the rows shown and on the nodes on the way.
+//! key on, up to a limit (`visit_first`, `visit_page`), at a cost that depends only on the rows shown and on the nodes on the way.
 //!
 //! The definitions are in `specs`. `Trees` defines the nodes. `Flushes` defines how a node takes a packet in each mode. `Drains` defines
 //! trees without pending messages and trees built from rows alone. `Fits` says which trees are in order. `Plans` and `Loops` say which

@@ -28,9 +28,6 @@ part_none text place = let none : place - place ≡ 0 = omega arith in ap (λ n.
 abbrev pub Cut : List ℕ → List FieldSpan → ℕ → ℕ → Type 0
 Cut text spans start place = parts_of text ≡ pieces text spans ++ before_first_part (part text (record { start = start; end = place })) (parts_of (drop place text))
 
-pub cut_start : (text : List ℕ) → Cut text [] 0 0
-cut_start text = sym (nil-first (parts_of text))
-
 pub cut_comma : (text : List ℕ) (spans : List FieldSpan) (start place : ℕ) → place < length text → get_or text place 0 ≡ 44 → Cut text spans start place
     → Cut text (spans ++ record { start = start; end = place } ∷ []) (place + 1) (place + 1)
 cut_comma text spans start place within comma so_far =

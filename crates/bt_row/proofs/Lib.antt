@@ -1,4 +1,5 @@
 pub mod Fronts
+pub mod LeastFaults
 pub mod LentValues
 pub mod offered
 pub mod Packing

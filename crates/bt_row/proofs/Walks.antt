@@ -157,23 +157,12 @@ set_around n [] v within = absurd (omega arith)
 set_around zero (w ∷ vs) v within = refl
 set_around (suc n) (w ∷ vs) v within = let k : suc n + 1 ≡ suc (n + 1) = omega arith in rw k (ap (λ z. w ∷ z) (set_around n vs v (omega arith)))
 
-pub set_parts : (n : ℕ) (vs : List Value) (v : Value) → n < length vs → (take n vs ++ v ∷ []) ++ drop (n + 1) (take (length vs) vs) ≡ set vs n v
-set_parts n vs v within = ap (λ z. (take n vs ++ v ∷ []) ++ drop (n + 1) z) (take_all (length vs) vs (omega arith)) ∙ set_around n vs v within
-
 -- bytes of values after bytes of values
 join : (first second : List ℕ) → IsPacked first → IsPacked second → packed_values (unpacked first ++ unpacked second) ≡ first ++ second
 join first second f g = packed-append (unpacked first) (unpacked second) ∙ ap (λ z. z ++ packed_values (unpacked second)) f.same ∙ ap (λ z. first ++ z) g.same
 
-pub joined_packed : (first second : List ℕ) → IsPacked first → IsPacked second → IsPacked (first ++ second)
-joined_packed first second f g = subst IsPacked (join first second f g) (are_packed _ (in_range-append (unpacked first) (unpacked second) f.in_range g.in_range))
-
 pub joined : (first second : List ℕ) → IsPacked first → IsPacked second → unpacked (first ++ second) ≡ unpacked first ++ unpacked second
 joined first second f g = sym (ap unpacked (join first second f g)) ∙ unpacked-packed _ (in_range-append (unpacked first) (unpacked second) f.in_range g.in_range)
-
-pub chosen_more : (f : ℕ → Value) (xs : List ℕ) (i : ℕ) (v : Value) → i < length xs → f (get_or xs i 0) ≡ v → map f (take i xs) ++ v ∷ [] ≡ map f (take (i + 1) xs)
-chosen_more f [] i v within e = absurd (omega arith)
-chosen_more f (x ∷ xs) zero v within e = ap (λ z. z ∷ []) (sym e)
-chosen_more f (x ∷ xs) (suc i) v within e = let k : suc i + 1 ≡ suc (i + 1) = omega arith in rw k (ap (λ z. f x ∷ z) (chosen_more f xs i v (omega arith) e))
 
 none_some : (v : Value) → None ≡ Some v → ⊥
 none_some v e = (cc)

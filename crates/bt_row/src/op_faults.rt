@@ -1,9 +1,11 @@
 //! Whether operations fit a schema.
-ghost use Rattle.std.specs.Prelude.{◌≡◌};
+ghost use Rattle.std.specs.Prelude.{◌≡◌, OnOk};
 ghost use Rattle.std.specs.List.{filter_map};
 ghost use Rattle.std.specs.Option.{option_to_list};
+ghost use Rattle.bt_row.specs.Fits.{OpInRange, OpsInRange};
 ghost use Rattle.bt_row.specs.Ops as spec;
 ghost use Rattle.bt_value.specs.Refusals.{least, least_from};
+ghost use Rattle.bt_value.specs.Values.{IsInRange};
 
 use crate::op::{Action, MOST_OPS, Op};
 use crate::schema::{Schema, is_of_kind};
@@ -22,12 +24,14 @@ fn open_kind(schema: &Schema, place: usize) -> Option<Kind>
 
 // The fault of an operation that sets a value in a column of this kind. `None` means that there is no column that it may change.
 fn set_fault(item: u64, value: &Value, kind: Option<Kind>) -> Option<Refusal>
-    ensures { result ≡ spec.set_fault item value.now kind }
+    ensures fault { result ≡ spec.set_fault item value.now kind }
+    ensures in_range { IsInRange value.now }
 {
+    let value = value.as_ref();
     let Some(kind) = kind else {
         return Some(Refusal::NoSuchColumn);
     };
-    if is_of_kind(kind, value.as_ref()) {
+    if is_of_kind(kind, value) {
         return None;
     }
     Some(Refusal::BadField(item))
@@ -46,11 +50,12 @@ fn number_fault(kind: Option<Kind>) -> Option<Refusal>
 
 // The fault of an operation, if it has one.
 fn fault_of(schema: &Schema, item: u64, op: &Op) -> Option<Refusal>
-    ensures { result ≡ spec.fault_of schema.now item op.now }
+    ensures fault { result ≡ spec.fault_of schema.now item op.now }
+    ensures in_range { OpInRange op.now }
 {
     match op.action() {
         Action::Set(place, value) => set_fault(item, value, open_kind(schema, place)),
-        Action::Make(_, place, _) => number_fault(open_kind(schema, place)),
+        Action::Make(_, place, _number) => number_fault(open_kind(schema, place)),
     }
 }
 
@@ -66,7 +71,8 @@ fn with_fault(found: Option<Refusal>, fault: Option<Refusal>) -> Option<Refusal>
 
 // The least fault of the operations, if they have one.
 fn least_fault(schema: &Schema, item: u64, ops: &[Op]) -> Option<Refusal>
-    ensures { result ≡ least (filter_map (spec.fault_of schema.now item) ops.now) }
+    ensures fault { result ≡ least (filter_map (spec.fault_of schema.now item) ops.now) }
+    ensures in_range { OpsInRange ops.now }
 {
     let mut found = None;
     for op in ops {
@@ -78,7 +84,8 @@ fn least_fault(schema: &Schema, item: u64, ops: &[Op]) -> Option<Refusal>
 /// Whether these are 1 to 16 operations on columns after the key of this schema. Each must have a value of its column or, if it is
 /// arithmetic, an int column. They are refused as in `read_ops` of `bt_rowtype`. Takes no memory.
 pub fn check_ops(schema: &Schema, item: u64, ops: &[Op]) -> Result<(), Refusal>
-    ensures { result ≡ spec.checked_ops schema.now item ops.now }
+    ensures answer { result ≡ spec.checked_ops schema.now item ops.now }
+    ensures in_range { OnOk result (OpsInRange ops.now) }
 {
     if ops.is_empty() || ops.len() > MOST_OPS {
         return Err(Refusal::BadLength(item));

@@ -3,7 +3,7 @@ ghost use Rattle.std.specs.Prelude.{◌≡◌, ◌≤◌, ◌<◌, ◌+◌, ◌-
 ghost use Rattle.bt_row.specs.Arithmetic.{Makes, Sets};
 ghost use Rattle.bt_value.specs.Kinds.{Number, Bytes, Bit};
 ghost use Rattle.bt_row.specs.Ops.{after_action};
-ghost use Rattle.bt_value.specs.Values.{BytesFit, IsInRange};
+ghost use Rattle.bt_value.specs.Values.{AreInRange, BytesFit, IsInRange};
 ghost use Rattle.bt_row.specs.inside.Packing.{IsPacked, int_bytes, packed_values, packed_content, packed_value, unpacked};
 ghost use Rattle.bt_value.specs.Views.{value_of_ref};
 
@@ -221,6 +221,13 @@ impl Row {
         ensures values { unpacked result.now ≡ self.now }
     {
         self.bytes.as_slice()
+    }
+
+    // What is true of any row: its values are within the ranges of their kinds. It does nothing: a call whose contract states this calls it.
+    pub(crate) fn soundness(&self)
+        ensures { AreInRange self.now }
+    {
+        let _bytes = self.as_bytes();
     }
 
     /// The number of values in the row.

@@ -2,7 +2,7 @@
 ghost use Rattle.std.specs.Prelude.{◌≡◌, ◌≤◌, Ok, Err, if◌then◌else◌, drop, length, take};
 ghost use Rattle.bt_row.specs.Ops.{named_from};
 ghost use Rattle.bt_row.specs.Schemas.{are_apart, checked_as, fit_columns, has_column as has_column_named, is_schema};
-ghost use Rattle.bt_value.specs.Values.{fits_kind};
+ghost use Rattle.bt_value.specs.Values.{AreInRange, fits_kind};
 ghost use Rattle.bt_value.specs.Views.{value_of_ref};
 
 use crate::row::Row;
@@ -82,19 +82,36 @@ impl Schema {
         self.keys
     }
 
-    /// Whether a row fits this schema. `BadLength` if its length differs, `BadField` if a value is not of its column.
+    /// Whether a row fits this schema. `BadLength` if its length differs, `BadField` if a value is not of its column. Takes no memory.
     pub fn check_row(&self, item: u64, row: &Row) -> Result<(), Refusal>
-        ensures { result ≡ checked_as self.now.columns item row.now }
+        ensures answer { result ≡ checked_as self.now.columns item row.now }
+        ensures in_range { AreInRange row.now }
     {
-        let columns = self.columns.as_slice();
-        if row.len() != columns.len() {
-            return Err(Refusal::BadLength(item));
-        }
-        if are_of_columns(columns, row.values()) {
-            Ok(())
-        } else {
-            Err(Refusal::BadField(item))
-        }
+        check_values(self.columns.as_slice(), item, row)
+    }
+
+    /// Whether values fit the key columns of this schema, one value for each. They are refused as in [`Schema::check_row`].
+    pub fn check_key(&self, item: u64, key: &Row) -> Result<(), Refusal>
+        ensures answer { result ≡ checked_as (take self.now.keys self.now.columns) item key.now }
+        ensures in_range { AreInRange key.now }
+    {
+        check_values(self.key_columns(), item, key)
+    }
+}
+
+// Whether values fit columns, or their refusal as this item.
+fn check_values(columns: &[Column], item: u64, values: &Row) -> Result<(), Refusal>
+    ensures answer { result ≡ checked_as columns.now item values.now }
+    ensures in_range { AreInRange values.now }
+{
+    values.soundness();
+    if values.len() != columns.len() {
+        return Err(Refusal::BadLength(item));
+    }
+    if are_of_columns(columns, values.values()) {
+        Ok(())
+    } else {
+        Err(Refusal::BadField(item))
     }
 }
 

@@ -11,6 +11,7 @@ use Rattle.bt_value.specs.declared.value.Value.{Value}
 use Rattle.bt_keycode.specs.Keys.{Key, key_cmp}
 use Rattle.bt_messages.specs.Effects.{Rows, rows_after}
 use Rattle.bt_messages.specs.Messages.{Messages, sorted_batch}
+use Rattle.bt_messages.proofs.offered.Rows.{rows_after-sorted_batch}
 use Rattle.bt_node.specs.Drains.{packed}
 use Rattle.bt_node.specs.Fits.{HasShape}
 use Rattle.bt_node.specs.Flushes.{holds, sunk}
@@ -106,6 +107,29 @@ module _ (schema : Schema) (shape : Shape) (rows : Rows (List Value)) (batch : R
   pub indexes_stay_sound : (indexes : List Index) → AreSoundIndexes schema shape rows indexes → AreSoundIndexes schema shape (rows_after row_effect batch rows) (indexes_after rows batch indexes)
   indexes_stay_sound [] sound = tt
   indexes_stay_sound (index ∷ indexes) sound = (index_stays_sound index sound.0, indexes_stay_sound indexes sound.1)
+
+-- A batch may be sorted by key before the indexes are sent what it means.
+module _ (schema : Schema) (shape : Shape) (rows : Rows (List Value)) (batch : RowMessages) (sorted : T (is_sorted key_cmp rows)) (before
+    : AllStand schema rows) (after : AllStand schema (rows_after row_effect batch rows)) where
+  sorted_after : AllStand schema (rows_after row_effect (sorted_batch batch) rows)
+  sorted_after = subst (AllStand schema) (sym (rows_after-sorted_batch row_effect batch rows sorted)) after
+
+  packet-sorted : (index : Index) → IsSoundIndex schema shape rows index → packet_of rows (sorted_batch batch) index ≡ packet_of rows batch index
+  packet-sorted index sound =
+      sym ((turns schema shape rows (sorted_batch batch) sorted before sorted_after index sound).messages)
+      ∙ ap (λ (effects : List Effect). sorted_batch (sent_for_all index.def index.cover effects)) (effects-sorted_batch batch rows sorted)
+      ∙ (turns schema shape rows batch sorted before after index sound).messages
+
+  pub indexes-sorted : (indexes : List Index) → AreSoundIndexes schema shape rows indexes
+      → indexes_after rows (sorted_batch batch) indexes ≡ indexes_after rows batch indexes
+  indexes-sorted [] sound = refl
+  indexes-sorted (index ∷ indexes) sound = λ i. sunk_index index (packet-sorted index sound.0 i) ∷ indexes-sorted indexes sound.1 i
+
+  pub counts-sorted : (indexes : List Index) → AreSoundIndexes schema shape rows indexes
+      → map (λ index. sent_count index (packet_of rows (sorted_batch batch) index)) indexes
+      ≡ map (λ index. sent_count index (packet_of rows batch index)) indexes
+  counts-sorted [] sound = refl
+  counts-sorted (index ∷ indexes) sound = λ i. sent_count index (packet-sorted index sound.0 i) ∷ counts-sorted indexes sound.1 i
 
 both_hold : (a b : Bool) → (a && b) ≡ true → (a ≡ true) × (b ≡ true)
 both_hold true true h = (refl, refl)

@@ -1,20 +1,11 @@
--- Which messages the records of a batch encode, and that a table stays sound under them. Serves the invariant of a table.
-use Rattle.std.proofs.Common.{ℕ, arith, ◌+◌, ◌≡◌, ◌∙◌, ◌++◌, Bool, true, false, not, List, [], ◌∷◌, refl, sym, ap, subst, T, take, Option, Some, None, IfOk, IfSome, Result, Ok, Err}
+-- A table stays sound under a batch, and when its indexes or its trees change. Serves the invariant of a table.
+use Rattle.std.proofs.Common.{ℕ, arith, ◌+◌, ◌≡◌, ◌∙◌, ◌++◌, Bool, true, false, not, List, [], ◌∷◌, refl, sym, ap, subst, T, Option, Some, None, IfSome}
 use Rattle.std.specs.FinMap.{is_sorted}
-use Rattle.std.specs.List.{filter_map, list_all}
-use Rattle.std.specs.Result.{result_ok}
-use Rattle.bt_row.specs.Ops.{after_ops, default_row, upsert_as}
-use Rattle.bt_row.specs.Fits.{OpsFit}
-use Rattle.bt_row.specs.Schemas.{Schema, fit_columns, read_as}
-use Rattle.bt_value.specs.Values.{AreInRange}
-use Rattle.bt_row.specs.declared.op.Op.{Op}
+use Rattle.std.specs.List.{list_all}
+use Rattle.bt_row.specs.Schemas.{Schema}
 use Rattle.bt_value.specs.Refusals.{least}
-use Rattle.bt_value.specs.declared.refusal.Refusal.{Refusal}
 use Rattle.bt_value.specs.declared.refusal.Refusal.TheVariants.{Building, NotEmpty}
 use Rattle.bt_value.specs.declared.value.Value.{Value}
-use Rattle.bt_row.proofs.offered.Fits.{after_ops_fits, after_ops_key, default_row_fits, default_row_key, read_fits, upsert_fits}
-use Rattle.bt_keycode.specs.Codes.{code_of}
-use Rattle.bt_keycode.proofs.offered.Ranges.{OpsInRange, after_ops_in_range, default_row_in_range, read_in_range, upsert_in_range}
 use Rattle.bt_keycode.specs.Keys.{key_cmp}
 use Rattle.bt_node.specs.Fits.{HasShape}
 use Rattle.bt_node.specs.Flushes.{holds}
@@ -23,11 +14,9 @@ use Rattle.bt_node.specs.Trees.{Shape, Tree}
 use Rattle.bt_node.proofs.offered.PackedTrees.{drained-has_shape, drained-holds, packed-has_shape, packed-holds, rebuilt-has_shape, rebuilt-holds}
 use Rattle.bt_node.proofs.offered.ShapedTrees.{holds-sorted}
 use Rattle.bt_fanout.specs.Effects.{entry_effect, entry_meaning, row_effect, row_meaning}
-use Rattle.bt_rowtype.specs.declared.item.Item.{Item}
-use Rattle.bt_rowtype.specs.declared.item.Item.TheVariants.{Put, Del, Ups}
-use Rattle.bt_batch.specs.Batches.{KeyedMessage, RowMessages, del_of, messages_of, put_of, read_batch, read_key, read_message, ups_of}
-use Rattle.bt_value.specs.Results.{map_ok, one_if}
-use Rattle.bt_table.specs.Standing.{AllStand, AreOfSchema, IsOfSchema, IsSoundIndex, IsSoundTable, Stands, Suits}
+use Rattle.bt_batch.specs.Batches.{RowMessages}
+use Rattle.bt_value.specs.Results.{one_if}
+use Rattle.bt_table.specs.Standing.{AllStand, AreOfSchema, IsSoundIndex, IsSoundTable, Suits}
 use Rattle.bt_table.specs.Tables.{Intact, PlainTable, after_batch}
 use Rattle.bt_fanout.specs.Entries.{Definition}
 use Rattle.bt_fanout.proofs.offered.Suiting.{of_nothing}
@@ -36,61 +25,6 @@ use Rattle.bt_table.specs.Indexes.{Index, built_index, empty_index, index_named,
 use Rattle.bt_table.proofs.Indexes.{all_packed-sound, built-sound, indexes_stay_sound, sound-append, sound-found, sound-remove, sound-set}
 use Rattle.bt_table.proofs.Sinks.{has_shape-after_batch, holds-after_batch}
 use Rattle.bt_table.proofs.Standing.{rows_after-stand}
-
--- ---- messages that records encode
-
-put_of_schema : (schema : Schema) (row : List Value) → fit_columns schema.columns row ≡ true → AreInRange row → IsOfSchema schema (put_of schema.keys row)
-put_of_schema schema row fits range = λ old stands. record { placed = refl; fits = fits; in_range = range }
-
--- a row of a key after operations of the schema
-changed : (schema : Schema) (key row : List Value) (ops : List Op) → OpsFit schema ops → OpsInRange ops → Stands schema (code_of key) row → Stands schema (code_of key) (after_ops ops row)
-changed schema key row ops fit range stands = record {
-  placed = stands.placed ∙ ap code_of (sym (after_ops_key schema ops row fit stands.fits));
-  fits = after_ops_fits schema ops row fit stands.fits;
-  in_range = after_ops_in_range ops row range stands.in_range;
-}
-
-ups_of_schema : (schema : Schema) (key : List Value) (ops : List Op) → fit_columns (take schema.keys schema.columns) key ≡ true → AreInRange key → OpsFit schema ops → OpsInRange ops
-    → IsOfSchema schema (ups_of schema (key, ops))
-ups_of_schema schema key ops key_fit key_range fit range = by_old
-  where
-    by_old : IsOfSchema schema (ups_of schema (key, ops))
-    by_old None stands = changed schema key (default_row schema key) ops fit range (record {
-      placed = ap code_of (sym (default_row_key schema key key_fit));
-      fits = default_row_fits schema key key_fit;
-      in_range = default_row_in_range schema key key_range;
-    })
-    by_old (Some row) stands = changed schema key row ops fit range stands
-
-message_of_schema : (schema : Schema) (item : ℕ) (line : Item) → IfOk (read_message schema item line) (IsOfSchema schema)
-message_of_schema schema item (Put fields) =
-    elim (read_as schema.columns item fields) as (λ r. read_as schema.columns item fields ≡ r → IfOk r AreInRange → IfOk (map_ok (put_of schema.keys) r) (IsOfSchema schema)) [
-      | Ok row ↦ λ is range. put_of_schema schema row (read_fits schema.columns item fields row is) range
-      | Err refusal ↦ λ is range. tt
-    ] refl (read_in_range schema.columns item fields)
-message_of_schema schema item (Del fields) = elim (read_key schema item fields) as (λ r. IfOk (map_ok del_of r) (IsOfSchema schema)) [ Ok key ↦ λ old stands. tt | Err refusal ↦ tt ]
-message_of_schema schema item (Ups fields) =
-    elim (upsert_as schema item fields) as (λ r. upsert_as schema item fields ≡ r → IfOk r (λ upsert. AreInRange upsert.0 × OpsInRange upsert.1)
-    → IfOk (map_ok (ups_of schema) r) (IsOfSchema schema)) [
-      | Ok upsert ↦ λ is range.
-          let fits = upsert_fits schema item fields upsert.0 upsert.1 is in
-          ups_of_schema schema upsert.0 upsert.1 fits.0 range.0 fits.1 range.1
-      | Err refusal ↦ λ is range. tt
-    ] refl (upsert_in_range schema item fields)
-
-one_message : (schema : Schema) (read : Result KeyedMessage Refusal) (others : List (Result KeyedMessage Refusal)) → IfOk read (IsOfSchema schema) → AreOfSchema schema (filter_map result_ok others)
-    → AreOfSchema schema (filter_map result_ok (read ∷ others))
-one_message schema (Ok message) others fit rest = (fit, rest)
-one_message schema (Err refusal) others fit rest = rest
-
-lines_of_schema : (schema : Schema) (item : ℕ) (lines : List Item) → AreOfSchema schema (filter_map result_ok (read_batch schema item lines))
-lines_of_schema schema item [] = tt
-lines_of_schema schema item (line ∷ lines) =
-    one_message schema (read_message schema item line) (read_batch schema (item + 1) lines) (message_of_schema schema item line) (lines_of_schema schema (item + 1) lines)
-
--- the messages of a batch are of the schema that they are read by
-pub batch_of_schema : (schema : Schema) (items : List Item) → AreOfSchema schema (messages_of schema items)
-batch_of_schema schema items = lines_of_schema schema 1 items
 
 -- ---- tables
 

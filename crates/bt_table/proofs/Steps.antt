@@ -4,20 +4,23 @@ use Rattle.std.proofs.Common.{refl, subst, length, length-set, map, option_map, 
 use Rattle.std.proofs.lemmas.Bool.{leb-false}
 use Rattle.std.proofs.lemmas.List.{length-map, length_push}
 use Rattle.std.specs.Prelude.{IsSome}
-use Rattle.std.specs.FinMap.{is_sorted}
+use Rattle.std.specs.FinMap.{find, is_sorted}
 use Rattle.std.specs.List.{All, list_all, remove}
 use Rattle.bt_value.specs.Refusals.{least}
 use Rattle.bt_row.specs.Schemas.{Schema}
 use Rattle.bt_value.specs.Results.{or_refused, unless, and_then, map_ok, one_if}
 use Rattle.bt_value.specs.declared.refusal.Refusal.TheVariants.{AlreadyComplete, NameTaken, NoSuchTree, TooMany}
 use Rattle.bt_value.specs.declared.value.Value.{Value}
-use Rattle.bt_keycode.specs.Keys.{key_cmp}
+use Rattle.bt_keycode.specs.Codes.{code_of}
+use Rattle.bt_keycode.specs.Keys.{Key, key_cmp}
 use Rattle.bt_load.specs.Loads.{text_rows}
 use Rattle.bt_load.specs.Maps.{map_of}
 use Rattle.bt_load.proofs.offered.Loaded.{map_of-sorted, text_rows-of}
 use Rattle.bt_table.proofs.Loads.{map_of-stand}
 use Rattle.bt_messages.specs.Effects.{Rows, rows_after}
 use Rattle.bt_messages.specs.Messages.{Messages, sorted_batch}
+use Rattle.bt_messages.proofs.offered.Pieces.{sorted-sorted_batch, sorted_batch-sorted}
+use Rattle.bt_messages.proofs.offered.Rows.{rows_after-sorted_batch}
 use Rattle.bt_node.specs.Drains.{packed}
 use Rattle.bt_node.specs.Flushes.{sunk}
 use Rattle.bt_node.specs.Trees.{Shape, leaf}
@@ -25,31 +28,33 @@ use Rattle.bt_node.proofs.offered.PackedTrees.{packed-holds}
 use Rattle.bt_fanout.specs.Covers.{cover_after, next_rows}
 use Rattle.bt_fanout.specs.Effects.{EntryMessage, SuitsEffect, effects_of, entry_meaning, row_effect, row_meaning}
 use Rattle.bt_rowtype.specs.declared.item.Item.{Item}
-use Rattle.bt_batch.specs.Batches.{RowMessages, batch_refusals, messages_of}
+use Rattle.bt_batch.specs.Batches.{RowMessages, batch_refusals, messages_of, read_key}
+use Rattle.bt_batch.proofs.offered.OfSchema.{batch_of_schema, length-batch, length-sorted_batch, sorted_of_schema}
 use Rattle.bt_fanout.specs.Entries.{Definition, IsWithin}
 use Rattle.bt_fanout.specs.Promises.{SuitsRows, own_puts}
 use Rattle.bt_fanout.specs.declared.cover.Cover.{Cover}
-use Rattle.bt_table.specs.Calls.{Apply, BuildStep, Call, CreateIndex, Drain, Draining, DropIndex, IsStep, Load, Primary, Rebuild, Rebuilding, Secondary}
-use Rattle.bt_table.specs.Calls.{ShowsIndex, ShowsRows, Upkeep, after_build, after_load, built, dropped, index_refusals, is_bare, is_primary, load_refusals}
-use Rattle.bt_table.specs.Calls.{most_indexes, renewed_tree, renewed_index, secondary, step, tree_named, unless_any, with_index, with_index_at, with_renewed}
+use Rattle.bt_table.specs.Calls.{Apply, ApplyMessages, BuildStep, Call, CreateIndex, Drain, Draining, DropIndex, Get, GetAt, IsStep, IsTextOfMessages}
+use Rattle.bt_table.specs.Calls.{Load, Primary, Rebuild, Rebuilding, Secondary, ShowsIndex, ShowsRows, Upkeep, after_build, after_load, after_messages}
+use Rattle.bt_table.specs.Calls.{built, dropped, index_refusals, is_bare, is_primary, load_refusals, most_indexes, renewed_tree, renewed_index, secondary}
+use Rattle.bt_table.specs.Calls.{sent_counts, step, tree_named, unless_any, with_index, with_index_at, with_renewed}
 use Rattle.bt_table.specs.Calls.{with_renewed_index, with_renewed_rows, with_rows, without_index}
-use Rattle.bt_table.specs.Indexes.{EntryTree, Index, advanced, built_index, index_named, index_of_ref, index_with, indexes_of, is_complete, packet_of, sent_count}
+use Rattle.bt_table.specs.Indexes.{EntryTree, Index, advanced, built_index, index_named, index_of_ref, index_with, indexes_of, is_complete}
 use Rattle.bt_table.specs.inside.IndexTrees.{empty_head, entry_tree, packet_for, count_for, sunk_tree, sunk_trees, with_cover}
 use Rattle.bt_table.specs.inside.Parts.{AreSoundParts}
-use Rattle.bt_table.specs.Standing.{AllStand, IsSoundIndex, IsSoundTable, Suits}
-use Rattle.bt_table.specs.Tables.{PlainTable, TableState, Intact, after_batch, held_by, state_of}
+use Rattle.bt_table.specs.Standing.{AllStand, AreOfSchema, IsSoundIndex, IsSoundTable, SuitMessages, Suits}
+use Rattle.bt_table.specs.Tables.{PlainTable, TableState, Intact, Lost, after_batch, held_by, state_of}
 use Rattle.bt_table.specs.declared.index.IndexHead.{IndexHead}
 use Rattle.bt_table.specs.declared.index.IndexRef.{IndexRef}
 use Rattle.bt_table.specs.declared.reply.Reply.{Reply}
-use Rattle.bt_table.specs.declared.reply.Reply.TheVariants.{Batch, Built, Created, Drained, Dropped, Loaded, Rebuilt}
+use Rattle.bt_table.specs.declared.reply.Reply.TheVariants.{Batch, Built, Created, Drained, Dropped, Loaded, Rebuilt, Row}
 use Rattle.bt_table.specs.declared.reply.SentCount.{SentCount}
 use Rattle.bt_table.specs.declared.trees.Trees.{Trees}
-use Rattle.bt_table.proofs.Indexes.{building_packet-is, counts_are, each_suits, holds_selection, indexes_of-append, indexes_of-remove, indexes_of-set}
-use Rattle.bt_table.proofs.Indexes.{indexes_suit, length-indexes_of, length-remove_same, length-sunk, put_again, rows_within, set_same, sunk_is}
+use Rattle.bt_table.proofs.Indexes.{building_packet-is, counts-sorted, counts_are, each_suits, holds_selection, indexes_of-append, indexes_of-remove}
+use Rattle.bt_table.proofs.Indexes.{indexes_of-set, indexes-sorted, indexes_suit, length-indexes_of, length-remove_same, length-sunk, put_again, rows_within, set_same, sunk_is}
 use Rattle.bt_table.proofs.Indexes.{with_entry_trees}
 use Rattle.bt_table.proofs.offered.KeyOrder.{keys_rise}
 use Rattle.bt_table.proofs.Sinks.{stepped}
-use Rattle.bt_table.proofs.Sound.{batch_keeps_sound, batch_of_schema, found-sound, none_building, renewed-holds, rows_sorted, with_built_index-sound}
+use Rattle.bt_table.proofs.Sound.{batch_keeps_sound, found-sound, none_building, renewed-holds, rows_sorted, with_built_index-sound}
 use Rattle.bt_table.proofs.Sound.{with_renewed_index-sound, with_renewed_rows-sound, with_rows-sound, with_index-sound, without_index-sound}
 use Rattle.bt_table.proofs.Standing.{rows_after-stand}
 
@@ -92,6 +97,64 @@ pub has_trees : (schema : Schema) (heads : List IndexHead) (kept : Option Trees)
 has_trees schema heads None name free = absurd cc
 has_trees schema heads (Some trees) name free = refl
 
+-- ---- messages of a batch
+
+-- messages may be sorted by key before a sound table applies them
+after-sorted : (table : PlainTable) → IsSoundTable table → (batch : RowMessages) → AreOfSchema table.schema batch
+    → after_messages table (sorted_batch batch) ≡ after_messages table batch
+after-sorted table sound batch fit =
+    let sorted = rows_sorted table sound in
+    let stand = rows_after-stand table.schema batch table.rows fit sound.rows in
+    let rows = rows_after-sorted_batch row_effect batch table.rows sorted in
+    let packet = sorted_batch-sorted (sorted_batch batch) (sorted-sorted_batch batch) in
+    let indexes = indexes-sorted table.schema table.shape table.rows batch sorted sound.rows stand table.indexes sound.indexes in
+    let counts = counts-sorted table.schema table.shape table.rows batch sorted sound.rows stand table.indexes sound.indexes in
+    λ i. (
+      Intact (record {
+        schema = table.schema;
+        shape = table.shape;
+        rows = rows i;
+        tree = sunk row_meaning table.shape table.tree (packet i);
+        indexes = indexes i;
+      }),
+      Batch (length-sorted_batch batch i) (counts i),
+    )
+
+-- a batch that is not refused does what its messages do
+text_is : (table : PlainTable) (items : List Item) → least (batch_refusals table.schema items) ≡ None
+    → step (Intact table) (Apply items) ≡ Ok (after_messages table (messages_of table.schema items))
+text_is table items allowed =
+    let batch = messages_of table.schema items in
+    ap (λ o. unless o (Intact (after_batch table batch), Batch (length items) (sent_counts table batch))) allowed
+    ∙ (λ i. Ok (Intact (after_batch table batch), Batch (sym (length-batch table.schema items allowed) i) (sent_counts table batch)))
+
+pub is_text_of_messages : (state : TableState) (items : List Item) → IsTextOfMessages state items
+is_text_of_messages Lost items = tt
+is_text_of_messages (Intact table) items = text_is table items
+
+-- a table that has trees is the one that they hold
+state_as_held : (schema : Schema) (heads : List IndexHead) (kept : Option Trees) (trees : Trees) → kept ≡ Some trees → (state : TableState)
+    → state_of schema heads kept ≡ state → state ≡ Intact (held_by schema trees.rows (indexes_of heads trees.entries.items))
+state_as_held schema heads kept trees is state was = sym was ∙ ap (state_of schema heads) is
+
+-- messages that suit it are of its schema
+pub fit_as_held : (schema : Schema) (heads : List IndexHead) (kept : Option Trees) (trees : Trees) → kept ≡ Some trees → (state : TableState)
+    → state_of schema heads kept ≡ state → (messages : RowMessages) → SuitMessages state messages → AreOfSchema schema messages
+fit_as_held schema heads kept trees is state was messages suits =
+    subst (λ s. SuitMessages s messages) (state_as_held schema heads kept trees is state was) suits
+
+-- the fields of a key are the text of its code
+pub key_is_text : (schema : Schema) (heads : List IndexHead) (kept : Option Trees) (trees : Trees) → kept ≡ Some trees → (state : TableState)
+    → state_of schema heads kept ≡ state → (fields : List (List ℕ)) (key : List Value) → read_key schema 1 fields ≡ Ok key → (code : Key)
+    → code ≡ code_of key → step state (GetAt code) ≡ step state (Get fields)
+key_is_text schema heads kept trees is state was fields key read code coded =
+    let table = held_by schema trees.rows (indexes_of heads trees.entries.items) in
+    let here = state_as_held schema heads kept trees is state was in
+    ap (λ s. step s (GetAt code)) here
+    ∙ ap (λ (k : Key). step (Intact table) (GetAt k)) coded
+    ∙ sym (ap (map_ok (λ (k : List Value). (Intact table, Row (find key_cmp (code_of k) table.rows)))) read)
+    ∙ ap (λ s. step s (Get fields)) (sym here)
+
 -- trees that were put back beside the heads of the indexes after the call
 module _ (schema : Schema) (heads : List IndexHead) (after : Option Trees) (new : Trees) (put : after ≡ Some new) where
   put_is_sound : IsSoundTable (held_by schema new.rows (indexes_of heads new.entries.items)) → length new.entries.items ≡ length heads → length heads ≤ most_indexes → AreSoundParts schema heads after
@@ -117,48 +180,82 @@ module _ (schema : Schema) (heads : List IndexHead) (kept : Option Trees) (trees
   few_indexes : length heads ≤ most_indexes
   few_indexes = (subst (AreSoundParts schema heads) is sound).1.1
 
-  module _ (items : List Item) where
-    abbrev batch : RowMessages
-    batch = messages_of schema items
+  -- ---- messages
 
+  -- a packet is sorted by key and of the schema
+  module _ (packet : RowMessages) (sorted : sorted_batch packet ≡ packet) (fit : AreOfSchema schema packet) where
     abbrev sent_by : IndexHead → Messages EntryMessage
-    sent_by = packet_for (effects_of (sorted_batch batch) before.rows)
+    sent_by = packet_for (effects_of packet before.rows)
 
-    rows_stand : AllStand schema (rows_after row_effect batch before.rows)
-    rows_stand = rows_after-stand schema batch before.rows (batch_of_schema schema items) was_sound.rows
+    rows_stand : AllStand schema (rows_after row_effect packet before.rows)
+    rows_stand = rows_after-stand schema packet before.rows fit was_sound.rows
 
-    pub suit : All (λ head. All (SuitsEffect head.def) (effects_of (sorted_batch batch) before.rows)) heads
-    suit = indexes_suit schema before.shape before.rows batch (rows_sorted before was_sound) was_sound.rows rows_stand heads trees.entries.items each_has_tree was_sound.indexes
+    pub suit : All (λ head. All (SuitsEffect head.def) (effects_of packet before.rows)) heads
+    suit =
+        subst (λ (p : RowMessages). All (λ head. All (SuitsEffect head.def) (effects_of p before.rows)) heads) sorted
+        (indexes_suit schema before.shape before.rows packet (rows_sorted before was_sound) was_sound.rows rows_stand
+        heads trees.entries.items each_has_tree was_sound.indexes)
 
     module _ (packets : List (Messages EntryMessage)) (packets_are : packets ≡ map sent_by heads) (taken : Trees) (took : kept ≡ Some taken) where
       pub each_has_packet : length packets ≡ length taken.entries.items
       each_has_packet = ap length packets_are ∙ length-map heads sent_by ∙ sym (ap (λ (t : Trees). length t.entries.items) (same is took) ∙ each_has_tree)
 
-      module _ (sent : List SentCount) (sent_are : sent ≡ map (count_for (effects_of (sorted_batch batch) before.rows)) heads) (new : Trees) (after : Option Trees) (put : after ≡ Some new)
-          (rows_are : new.rows ≡ (taken.rows.0, sunk row_meaning taken.rows.0 taken.rows.1 (sorted_batch batch))) (entries_are : new.entries.items ≡ sunk_trees taken.entries.items packets) where
+      module _ (sent : List SentCount) (sent_are : sent ≡ map (count_for (effects_of packet before.rows)) heads) (new : Trees)
+          (after : Option Trees) (put : after ≡ Some new) (rows_are : new.rows ≡ (taken.rows.0, sunk row_meaning taken.rows.0 taken.rows.1 packet))
+          (entries_are : new.entries.items ≡ sunk_trees taken.entries.items packets) where
         trees_are : new.entries.items ≡ sunk_trees trees.entries.items (map sent_by heads)
         trees_are = entries_are ∙ (λ i. sunk_trees (same is took i).entries.items (packets_are i))
 
-        stepped_to : held_by schema new.rows (indexes_of heads new.entries.items) ≡ after_batch before batch
-        stepped_to =
-            ap (λ t. held_by schema t (indexes_of heads new.entries.items)) (rows_are ∙ ap (λ (t : Trees). (t.rows.0, sunk row_meaning t.rows.0 t.rows.1 (sorted_batch batch))) (same is took))
-            ∙ stepped schema trees.rows.0 trees.rows.1 indexes (indexes_of heads new.entries.items) batch was_sound.tree
-            (ap (indexes_of heads) trees_are
-            ∙ sunk_is schema before.shape before.rows batch (rows_sorted before was_sound) was_sound.rows rows_stand heads trees.entries.items was_sound.indexes)
+        sunk_rows_are : new.rows ≡ (trees.rows.0, sunk row_meaning trees.rows.0 trees.rows.1 (sorted_batch packet))
+        sunk_rows_are =
+            rows_are ∙ ap (λ (t : Trees). (t.rows.0, sunk row_meaning t.rows.0 t.rows.1 packet)) (same is took)
+            ∙ ap (λ (p : RowMessages). (trees.rows.0, sunk row_meaning trees.rows.0 trees.rows.1 p)) (sym sorted)
 
-        pub batch_is_sound : AreSoundParts schema heads after
-        batch_is_sound =
-            put_is_sound schema heads after new put (subst IsSoundTable (sym stepped_to) (batch_keeps_sound before batch (batch_of_schema schema items) was_sound))
+        stepped_to : held_by schema new.rows (indexes_of heads new.entries.items) ≡ after_batch before packet
+        stepped_to =
+            ap (λ t. held_by schema t (indexes_of heads new.entries.items)) sunk_rows_are
+            ∙ stepped schema trees.rows.0 trees.rows.1 indexes (indexes_of heads new.entries.items) packet was_sound.tree
+            (ap (indexes_of heads) trees_are
+            ∙ ap (λ (p : RowMessages). indexes_of heads (sunk_trees trees.entries.items (map (packet_for (effects_of p before.rows)) heads))) (sym sorted)
+            ∙ sunk_is schema before.shape before.rows packet (rows_sorted before was_sound) was_sound.rows rows_stand
+            heads trees.entries.items was_sound.indexes)
+
+        pub messages_keep_sound : AreSoundParts schema heads after
+        messages_keep_sound =
+            put_is_sound schema heads after new put (subst IsSoundTable (sym stepped_to) (batch_keeps_sound before packet fit was_sound))
             (ap length trees_are ∙ length-sunk heads trees.entries.items sent_by each_has_tree) few_indexes
 
-        pub batch_is_step : (state : TableState) → state_of schema heads kept ≡ state → least (batch_refusals schema items) ≡ None
-            → IsStep state (state_of schema heads after) (Apply items) (Batch (length items) sent)
-        batch_is_step state was allowed =
-            let counts = sent_are ∙ counts_are schema before.shape before.rows batch (rows_sorted before was_sound) was_sound.rows rows_stand heads
+        pub messages_are_step : (state : TableState) → state_of schema heads kept ≡ state
+            → IsStep state (state_of schema heads after) (ApplyMessages packet) (Batch (length packet) sent)
+        messages_are_step state was =
+            let counts = sent_are ∙ ap (λ (p : RowMessages). map (count_for (effects_of p before.rows)) heads) (sym sorted)
+            ∙ counts_are schema before.shape before.rows packet (rows_sorted before was_sound) was_sound.rows rows_stand heads
             trees.entries.items each_has_tree was_sound.indexes in
-            ap (λ s. step s (Apply items)) (sym was ∙ ap (state_of schema heads) is)
-            ∙ ap (λ o. unless o (Intact (after_batch before batch), Batch (length items) (map (λ index. sent_count index (packet_of before.rows batch index)) indexes))) allowed
-            ∙ (λ i. Ok (sym (state_is_put schema heads after new put (after_batch before batch) stepped_to) i, Batch (length items) (sym counts i)))
+            ap (λ s. step s (ApplyMessages packet)) (sym was ∙ ap (state_of schema heads) is)
+            ∙ (λ i. Ok (sym (state_is_put schema heads after new put (after_batch before packet) stepped_to) i, Batch (length packet) (sym counts i)))
+
+  -- ---- records that encode messages
+
+  -- a packet is that of a batch that is not refused
+  module _ (items : List Item) (packet : RowMessages) (packet_is : packet ≡ sorted_batch (messages_of schema items)) (state : TableState)
+      (was : state_of schema heads kept ≡ state) where
+    here : state ≡ Intact before
+    here = state_as_held schema heads kept trees is state was
+
+    -- so the messages may be applied
+    pub packet_suits : SuitMessages state packet
+    packet_suits =
+        subst (λ s. SuitMessages s packet) (sym here)
+        (subst (AreOfSchema schema) (sym packet_is) (sorted_of_schema schema (messages_of schema items) (batch_of_schema schema items)))
+
+    -- to apply the packet is to apply the batch
+    pub packet_is_text : least (batch_refusals schema items) ≡ None → step state (ApplyMessages packet) ≡ step state (Apply items)
+    packet_is_text allowed =
+        ap (λ s. step s (ApplyMessages packet)) here
+        ∙ ap (λ (p : RowMessages). step (Intact before) (ApplyMessages p)) packet_is
+        ∙ ap Ok (after-sorted before was_sound (messages_of schema items) (batch_of_schema schema items))
+        ∙ sym (text_is before items allowed)
+        ∙ ap (λ s. step s (Apply items)) (sym here)
 
   module _ (state : TableState) (was : state_of schema heads kept ≡ state) where
     state_is : state ≡ Intact before

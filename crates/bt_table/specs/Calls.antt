@@ -11,7 +11,7 @@ use Rattle.bt_value.specs.Results.{or_refused, unless, and_then, map_ok, one_if}
 use Rattle.bt_value.specs.declared.refusal.Refusal.TheVariants.{AlreadyComplete, Building, Failed, NameTaken, NoSuchTree, NotEmpty, OutOfMemory, TooMany}
 use Rattle.bt_value.specs.declared.value.Value.{Value}
 use Rattle.bt_keycode.specs.Codes.{code_of}
-use Rattle.bt_keycode.specs.Keys.{key_cmp}
+use Rattle.bt_keycode.specs.Keys.{Key, key_cmp}
 use Rattle.bt_node.specs.Drains.{drained, packed, rebuilt}
 use Rattle.bt_node.specs.Flushes.{holds}
 use Rattle.bt_node.specs.Messages.{Meaning, Rows}
@@ -39,8 +39,12 @@ use Rattle.bt_table.specs.declared.reply.SentCount.{SentCount}
 pub data Call : Type 0 where
   -- apply the messages of a batch
   Apply : (items : List Item) → Call
+  -- apply messages of the table's schema
+  ApplyMessages : (messages : RowMessages) → Call
   -- return the row whose key these fields encode
   Get : (fields : List (List ℕ)) → Call
+  -- return the row at a key
+  GetAt : (key : Key) → Call
   -- create an index of a definition
   CreateIndex : (name : List ℕ) → (def : Definition) → Call
   -- read n more rows for an index
@@ -107,6 +111,10 @@ built table name n (Some found) = if is_complete found.1 then Err AlreadyComplet
 abbrev pub sent_counts : PlainTable → RowMessages → List SentCount
 sent_counts table batch = map (λ index. sent_count index (packet_of table.rows batch index)) table.indexes
 
+-- a table after it has applied messages, and the reply: how many they are, and how many each index was sent
+abbrev pub after_messages : PlainTable → RowMessages → TableState × Reply
+after_messages table messages = (Intact (after_batch table messages), Batch (length messages) (sent_counts table messages))
+
 -- ---- loading
 
 -- whether a tree is one leaf without rows
@@ -163,6 +171,8 @@ step Lost call = Err Failed
 step (Intact table) (Apply items) =
     unless_any (batch_refusals table.schema items)
     (Intact (after_batch table (messages_of table.schema items)), Batch (length items) (sent_counts table (messages_of table.schema items)))
+step (Intact table) (ApplyMessages messages) = Ok (after_messages table messages)
+step (Intact table) (GetAt key) = Ok (Intact table, Row (find key_cmp key table.rows))
 step (Intact table) (Get fields) = map_ok (λ key. (Intact table, Row (find key_cmp (code_of key) table.rows))) (read_key table.schema 1 fields)
 step (Intact table) (CreateIndex name def) = unless_any (name_refusals table name) (Intact (with_index table name def), Created name)
 step (Intact table) (BuildStep name count) = built table name count (index_named name table.indexes)
@@ -170,6 +180,12 @@ step (Intact table) (DropIndex name) = dropped table name (index_named name tabl
 step (Intact table) (Load text) = map_ok (after_load table) (loaded_rows table text)
 step (Intact table) (Drain name) = map_ok (λ after. (Intact after, Drained name)) (with_renewed Draining table name)
 step (Intact table) (Rebuild name) = map_ok (λ after. (Intact after, Rebuilt name)) (with_renewed Rebuilding table name)
+
+-- a batch of records is the text of its messages: unless it is refused, it does what they do
+abbrev pub IsTextOfMessages : TableState → List Item → Type 0
+IsTextOfMessages Lost items = Unit {0}
+IsTextOfMessages (Intact table) items =
+    least (batch_refusals table.schema items) ≡ None → step (Intact table) (Apply items) ≡ step (Intact table) (ApplyMessages (messages_of table.schema items))
 
 -- this call changes one table to the other and gives this reply
 abbrev pub IsStep : TableState → TableState → Call → Reply → Type 0

@@ -1,5 +1,5 @@
 -- Which key a row of a table is under, and what is true of a table between any two calls.
-use Rattle.std.specs.Prelude.{◌≡◌, ◌≤◌, true, length, List, [], ◌∷◌, Option, IfSome, T, map, take}
+use Rattle.std.specs.Prelude.{◌≡◌, ◌≤◌, true, length, List, [], ◌∷◌, T, map, take}
 use Rattle.std.specs.FinMap.{is_sorted}
 use Rattle.std.specs.List.{All}
 use Rattle.bt_row.specs.Schemas.{Schema}
@@ -14,11 +14,13 @@ use Rattle.bt_fanout.specs.Effects.{entry_effect, entry_meaning, row_effect, row
 use Rattle.bt_fanout.specs.Entries.{Definition, SuitsKinds, entry_of}
 use Rattle.bt_fanout.specs.Promises.{index_of}
 use Rattle.bt_fanout.specs.Selections.{select}
-use Rattle.bt_batch.specs.Batches.{KeyedMessage, RowMessages}
+use Rattle.bt_batch.specs.Batches.{RowMessages}
 use Rattle.bt_table.specs.Indexes.{Index, is_complete}
 use Rattle.bt_table.specs.Tables.{PlainTable, TableState, Intact, Lost}
 -- each row is under the code of its key columns, and is of the schema: it has one value of each column's kind, within the range of the kind
 pub use Rattle.bt_keycode.specs.Standing.{AllStand, Stands}
+-- a message is of a schema: from a row that belongs at its key, or from none, it gives one that belongs there, or none
+pub use Rattle.bt_batch.specs.Changes.{AreOfSchema, IsOfSchema}
 
 -- an index is sound beside rows: its definition is one of the schema, its tree fits the shape of the table and holds what its definition selects of the rows
 -- that it covers
@@ -63,16 +65,6 @@ abbrev pub IsSoundUnlessLost : TableState → Type 0
 IsSoundUnlessLost (Intact table) = IsSoundTable table
 IsSoundUnlessLost Lost = Unit {0}
 
--- a message is of a schema: from a row that belongs at its key, or from none, it gives one that belongs there, or none
-abbrev pub IsOfSchema : Schema → KeyedMessage → Type 0
-IsOfSchema schema message =
-    (old : Option (List Value)) → IfSome old (λ row. Stands schema message.0 row) → IfSome (row_effect old message.1) (λ row. Stands schema message.0 row)
-
--- each of the messages is of the schema
-abbrev pub AreOfSchema : Schema → RowMessages → Type 0
-AreOfSchema schema [] = Unit {0}
-AreOfSchema schema (message ∷ messages) = IsOfSchema schema message × AreOfSchema schema messages
-
 -- the rows strictly rise by the values of their key columns
 abbrev pub KeysRise : Schema → Rows (List Value) → Type 0
 KeysRise schema rows = T (is_sorted values_cmp (map (λ row. (take schema.keys row.1, row.1)) rows))
@@ -81,6 +73,11 @@ KeysRise schema rows = T (is_sorted values_cmp (map (λ row. (take schema.keys r
 abbrev pub Suits : TableState → Definition → Type 0
 Suits Lost def = Unit {0}
 Suits (Intact table) def = SuitsKinds def (kinds_of table.schema.columns) × (def.keys ≡ table.schema.keys)
+
+-- messages are of the schema of a table, if it is intact
+abbrev pub SuitMessages : TableState → RowMessages → Type 0
+SuitMessages Lost messages = Unit {0}
+SuitMessages (Intact table) messages = AreOfSchema table.schema messages
 
 -- a table is intact and has this schema
 abbrev pub HasSchema : TableState → Schema → Type 0

@@ -4,8 +4,8 @@
 ghost use Rattle.std.specs.Prelude.{◌≡◌, Err, IfErr, IfOk, IsErrOf, None, OnErr, OnOk, Some};
 ghost use Rattle.bt_value.specs.Refusals.{least};
 ghost use Rattle.bt_table.specs.Calls as spec;
-ghost use Rattle.bt_table.specs.Calls.{Apply, CreateIndex, DropIndex, Get, IsCertain, IsRefused, IsStep, Shows, StaysOrIsLost, index_refusals, is_primary, step, tree_named};
-ghost use Rattle.bt_table.specs.Standing.{CompleteIndexesHold, HasSchema, IsSoundUnlessLost, Suits};
+ghost use Rattle.bt_table.specs.Calls.{Apply, ApplyMessages, CreateIndex, DropIndex, Get, GetAt, IsCertain, IsRefused, IsStep, IsTextOfMessages, Shows, StaysOrIsLost, index_refusals, is_primary, step, tree_named};
+ghost use Rattle.bt_table.specs.Standing.{CompleteIndexesHold, HasSchema, IsSoundUnlessLost, SuitMessages, Suits};
 ghost use Rattle.bt_table.specs.Tables.{Intact, Lost, empty_table};
 
 mod load;
@@ -19,7 +19,8 @@ use crate::reply::Reply;
 use crate::trees::{TreeRoom, Trees, put_trees, sunk_all, sunk_one, take_trees};
 use crate::workforce::Workforce;
 use bt_fanout::{BuildStep, IndexDef, build_step};
-use bt_keycode::encode_row;
+use bt_keycode::{Key, encode_row};
+use bt_messages::Packet;
 use bt_node::{Shape, Tree};
 use bt_record::RecordLine;
 use bt_row::{Row, Schema};
@@ -118,6 +119,7 @@ impl Table {
 
     /// Applies the messages of a batch in order, to the rows and to each index, and returns their numbers. A lost table returns `Failed`. Otherwise the
     /// smallest refusal that applies is returned, and the table does not change. After `OutOfMemory` the table is as it was, or lost.
+    #[tactic(auto, using(crate::proofs::offered::Steps::unless_lost_hold, crate::proofs::Steps::is_text_of_messages))]
     pub fn apply<T, W: Workforce<T>>(
         &mut self,
         rt: &T,
@@ -131,13 +133,44 @@ impl Table {
         ensures memory { IsErrOf result Refusal.OutOfMemory → StaysOrIsLost self.old self.new }
         ensures kept { IfErr (step self.old (Apply items.now)) (λ _. self.new ≡ self.old) }
         ensures failed { self.old ≡ Lost → IsErrOf result Refusal.Failed }
+        ensures text { IsTextOfMessages self.old items.now }
+        ensures complete { CompleteIndexesHold self.new }
+        ensures sound { IsSoundUnlessLost self.new }
+    {
+        let Some(_trees) = &self.trees else {
+            return Err(Refusal::Failed);
+        };
+        let packet = crew.read_packet(rt, alloc, &self.schema, items)?;
+        self.apply_messages(rt, alloc, packet, crew)
+    }
+
+    /// Applies the messages of a packet in order, to the rows and to each index, and returns their numbers. Each message has to be of the schema of the table.
+    /// Those of [`Changes`](bt_batch::Changes) are, if they were checked by this schema. A lost table returns `Failed`, and there is no other refusal than
+    /// `OutOfMemory`, after which the table is as it was, or lost.
+    pub fn apply_messages<T, W: Workforce<T>>(
+        &mut self,
+        rt: &T,
+        alloc: Global,
+        packet: Packet<Row>,
+        crew: &W,
+    ) -> Result<Reply, Refusal>
+        requires ready { W.accepts crew.now }
+        requires suits { SuitMessages self.old packet }
+        ensures done { IfOk result (IsStep self.old self.new (ApplyMessages packet)) }
+        ensures refused { IfErr result (IsRefused self.old self.new (ApplyMessages packet)) }
+        ensures certain { IsCertain self.old (ApplyMessages packet) result }
+        ensures memory { IsErrOf result Refusal.OutOfMemory → StaysOrIsLost self.old self.new }
+        ensures kept { IfErr (step self.old (ApplyMessages packet)) (λ _. self.new ≡ self.old) }
+        ensures failed { self.old ≡ Lost → IsErrOf result Refusal.Failed }
         ensures complete { CompleteIndexesHold self.new }
         ensures sound { IsSoundUnlessLost self.new }
     {
         let Some(trees) = &self.trees else {
+            drop(packet);
             return Err(Refusal::Failed);
         };
-        let packet = crew.read_packet(rt, alloc, &self.schema, items)?;
+        let _sorted = packet.iter();
+        let count = packet.len();
         let FanOut { packets, sent } = fan_out(
             rt,
             alloc,
@@ -151,10 +184,7 @@ impl Table {
         let after = sunk_all(rt, alloc, crew, room, trees, packet, packets)?;
         put_trees(&mut self.trees, after);
         self.soundness();
-        Ok(Reply::Batch {
-            count: items.len(),
-            sent,
-        })
+        Ok(Reply::Batch { count, sent })
     }
 
     /// Whether an index of this name can be created: `NameTaken` if the tree of rows or an index has this name, `TooMany` if the table already has as many
@@ -299,13 +329,28 @@ impl Table {
         ensures complete { CompleteIndexesHold self.now }
         ensures sound { IsSoundUnlessLost self.now }
     {
-        let Some(trees) = &self.trees else {
+        let Some(_trees) = &self.trees else {
             return Err(Refusal::Failed);
         };
         let mut reader = RecordReader::new(alloc);
         let key = reader.read_key(alloc, &self.schema, 1, fields)?;
         let code = encode_row(alloc, &key, key.len())?;
-        Ok(Reply::Row(trees.rows.get(alloc, &code)?))
+        self.get_at(alloc, &code)
+    }
+
+    /// The row at a key, if there is one. The key of a row is the code of its key columns, as [`encode_row`] makes it. No other key has a row, so no key is
+    /// refused.
+    pub fn get_at(&self, alloc: Global, key: &Key) -> Result<Reply, Refusal>
+        ensures done { IfOk result (IsStep self.now self.now (GetAt key.now)) }
+        ensures refused { IfErr result (IsRefused self.now self.now (GetAt key.now)) }
+        ensures failed { self.now ≡ Lost → IsErrOf result Refusal.Failed }
+        ensures complete { CompleteIndexesHold self.now }
+        ensures sound { IsSoundUnlessLost self.now }
+    {
+        let Some(trees) = &self.trees else {
+            return Err(Refusal::Failed);
+        };
+        Ok(Reply::Row(trees.rows.get(alloc, key)?))
     }
 
     /// The tree of this name: the tree of the rows is `primary`, and each index has its own name. Allocates nothing.

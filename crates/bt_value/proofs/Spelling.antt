@@ -12,10 +12,6 @@ use Rattle.bt_value.specs.Texts.{is_binary}
 abbrev pub after : List ℕ → Option (List ℕ) → Option (List ℕ)
 after prefix rest = option_map (λ bs. prefix ++ bs) rest
 
-pub after_none : (rest : Option (List ℕ)) → rest ≡ after [] rest
-after_none None = refl
-after_none (Some bs) = refl
-
 after_more : (prefix : List ℕ) (b : ℕ) (rest : Option (List ℕ)) → after prefix (option_map (λ bs. b ∷ bs) rest) ≡ after (prefix ++ b ∷ []) rest
 after_more prefix b None = refl
 after_more prefix b (Some bs) = ap Some (sym (append_assoc prefix (b ∷ []) bs))
@@ -74,7 +70,3 @@ pub all_spelled : (digits prefix rest : List ℕ) → length rest ≡ 0 → leng
 unfolding kept bytes_of_hex
 all_spelled digits prefix [] none short so_far = ap kept (so_far ∙ ap Some (append-nil prefix)) ∙ short_kept prefix short
 all_spelled digits prefix (x ∷ rest) none short so_far = absurd (omega (arith, none))
-
--- at most this many of the bytes are taken
-pub short_take : (len : ℕ) (room : List ℕ) → len ≤ 255 → is_binary (take len room) ≡ true
-short_take len room few = le-leb (length (take len room)) 255 (omega (arith, few, length-take len room))

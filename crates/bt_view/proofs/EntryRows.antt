@@ -1,5 +1,5 @@
 -- Entries of an index as the rows that it selects, key by key. Serves scans and sums of an index.
-use Rattle.std.proofs.Common.{◌≡◌, ◌∙◌, Bool, true, false, List, [], ◌∷◌, Option, Some, None, refl, sym, ap, subst, cond, fold}
+use Rattle.std.proofs.Common.{ℕ, zero, suc, ◌≡◌, ◌∙◌, Bool, true, false, List, [], ◌∷◌, Option, Some, None, refl, sym, ap, subst, cond, fold, take}
 use Rattle.std.specs.FinMap.{put}
 use Rattle.std.specs.FinMap.Entries.{by_order}
 use Rattle.std.specs.List.{cons_option}
@@ -71,6 +71,14 @@ module _ (kinds : List Kind) where
       by_test true more = (all.0, all.1, more)
       by_test false more = more
 
+  -- the first entries show the first rows
+  pub shown-take : (n : ℕ) (es rs : Rows (List Value)) → AreShown es rs → AreShown (take n es) (take n rs)
+  shown-take zero es rs all = tt
+  shown-take (suc n) [] [] all = tt
+  shown-take (suc n) [] (r ∷ rs) all = absurd all
+  shown-take (suc n) (e ∷ es) [] all = absurd all
+  shown-take (suc n) (e ∷ es) (r ∷ rs) all = (all.0, all.1, shown-take n es rs all.2)
+
   pub shown-rows : (es rs : Rows (List Value)) → AreShown es rs → rows_of_entries kinds es ≡ rs
   shown-rows [] [] all = refl
   shown-rows [] (r ∷ rs) all = absurd all
@@ -79,9 +87,16 @@ module _ (kinds : List Kind) where
       ap (λ row. cons_option (option_map (λ row. (e.0, row)) row) (rows_of_entries kinds es)) all.1
       ∙ ap (λ k. (k, r.1) ∷ rows_of_entries kinds es) all.0 ∙ ap (λ rows. r ∷ rows) (shown-rows es rs all.2)
 
--- a visitor of rows after the entries that rows are shown by
+-- a visitor of rows after entries that show them
+pub gone-along : {S : Type 0} (visited : S → Key × List Value → S) (rows : Rows (List Value)) (visitor : S) (kinds : List Kind) (entries : Rows (List Value))
+    (old new : List Kind × S) → rows ≡ rows_of_entries kinds entries
+    → ◌≡◌ {A = List Kind × S} old (kinds, visitor) → ◌≡◌ {A = List Kind × S} new (fold (after_entry visited) old entries) → new.1 ≡ fold visited visitor rows
+gone-along {S} visited rows visitor kinds entries old new shows begins is =
+    ap (λ (r : List Kind × S). r.1) (is ∙ ap (λ (r : List Kind × S). fold (after_entry visited) r entries) begins ∙ shown visited (kinds, visitor) entries)
+    ∙ ap (fold visited visitor) (sym shows)
+
+-- the same for the rows that are shown
 pub gone-through : {S : Type 0} (visited : S → Key × List Value → S) (rows : Shown) (visitor : S) (kinds : List Kind) (entries : Rows (List Value)) (old new
     : List Kind × S) → rows_shown rows ≡ rows_of_entries kinds entries
     → ◌≡◌ {A = List Kind × S} old (kinds, visitor) → ◌≡◌ {A = List Kind × S} new (fold (after_entry visited) old entries) → new.1 ≡ fold visited visitor (rows_shown rows)
-gone-through {S} visited rows visitor kinds entries old new shows begins is =
-    ap (λ (r : List Kind × S). r.1) (is ∙ ap (λ (r : List Kind × S). fold (after_entry visited) r entries) begins ∙ shown visited (kinds, visitor) entries) ∙ ap (fold visited visitor) (sym shows)
+gone-through {S} visited rows visitor kinds entries old new shows begins is = gone-along visited (rows_shown rows) visitor kinds entries old new shows begins is

@@ -22,9 +22,9 @@ use Rattle.bt_table.proofs.offered.KeyOrder.{keys_rise}
 use Rattle.bt_view.specs.inside.Entries.{index_kinds, rows_of_entries}
 use Rattle.bt_view.specs.Groups.{groups_of, summed_place, sums_of}
 use Rattle.bt_view.specs.inside.Neighbours.{after_row}
-use Rattle.bt_view.specs.Ranges.{index_row, index_schema, range_as, rows_within, scan_with_keys_of, when_whole}
+use Rattle.bt_view.specs.Ranges.{index_row, index_schema, page_of, range_as, rows_within, scan_with_keys_of, when_whole}
 use Rattle.bt_view.specs.declared.range.KeyRange.{KeyRange}
-use Rattle.bt_view.proofs.EntryRows.{shown-between, shown-rows}
+use Rattle.bt_view.proofs.EntryRows.{shown-between, shown-rows, shown-take}
 use Rattle.bt_view.proofs.IndexRows.{all_rise, all_shown, all_stand}
 use Rattle.bt_view.proofs.RowOrder.{ascend}
 use Rattle.bt_view.proofs.Summing.{of_rows}
@@ -133,3 +133,32 @@ module _ (table : PlainTable) (index : Index) (from to : Option (List (List ℕ)
           ranged.1 ∙ ap (λ p. and_then (λ place. groups_of grouping place (rows_within own rows)) p) (subst (λ s. place_by s ≡ Ok place) shows.schema_is placed)
           ∙ of_rows grouping place (map (λ c. c.kind) (take grouping (index_schema table.schema index.def).columns)) (between own.from own.to rows) ascending
           ∙ ap (λ rows. or_refused TooMany (fold after_row (grouping, place, Some []) rows).2) (sym (through own ranged.0))
+
+-- ---- pages
+
+module _ (table : PlainTable) (index : Index) (own : KeyRange) (limit : ℕ) where
+  -- a page, by whether the index covers all rows
+  abbrev page_when : Bool → Result (Rows (List Value)) Refusal
+  page_when whole =
+      map_ok (take limit) (map_ok (between own.from own.to) (if whole then Ok (select (index_row table.schema.keys index.def) table.rows) else Err Building))
+
+  module _ (schema : Schema) (shows : ShowsIndex table schema index) where
+    -- the first entries of a range, as they are shown
+    abbrev first_by : Schema → Rows (List Value) → Rows (List Value)
+    first_by schema entries = rows_of_entries (index_kinds schema index.def) (take limit (between own.from own.to entries))
+
+    first_through : is_whole index.cover ≡ true
+        → first_by schema (holds entry_effect index.tree.1) ≡ take limit (between own.from own.to (select (index_row table.schema.keys index.def) table.rows))
+    first_through whole =
+        let on = under table.schema.columns index.def.on shows.suits.within.on in
+        let include = under table.schema.columns index.def.include shows.suits.within.include in
+        let entries = select (entry_of index.def) table.rows in
+        let rows = select (index_row table.schema.keys index.def) table.rows in
+        let kinds = index_kinds table.schema index.def in
+        ap (λ s. first_by s (holds entry_effect index.tree.1)) shows.schema_is ∙ ap (first_by table.schema) (shows.complete whole)
+        ∙ shown-rows kinds (take limit (between own.from own.to entries)) (take limit (between own.from own.to rows))
+        (shown-take kinds limit (between own.from own.to entries) (between own.from own.to rows)
+        (shown-between kinds own entries rows (all_shown table.schema index.def on include shows.few table.rows shows.stand)))
+
+    pub page_done : is_whole index.cover ≡ true → page_of own limit (Secondary table index) ≡ Ok (first_by schema (holds entry_effect index.tree.1))
+    page_done whole = ap page_when whole ∙ ap Ok (sym (first_through whole))

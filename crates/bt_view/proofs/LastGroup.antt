@@ -129,9 +129,5 @@ bounded-set [] place one all own = tt
 bounded-set (s ∷ sums) zero one all own = (own, all.1)
 bounded-set (s ∷ sums) (suc place) one all own = (all.0, bounded-set sums place one all.1 own)
 
-pub bounded-first : (sums : List Sum) (first : Sum) → AreBounded sums → 0 < length sums → first ≡ get_or sums 0 first → IsBounded first.count first.total
-bounded-first [] first all some is = absurd (omega (arith, some))
-bounded-first (s ∷ sums) first all some is = subst (λ (x : Sum). IsBounded x.count x.total) (sym is) all.0
-
 pub last-bounded : (groups sums : List Sum) (last : Sum) → groups ≡ sums ++ last ∷ [] → AreBounded groups → AreBounded sums × IsBounded last.count last.total
 last-bounded groups sums last begin all = let parts = bounded-parts sums (last ∷ []) (subst AreBounded begin all) in (parts.0, parts.1.0)

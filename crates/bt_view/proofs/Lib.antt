@@ -7,6 +7,7 @@ pub mod IndexColumns
 pub mod IndexRows
 pub mod IndexViews
 pub mod LastGroup
+pub mod NextPages
 pub mod offered
 pub mod RowOrder
 pub mod Summing

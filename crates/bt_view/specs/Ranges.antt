@@ -1,5 +1,6 @@
 -- The rows of a tree of a table, and those of a range.
-use Rattle.std.specs.Prelude.{ℕ, ◌+◌, ◌++◌, List, [], get_or, length, map, take, Option, Some, None, option_map, Result, Ok, Err, if◌then◌else◌}
+use Rattle.std.specs.Prelude.{ℕ, ◌≡◌, ◌+◌, ◌++◌, ◌∷◌, List, [], T, drop, get_or, length, map, take, Option, Some, None, option_map, Result, Ok, Err, if◌then◌else◌}
+use Rattle.std.specs.FinMap.{is_sorted}
 use Rattle.bt_value.specs.Results.{both_read, and_then, map_ok}
 use Rattle.bt_row.specs.Schemas.{Schema, prefix_as}
 use Rattle.bt_value.specs.declared.refusal.Refusal.{Refusal}
@@ -8,7 +9,7 @@ use Rattle.bt_row.specs.declared.schema.Column.{Column}
 use Rattle.bt_value.specs.declared.value.Kind.TheVariants as kind
 use Rattle.bt_value.specs.declared.value.Value.{Value}
 use Rattle.bt_keycode.specs.Codes.{code_of}
-use Rattle.bt_keycode.specs.Keys.{Key}
+use Rattle.bt_keycode.specs.Keys.{Key, key_cmp}
 use Rattle.bt_node.specs.Messages.{Rows, between}
 use Rattle.bt_fanout.specs.Covers.{is_whole}
 use Rattle.bt_fanout.specs.Entries.{Definition, entry_of, picked}
@@ -35,6 +36,10 @@ index_schema schema def = record {
 abbrev pub schema_of : NamedTree → Schema
 schema_of (Primary table) = table.schema
 schema_of (Secondary table index) = index_schema table.schema index.def
+
+-- the columns of the rows of the tree of this name
+abbrev pub tree_columns : TableState → List ℕ → Result Schema Refusal
+tree_columns state name = map_ok schema_of (tree_named state name)
 
 -- ---- ranges
 
@@ -71,6 +76,32 @@ when_whole cover answer = if is_whole cover then Ok answer else Err Building
 abbrev pub rows_of_tree : NamedTree → Result (Rows (List Value)) Refusal
 rows_of_tree (Primary table) = Ok table.rows
 rows_of_tree (Secondary table index) = when_whole index.cover (select (index_row table.schema.keys index.def) table.rows)
+
+-- what is left of a range after a key: it begins at the smallest larger key
+abbrev pub range_after : KeyRange → Key → KeyRange
+range_after range key = record { from = Some (key ++ 0 ∷ []); to = range.to }
+
+-- the first n of some rows end with a row at this key
+abbrev pub EndAt : ℕ → Key → Rows (List Value) → Type 0
+EndAt n key rows = (front : Rows (List Value)) × (row : List Value) × (take n rows ≡ front ++ (key, row) ∷ [])
+
+-- a range goes on after a page of another one that ends at a key: it repeats no row and leaves none out
+abbrev pub GoesOn : KeyRange → Key → KeyRange → Type 0
+GoesOn range key next =
+    (rows : Rows (List Value)) (n : ℕ) → T (is_sorted key_cmp rows) → EndAt n key (between range.from range.to rows)
+    → between next.from next.to rows ≡ drop n (between range.from range.to rows)
+
+-- the rows of a tree whose keys are in a range, by their keys; an index that is building is refused
+abbrev pub rows_between : KeyRange → NamedTree → Result (Rows (List Value)) Refusal
+rows_between range tree = map_ok (between range.from range.to) (rows_of_tree tree)
+
+-- a page of a tree: the first of these rows, at most this many
+abbrev pub page_of : KeyRange → ℕ → NamedTree → Result (Rows (List Value)) Refusal
+page_of range limit tree = map_ok (take limit) (rows_between range tree)
+
+-- a page of the tree of this name
+abbrev pub page : TableState → List ℕ → KeyRange → ℕ → Result (Rows (List Value)) Refusal
+page state name range limit = and_then (page_of range limit) (tree_named state name)
 
 -- the rows of a range of a tree by their keys, or the first of these refusals: of the bounds, and of an index that is building
 abbrev pub scan_with_keys_of : Option (List (List ℕ)) → Option (List (List ℕ)) → NamedTree → Result (Rows (List Value)) Refusal

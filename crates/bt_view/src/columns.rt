@@ -46,8 +46,12 @@ fn add_columns(
     Ok(())
 }
 
-// Appends copies of columns.
-fn add_all(alloc: Global, shown: &mut Columns, columns: &[Column]) -> Result<(), AllocError>
+/// Appends copies of columns.
+pub(crate) fn add_all(
+    alloc: Global,
+    shown: &mut Columns,
+    columns: &[Column],
+) -> Result<(), AllocError>
     ensures { OnOk result (shown.new ≡ shown.old ++ columns.now) }
 {
     for column in columns {

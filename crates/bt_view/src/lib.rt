@@ -7,6 +7,7 @@
 //!
 //! ```text
 //! let rows = scan(&rt, alloc, &table, &name, Some(&from), None, RowList::new(alloc), &crew)?;     // the rows from the key that `from` encodes
+//! let rows = page(alloc, &table, &name, &range, 100, RowList::new(alloc))?;                        // the first 100 rows of a range of keys
 //! let sums = sums(&rt, alloc, &table, &name, 1, &column, None, None, &crew)?;                     // one Sum for each value of the first column
 //! let text = image(alloc, &table, &name)?;                                                        // the nodes of the tree, line by line
 //! ```
@@ -19,13 +20,16 @@ mod drawing;
 mod entry_groups;
 mod entry_rows;
 mod groups;
+mod pages;
 mod range;
 mod shown;
+mod shown_columns;
 mod tree_image;
 mod view;
 mod visitors;
 
 pub use groups::Sum;
 pub use range::KeyRange;
-pub use view::{image, scan, scan_alone, sums, sums_alone};
+pub use shown_columns::{TreeColumns, tree_columns};
+pub use view::{image, page, scan, scan_alone, sums, sums_alone};
 pub use visitors::{RecordText, RowList};

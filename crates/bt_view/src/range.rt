@@ -1,5 +1,5 @@
 //! The range of keys between two bounds.
-ghost use Rattle.std.specs.Prelude.{◌≡◌, None, Ok};
+ghost use Rattle.std.specs.Prelude.{◌≡◌, IfOk, None, Ok};
 ghost use Rattle.std.specs.Option.{option_copied};
 ghost use Rattle.bt_value.specs.Answers.{Answers};
 ghost use Rattle.bt_view.specs.Ranges as spec;
@@ -9,7 +9,7 @@ use bt_record::RecordLine;
 use bt_row::Column;
 use bt_rowtype::{RecordReader, both_read};
 use bt_value::Refusal;
-use std::alloc::Global;
+use std::alloc::{AllocError, Global};
 
 /// The keys at or after `from` and before `to`. A bound that is absent does not limit the range.
 #[derive(Drop)]
@@ -19,6 +19,29 @@ pub struct KeyRange {
 }
 
 impl KeyRange {
+    /// What is left of the range after a key. If the last row of a page has this key, it is the range of the next page.
+    pub fn after(&self, alloc: Global, key: &Key) -> Result<Self, AllocError>
+        ensures range { IfOk result (λ range. range ≡ spec.range_after self.now key.now) }
+        ensures goes_on { IfOk result (spec.GoesOn self.now key.now) }
+    {
+        self.rest_after(alloc, key)
+    }
+
+    // What is left of the range after a key.
+    fn rest_after(&self, alloc: Global, key: &Key) -> Result<Self, AllocError>
+        ensures { IfOk result (λ range. range ≡ spec.range_after self.now key.now) }
+    {
+        let from = key.next(alloc)?;
+        let to = match &self.to {
+            Some(to) => Some(to.copy(alloc)?),
+            None => None,
+        };
+        Ok(KeyRange {
+            from: Some(from),
+            to,
+        })
+    }
+
     /// The lower bound and the upper one.
     pub(crate) fn bounds(&self) -> (Option<&Key>, Option<&Key>)
         ensures from { option_copied result.0 ≡ self.now.from }

@@ -10,6 +10,8 @@ ghost use Rattle.bt_view.specs.Ranges as spec;
 
 use crate::drawing::{EntryDrawing, RowDrawing};
 use crate::groups::Sum;
+use crate::pages::{page_of_index, page_of_rows};
+use crate::range::KeyRange;
 use crate::shown::{rows_to_show, rows_to_sum, show, show_alone, sum, sum_alone};
 use crate::tree_image::image_text;
 use bt_gang::{Crew, Gate};
@@ -61,6 +63,31 @@ pub fn scan_alone<S: Visitor<Row>>(
 {
     let shown = rows_to_show(alloc, table, name, from, to)?;
     Ok(show_alone(alloc, shown, visitor)?)
+}
+
+/// Shows a visitor a page of the tree of this name: the first rows, at most `limit`, whose keys are in a range, in ascending order of their keys; each is
+/// shown with its key. The key of a row of the table is the code of its key columns, and that of a row of an index is the code of the columns that it is
+/// ordered by and of the table's key columns. If the last row of a page has a key, [`KeyRange::after`] is the range of the next page.
+///
+/// Refused with the first that applies: `Failed`, `NoSuchTree`, `Building`. They come before anything is allocated. Subtrees outside of the range or after the
+/// last row are not read, and no thread starts.
+pub fn page<S: Visitor<Row>>(
+    alloc: Global,
+    table: &Table,
+    name: &Text,
+    range: &KeyRange,
+    limit: usize,
+    visitor: S,
+) -> Result<S, Refusal>
+    ensures answer { Answers (map_ok (fold S.visited visitor) (spec.page table.now name.now range.now limit)) result }
+    ensures certain { IfErr (spec.page table.now name.now range.now limit) (IsErrOf result) }
+{
+    match table.tree(name)? {
+        TreeRef::Rows { tree, .. } => Ok(page_of_rows(alloc, tree, range, limit, visitor)?),
+        TreeRef::Index { schema, index } => {
+            page_of_index(alloc, schema, index, range, limit, visitor)
+        }
+    }
 }
 
 /// The groups of the rows that `scan` shows, in order, by a crew. The rows are grouped by their first `grouping` columns, with the sum of the column of this

@@ -13,10 +13,6 @@ use Rattle.bt_fanout.specs.Selections.{EachStands}
 use Rattle.bt_fanout.proofs.offered.Suiting.{suits_effects}
 use Rattle.test_calls.specs.Quantities.{batch, key_of, kinds, row_of, three_rows}
 
-pub suits_three : (def : Definition) → SuitsKinds def kinds → All (λ row. IsWithin def (length row.1)) three_rows
-unfolding eight_bytes
-suits_three def suits = All-from_recursion (λ row. IsWithin def (length row.1)) three_rows (suits.within, (suits.within, (suits.within, tt)))
-
 module _ (def : Definition) (keys : def.keys ≡ 1) where
   stands : (id quantity : ℤ) → StandsUnder def kinds (key_of id) (row_of id quantity)
   stands id quantity = record { of_kinds = refl; under = ap (λ n. code_of (take n (row_of id quantity))) keys }

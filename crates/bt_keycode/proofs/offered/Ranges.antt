@@ -6,9 +6,10 @@ use Rattle.std.specs.Int.{w64}
 use Rattle.std.specs.List.{filter_map}
 use Rattle.std.specs.Prelude.{FitsSigned, option_map}
 use Rattle.std.specs.Result.{result_err, result_ok}
+use Rattle.bt_row.specs.Fits.{OpInRange, OpsInRange}
 use Rattle.bt_row.specs.Arithmetic.{Action, Makes, Sets, action_of, arithmetic_of_word, op_making, new_value}
 use Rattle.bt_value.specs.Ints.{int_of}
-use Rattle.bt_row.specs.Ops.{after_action, after_op, after_ops, argument_in, argument_of, at_column, default_row, is_upsert, key_as}
+use Rattle.bt_row.specs.Ops.{after_action, after_op, after_ops, argument_in, at_column, default_row, is_upsert, key_as}
 use Rattle.bt_row.specs.Ops.{making_of, making_of_kind, number_op_of, op_of, open_column, ops_as, ops_of, set_of, upsert_as}
 use Rattle.bt_value.specs.Results.{all_read, both_read, unless, or_refused}
 use Rattle.bt_value.specs.Values.{AreInRange, IsInRange, default_of, value_of}
@@ -65,14 +66,6 @@ read_in_range columns item fields =
     ]
 
 -- ---- operations that fields encode
-
--- the argument of an operation is in range
-abbrev pub OpInRange : Op → Type 0
-OpInRange op = IsInRange (argument_of op)
-
-abbrev pub OpsInRange : List Op → Type 0
-OpsInRange [] = Unit {0}
-OpsInRange (op ∷ ops) = OpInRange op × OpsInRange ops
 
 set_made : (place : ℕ) (o : Option Value) → IfSome o IsInRange → IfSome (option_map (Set place) o) OpInRange
 set_made place None h = tt

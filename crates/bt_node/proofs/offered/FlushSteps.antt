@@ -12,6 +12,8 @@ pub use Rattle.bt_node.proofs.lemmas.flushes.NodeSizes.{ChildrenSized, both-size
 pub use Rattle.bt_node.proofs.lemmas.flushes.Shares.{length-shared}
 pub use Rattle.bt_node.proofs.lemmas.keys.SideBySide.{Begins, blocks-lie, blocks-long}
 pub use Rattle.bt_node.proofs.lemmas.keys.SortedLists.{from-back, from-joined, from-prefix}
+-- items that are dealt into parts: none is lost, and no part is empty
+pub use Rattle.bt_node.proofs.lemmas.deals.Parts.{AllNonEmpty, full-deal, joined, joined-deal}
 -- siblings with their pending messages, dealt under inner nodes
 pub use Rattle.bt_node.proofs.lemmas.flushes.EmptyPackets.{all_pending-shared}
 pub use Rattle.bt_node.proofs.lemmas.flushes.Regrouped.{grouped_fits}

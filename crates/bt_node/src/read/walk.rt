@@ -185,6 +185,22 @@ impl<'a, V: Merge> Walk<'a, V> {
         visit_between(alloc, self.node, from, None, visitor, RowLimit::rows(count))
     }
 
+    /// Shows a visitor the first rows, at most `count`, with a key at or past `from` and before `to`, as `visit` shows them. Subtrees
+    /// after the last row shown aren't entered. An `Err` comes from the visitor or from a failed allocation.
+    pub fn visit_page<S: Visitor<V>>(
+        &self,
+        alloc: Global,
+        from: Option<&Key>,
+        to: Option<&Key>,
+        count: usize,
+        visitor: &mut S,
+    ) -> Result<(), AllocError>
+        requires { IsInOrder self.now }
+        ensures { OnOk result (visitor.new ≡ fold S.visited visitor.old (take count (between (option_copied from.entry) (option_copied to.entry) (holds (effect_of V.terms.merged) self.now)))) }
+    {
+        visit_between(alloc, self.node, from, to, visitor, RowLimit::rows(count))
+    }
+
     /// Copies of the rows with a key at or past `from` and before `to`, when all messages in this node and below have had their
     /// effect, in rising order. An absent bound doesn't limit. Nothing outside the bounds is copied.
     pub fn rows(

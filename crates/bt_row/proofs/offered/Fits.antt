@@ -105,13 +105,3 @@ default_row_key schema key fit = defaults_behind schema.keys schema.columns key 
 pub upsert_begins : (schema : Schema) (item : ℕ) (fields : List (List ℕ)) (key : List Value) (ops : List Op) → upsert_as schema item fields ≡ Ok (key, ops)
     → take schema.keys (default_row schema key) ≡ key
 upsert_begins schema item fields key ops is = default_row_key schema key (upsert_fits schema item fields key ops is).0
-
--- the key of a row that fits its columns fits the key's columns
-pub prefix_fits : (n : ℕ) (columns : List Column) (row : List Value) → fit_columns columns row ≡ true → fit_columns (take n columns) (take n row) ≡ true
-prefix_fits zero columns row fit = refl
-prefix_fits (suc n) [] [] fit = refl
-prefix_fits (suc n) [] (v ∷ row) fit = absurd cc
-prefix_fits (suc n) (c ∷ columns) [] fit = absurd cc
-prefix_fits (suc n) (c ∷ columns) (v ∷ row) fit =
-    both_true (fits_kind c.kind v) (fit_columns (take n columns) (take n row)) (first_true (fits_kind c.kind v) (fit_columns columns row) fit)
-    (prefix_fits n columns row (second_true (fits_kind c.kind v) (fit_columns columns row) fit))

@@ -1,5 +1,5 @@
 -- A call leaves a sound table sound, and a complete index of a sound table holds what it selects.
-use Rattle.std.proofs.Common.{ℕ, ◌≡◌, ◌≤◌, true, false, refl, length, arith, List, [], ◌∷◌, Option, Some, None, option_map, if◌then◌else◌, IfOk, Result, Ok, Err}
+use Rattle.std.proofs.Common.{ℕ, ◌≡◌, ◌≤◌, true, false, refl, length, arith, List, [], ◌∷◌, Option, Some, None, option_map, subst, if◌then◌else◌, IfOk, Result, Ok, Err}
 use Rattle.std.specs.FinMap.{find}
 use Rattle.std.specs.List.{All, list_all}
 use Rattle.std.proofs.lemmas.Bool.Decides.{nat_tests}
@@ -20,18 +20,20 @@ use Rattle.bt_load.specs.Maps.{map_of}
 use Rattle.bt_load.proofs.offered.Loaded.{map_of-sorted, text_rows-of}
 use Rattle.bt_keycode.specs.Standing.{AreOf}
 use Rattle.bt_table.proofs.Loads.{map_of-stand}
-use Rattle.bt_batch.specs.Batches.{batch_refusals, messages_of, read_key}
-use Rattle.bt_table.specs.Calls.{after_build, after_load, built, Call, Apply, BuildStep, CreateIndex, Drain, DropIndex, Get, Load}
+use Rattle.bt_batch.specs.Batches.{RowMessages, batch_refusals, messages_of, read_key}
+use Rattle.bt_table.specs.Calls.{after_build, after_load, built, Call, Apply, ApplyMessages, BuildStep, CreateIndex, Drain, DropIndex, Get, GetAt, Load}
 use Rattle.bt_table.specs.Calls.{Rebuild, Upkeep, Draining, Rebuilding, dropped, is_bare, is_primary, load_refusals, name_refusals}
 use Rattle.bt_table.specs.Calls.{sent_counts, step, unless_any, with_index, with_renewed, with_renewed_index, with_renewed_rows}
 use Rattle.bt_table.specs.Indexes.{Index, index_named, is_complete}
-use Rattle.bt_table.specs.Standing.{AreSoundIndexes, CompleteIndexesHold, HoldsSelection, IsSound, IsSoundTable, IsSoundUnlessLost, Suits}
+use Rattle.bt_table.specs.Standing.{AreOfSchema, AreSoundIndexes, CompleteIndexesHold, HasSchema, HoldsSelection, IsSound, IsSoundTable}
+use Rattle.bt_table.specs.Standing.{IsSoundUnlessLost, SuitMessages, Suits}
 use Rattle.bt_table.specs.Tables.{PlainTable, TableState, Intact, Lost, after_batch, empty_table}
 use Rattle.bt_table.specs.declared.reply.Reply.{Reply}
 use Rattle.bt_table.specs.declared.reply.Reply.TheVariants.{Batch, Created, Drained, Rebuilt, Row}
 use Rattle.bt_fanout.proofs.offered.Suiting.{all_more, all_none}
 use Rattle.bt_table.proofs.Indexes.{holds_selection}
-use Rattle.bt_table.proofs.Sound.{batch_keeps_sound, batch_of_schema, none_building, with_built_index-sound, with_index-sound}
+use Rattle.bt_batch.proofs.offered.OfSchema.{batch_of_schema}
+use Rattle.bt_table.proofs.Sound.{batch_keeps_sound, none_building, with_built_index-sound, with_index-sound}
 use Rattle.bt_table.proofs.Sound.{with_renewed_index-sound, with_renewed_rows-sound, with_rows-sound, without_index-sound}
 
 pub empty_is_sound : (schema : Schema) (shape : Shape) → schema.keys ≤ length schema.columns → IsRoomy shape → IsSoundTable (empty_table schema shape)
@@ -100,10 +102,12 @@ built_keeps_sound table name n (Some found) is sound =
       | false ↦ with_built_index-sound table name found is sound n
     ]
 
--- the definition of a new index is one of the schema
+-- the definition of a new index is one of the schema, and so are messages that are applied
 abbrev pub IsOfSchema : TableState → Call → Type 0
 IsOfSchema state (Apply items) = Unit {0}
+IsOfSchema state (ApplyMessages messages) = SuitMessages state messages
 IsOfSchema state (Get fields) = Unit {0}
+IsOfSchema state (GetAt key) = Unit {0}
 IsOfSchema state (CreateIndex name def) = Suits state def
 IsOfSchema state (BuildStep name count) = Unit {0}
 IsOfSchema state (DropIndex name) = Unit {0}
@@ -124,6 +128,8 @@ step_keeps_sound (Intact table) (Apply items) fits sound =
     let messages = messages_of table.schema items in
     when_allowed (least (batch_refusals table.schema items)) (after_batch table messages) (Batch (length items) (sent_counts table messages))
     (batch_keeps_sound table messages (batch_of_schema table.schema items) sound)
+step_keeps_sound (Intact table) (ApplyMessages messages) fits sound = batch_keeps_sound table messages fits sound
+step_keeps_sound (Intact table) (GetAt key) fits sound = sound
 step_keeps_sound (Intact table) (Get fields) fits sound =
     when_read (read_key table.schema 1 fields) table (λ key. Row (find key_cmp (code_of key) table.rows)) sound
 
@@ -145,3 +151,9 @@ unless_lost_hold Lost sound = tt
 pub sound_hold : (state : TableState) → IsSound state → CompleteIndexesHold state
 sound_hold (Intact table) sound = complete_indexes_hold table sound
 sound_hold Lost sound = absurd sound
+
+-- messages of a schema suit the table that has it
+pub messages_suit : (state : TableState) (schema : Schema) (messages : RowMessages) → HasSchema state schema
+    → AreOfSchema schema messages → SuitMessages state messages
+messages_suit (Intact table) schema messages has fit = subst (λ (s : Schema). AreOfSchema s messages) has fit
+messages_suit Lost schema messages has fit = tt

@@ -26,9 +26,6 @@ no_text bytes broken = elim (cases_Bool (is_utf8 bytes)) [
 pub short_text : (bytes : List ℕ) → length bytes ≤ most_value_bytes → IsUtf8 bytes → is_text bytes ≡ true
 short_text bytes short utf8 = sym (text_by_length bytes utf8) ∙ le-leb (length bytes) most_value_bytes short
 
-pub long_text : (bytes : List ℕ) → most_value_bytes < length bytes → is_text bytes ≡ false
-long_text bytes long = rw (lt-leb (length bytes) most_value_bytes long) refl
-
 pub no_bytes : is_text [] ≡ true
 no_bytes = short_text [] (omega arith) IsUtf8-nil
 

@@ -131,8 +131,3 @@ all-at : (P : ℕ → Type 0) (is : List ℕ) → AllByRecursion P is → (k d :
 all-at P [] all k d l = absurd (omega arith)
 all-at P (i ∷ is) all zero d l = all.0
 all-at P (i ∷ is) all (suc k) d l = all-at P is all.1 k d (omega arith)
-
--- Each planned place is that of a load.
-pub planned-below : (counts : List ℕ) (capacity : ℕ) → All (λ i. i < length counts) (planned counts capacity)
-planned-below counts capacity k d l =
-    place-below counts _ (all-at _ (planned counts capacity) (planned-some (total counts) counts capacity (omega arith)) k d l)

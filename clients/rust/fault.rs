@@ -1,0 +1,92 @@
+//! Why a typed call fails.
+
+use crate::values::Kind;
+use crate::{OutOfMemory, Refusal};
+use std::error::Error;
+use std::fmt;
+
+/// Why a typed call failed. It has changed nothing, unless the table is lost. Items and columns are counted from 1. An item is one of several changes, the key,
+/// or 1 for the lower bound of a scan and 2 for the upper one.
+#[derive(Clone, Debug, PartialEq)]
+#[non_exhaustive]
+pub enum Fault {
+    /// The library refused the call: docs/SCRIPT.md lists the refusals.
+    Refused { refusal: Refusal, column: Option<u64> },
+    /// A value has another kind than its column, or than the type that it is read as. A row that is read has no item.
+    WrongKind { item: Option<u64>, column: u64, name: String, wanted: Kind, found: Kind },
+    /// A row or a key has more values or fewer than columns, or a bound has more than the key.
+    WrongLength { item: Option<u64>, wanted: usize, found: usize },
+    /// A text, or bytes, of more than 255 bytes.
+    TooLong { item: u64, column: u64, name: String, length: usize },
+    /// An operation names a column that the table does not have.
+    NoSuchColumn { item: u64, name: String },
+    /// More changes than a call takes, which is 4,294,967,295, or more bytes of them than a buffer holds.
+    TooLarge,
+    /// A request for memory was refused.
+    OutOfMemory { is_lost: bool },
+    /// The reply of the library is in another layout than the one that this crate reads: the two are of different versions.
+    OtherVersion,
+}
+
+impl Fault {
+    pub(crate) fn refused(number: u64, item: u64, column: u64) -> Fault {
+        let some = |count| if count == 0 { None } else { Some(count) };
+        Fault::Refused { refusal: Refusal { number: number as u32, name: name_of(number).to_string(), item: some(item) }, column: some(column) }
+    }
+}
+
+/// The name of a refusal.
+fn name_of(number: u64) -> &'static str {
+    const NAMES: [&str; 20] = [
+        "Syntax",
+        "Unfinished",
+        "NoTable",
+        "TableExists",
+        "BadSchema",
+        "BadField",
+        "BadLength",
+        "NoSuchTree",
+        "NameTaken",
+        "TooMany",
+        "Building",
+        "AlreadyComplete",
+        "NotEmpty",
+        "DuplicateKey",
+        "NoSuchColumn",
+        "NotInt",
+        "OutOfMemory",
+        "Failed",
+        "BadCrew",
+        "BadShape",
+    ];
+    NAMES.get((number as usize).wrapping_sub(1)).copied().unwrap_or("Unknown")
+}
+
+impl fmt::Display for Fault {
+    fn fmt(&self, out: &mut fmt::Formatter<'_>) -> fmt::Result {
+        if let Fault::WrongKind { item: Some(item), .. } | Fault::WrongLength { item: Some(item), .. } = self {
+            write!(out, "item {item}, ")?;
+        }
+        match self {
+            Fault::Refused { refusal, column: None } => refusal.fmt(out),
+            Fault::Refused { refusal, column: Some(column) } => write!(out, "{refusal}, column {column}"),
+            Fault::WrongKind { column, name, wanted, found, .. } => write!(out, "column {column} ({name}): the kind is {wanted}, and not {found}"),
+            Fault::WrongLength { wanted, found, .. } => write!(out, "the number of values is {wanted}, and not {found}"),
+            Fault::TooLong { item, column, name, length } => write!(out, "item {item}, column {column} ({name}): {length} bytes, and at most 255 fit"),
+            Fault::NoSuchColumn { item, name } => write!(out, "item {item}, no column is named {name}"),
+            Fault::TooLarge => out.write_str("more changes than one call takes"),
+            Fault::OutOfMemory { is_lost: true } => out.write_str("out of memory, and the table is lost"),
+            Fault::OutOfMemory { is_lost: false } => out.write_str("out of memory"),
+            Fault::OtherVersion => out.write_str("the library is of another version than the crate"),
+        }
+    }
+}
+
+impl Error for Fault {}
+
+/// The replies of the script are dropped.
+impl From<OutOfMemory> for Fault {
+    fn from(fault: OutOfMemory) -> Fault {
+        Fault::OutOfMemory { is_lost: fault.is_lost }
+    }
+}

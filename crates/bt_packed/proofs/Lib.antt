@@ -1,0 +1,3 @@
+mod FirstFaults
+mod PageReplies
+mod WorkedRows

@@ -1,0 +1,175 @@
+-- The calls of a table on packed bytes: the table after each, the reply, or the fault.
+use Rattle.std.specs.Prelude.{ℕ, ◌==◌, ◌&&◌, ◌++◌, List, [], ◌∷◌, fold, length, take, nat_le, nat_lt, Option, Some, None, Result, Ok, Err, if◌then◌else◌}
+use Rattle.std.specs.FinMap.{find}
+use Rattle.std.specs.Int.{to_le_bytes, w64}
+use Rattle.bt_value.specs.Kinds.{tag_of}
+use Rattle.bt_value.specs.declared.refusal.Refusal.{Refusal}
+use Rattle.bt_value.specs.declared.refusal.Refusal.TheVariants.{BadLength, Failed}
+use Rattle.bt_value.specs.declared.value.Kind.TheVariants as kind
+use Rattle.bt_value.specs.declared.value.Value.{Value}
+use Rattle.bt_value.specs.declared.value.Value.TheVariants as value
+use Rattle.bt_row.specs.Schemas.{Schema}
+use Rattle.bt_row.specs.declared.schema.Column.{Column}
+use Rattle.bt_keycode.specs.Codes.{code_of}
+use Rattle.bt_keycode.specs.Keys.{Key, key_cmp}
+use Rattle.bt_messages.specs.Messages.{sorted_batch}
+use Rattle.bt_node.specs.Messages.{Rows}
+use Rattle.bt_batch.specs.Batches.{RowMessages}
+use Rattle.bt_table.specs.Tables.{Intact, Lost, TableState, after_batch}
+use Rattle.bt_view.specs.Ranges.{page, tree_columns}
+use Rattle.bt_view.specs.declared.range.KeyRange.{KeyRange}
+use Rattle.bt_packed.specs.Changes.{key_at, packed_changes}
+use Rattle.bt_packed.specs.Layout.{Read, bad_bytes, fault_at, header_at, magic, no_header, or_fault, row_bytes, then_read, value_at, values_at}
+use Rattle.bt_packed.specs.declared.fault.Fault.{Fault}
+
+-- the result of a function on the value, if there is one
+abbrev pub on_ok : {A B : Type 0} → (A → B) → Result A Fault → Result B Fault
+on_ok make (Ok value) = Ok (make value)
+on_ok make (Err fault) = Err fault
+
+-- the next step on the value, if there is one
+abbrev pub then_do : {A B : Type 0} → (A → Result B Fault) → Result A Fault → Result B Fault
+then_do next (Ok value) = next value
+then_do next (Err fault) = Err fault
+
+-- a refusal of the whole call
+abbrev pub of_call : {X : Type 0} → Result X Refusal → Result X Fault
+of_call (Ok x) = Ok x
+of_call (Err refusal) = Err (fault_at refusal 0 0)
+
+-- ---- changes
+
+-- the messages of packed changes, sorted by key, those of one key in order
+abbrev pub packed_messages : Schema → List ℕ → Result RowMessages Fault
+packed_messages schema bytes = on_ok (λ changes. sorted_batch changes.messages) (packed_changes schema bytes)
+
+-- a table after it has applied packed changes, or the fault, and then it does not change
+abbrev pub applied : TableState → List ℕ → Result TableState Fault
+applied Lost bytes = Err (fault_at Failed 0 0)
+applied (Intact table) bytes = on_ok (λ messages. Intact (after_batch table messages)) (packed_messages table.schema bytes)
+
+-- ---- the row of a key
+
+-- what was read, with nothing after it
+abbrev pub whole : {X : Type 0} → ℕ → Read X → Result X Fault
+whole item (x, []) = Ok x
+whole item (x, byte ∷ bytes) = Err (bad_bytes item 0)
+
+-- a packed key: the values of the key columns after a header with the number 1
+abbrev pub key_under : Schema → Option (Read ℕ) → Result (List Value) Fault
+key_under schema None = Err no_header
+key_under schema (Some read) = if read.0 == 1 then then_do (whole 1) (key_at schema 1 read.1) else Err no_header
+
+abbrev pub packed_key : Schema → List ℕ → Result (List Value) Fault
+packed_key schema bytes = key_under schema (header_at bytes)
+
+-- the packed row, or no row
+abbrev pub packed_option : Option (List Value) → List ℕ
+packed_option None = magic
+packed_option (Some row) = magic ++ row_bytes row
+
+-- the packed row of a key, or no row
+abbrev pub got : TableState → List ℕ → Result (List ℕ) Fault
+got Lost bytes = Err (fault_at Failed 0 0)
+got (Intact table) bytes = on_ok (λ key. packed_option (find key_cmp (code_of key) table.rows)) (packed_key table.schema bytes)
+
+-- ---- the columns of a tree
+
+-- the eight bytes of a count, the lowest first
+unfoldable pub count_bytes : ℕ → List ℕ
+count_bytes n = to_le_bytes w64 n
+
+-- a column: its kind, and its name after its length
+abbrev pub column_bytes : Column → List ℕ
+column_bytes column = tag_of column.kind ∷ length column.name ∷ column.name
+
+abbrev pub columns_bytes : List Column → List ℕ
+columns_bytes [] = []
+columns_bytes (column ∷ columns) = column_bytes column ++ columns_bytes columns
+
+-- the columns of the rows of a tree, after the number of its key columns
+abbrev pub packed_columns : Schema → List ℕ
+packed_columns schema = magic ++ (count_bytes schema.keys ++ columns_bytes schema.columns)
+
+-- ---- pages
+
+-- the name at the front of bytes: a text
+abbrev pub name_of : Read Value → Result (Read (List ℕ)) Fault
+name_of (value.Text name, bytes) = Ok (name, bytes)
+name_of (other, bytes) = Err (bad_bytes 0 0)
+
+abbrev pub name_at : List ℕ → Result (Read (List ℕ)) Fault
+name_at bytes = then_read name_of (or_fault (bad_bytes 0 0) (value_at kind.Text bytes))
+
+-- the key that the values of a bound encode
+abbrev pub key_read : (List Value → Key) → Read (List Value) → Result (Read (Option Key)) Fault
+key_read key (values, bytes) = Ok (Some (key values), bytes)
+
+-- this many values of a bound, which are of the first key columns
+abbrev pub prefix_at : List Column → ℕ → ℕ → List ℕ → Result (Read (Option Key)) Fault
+prefix_at columns item count bytes =
+    if nat_lt 0 count && nat_le count (length columns) then then_read (key_read code_of) (values_at item (take count columns) bytes) else Err (fault_at (BadLength item) item 0)
+
+-- the smallest key that is larger than that of values
+abbrev pub key_after : List Value → Key
+key_after values = code_of values ++ 0 ∷ []
+
+-- the smallest key after that of the values of all key columns
+abbrev pub after_at : List Column → ℕ → List ℕ → Result (Read (Option Key)) Fault
+after_at columns item bytes = then_read (key_read key_after) (values_at item columns bytes)
+
+-- a number of values of the first key columns, and the values
+abbrev pub counted_at : List Column → ℕ → List ℕ → Result (Read (Option Key)) Fault
+counted_at columns item [] = Err (bad_bytes item 0)
+counted_at columns item (count ∷ bytes) = prefix_at columns item count bytes
+
+-- a bound: code 0 is none; code 1 is the key of values of the first key columns, which follow their number; code 2 is the smallest key after that of the values
+-- of all key columns
+abbrev pub bound_at : List Column → ℕ → List ℕ → Result (Read (Option Key)) Fault
+bound_at columns item [] = Err (bad_bytes item 0)
+bound_at columns item (code ∷ bytes) =
+    if code == 0 then Ok (None, bytes) else if code == 1 then counted_at columns item bytes else if code == 2 then after_at columns item bytes else Err (bad_bytes item 0)
+
+-- the range from a lower bound to an upper one, with nothing after them
+abbrev pub range_to : Option Key → Read (Option Key) → Result KeyRange Fault
+range_to from to = on_ok (λ bound. record { from = from; to = bound }) (whole 2 to)
+
+abbrev pub range_at : List Column → List ℕ → Result KeyRange Fault
+range_at columns bytes = then_read (λ from. then_read (range_to from.0) (bound_at columns 2 from.1)) (bound_at columns 1 bytes)
+
+-- the packed rows, without their keys
+abbrev pub packed_rows : Rows (List Value) → List ℕ
+packed_rows rows = fold (λ bytes row. bytes ++ row_bytes row.1) magic rows
+
+-- the packed rows of a page of the tree of this name
+abbrev pub page_between : TableState → List ℕ → ℕ → KeyRange → Result (List ℕ) Fault
+page_between state name limit range = on_ok packed_rows (of_call (page state name range limit))
+
+abbrev pub page_of_tree : TableState → ℕ → Read (List ℕ) → Result (List ℕ) Fault
+page_of_tree state limit (name, bytes) =
+    then_do (λ schema. then_do (page_between state name limit) (range_at (take schema.keys schema.columns) bytes)) (of_call (tree_columns state name))
+
+-- a page: a header with the most rows, the name of a tree, a lower bound and an upper one
+abbrev pub page_under : TableState → Option (Read ℕ) → Result (List ℕ) Fault
+page_under state None = Err no_header
+page_under state (Some read) = then_read (page_of_tree state read.0) (name_at read.1)
+
+abbrev pub packed_page : TableState → List ℕ → Result (List ℕ) Fault
+packed_page state bytes = page_under state (header_at bytes)
+
+-- ---- the columns of a tree that is asked for
+
+-- the packed columns of the tree of this name
+abbrev pub columns_named : TableState → List ℕ → Result (List ℕ) Fault
+columns_named state name = on_ok packed_columns (of_call (tree_columns state name))
+
+-- a packed name: a header with the number 1, and a text
+abbrev pub name_under : Option (Read ℕ) → Result (List ℕ) Fault
+name_under None = Err no_header
+name_under (Some read) = if read.0 == 1 then then_do (whole 1) (name_at read.1) else Err no_header
+
+abbrev pub packed_name : List ℕ → Result (List ℕ) Fault
+packed_name bytes = name_under (header_at bytes)
+
+abbrev pub told_columns : TableState → List ℕ → Result (List ℕ) Fault
+told_columns state bytes = then_do (columns_named state) (packed_name bytes)

@@ -1,0 +1,3 @@
+pub mod Layout
+pub mod Changes
+pub mod Calls

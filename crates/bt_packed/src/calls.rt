@@ -1,0 +1,169 @@
+//! The calls of a table on packed bytes.
+ghost use Rattle.std.specs.Prelude.{◌≡◌, ◌≢◌, Err, IfErr, IfOk, OnOk, Ok};
+ghost use Rattle.bt_batch.specs.Changes.{AreOfSchema};
+ghost use Rattle.bt_table.specs.Calls.{StaysOrIsLost};
+ghost use Rattle.bt_table.specs.Standing.{CompleteIndexesHold, IsSoundUnlessLost};
+ghost use Rattle.bt_packed.specs.Calls as spec;
+
+use crate::changes::{key_at, read_changes};
+use crate::columns::packed_columns;
+use crate::fault::Fault;
+use crate::page::{name_at, range_at};
+use crate::reading::header_at;
+use crate::rows::PackedRows;
+use bt_keycode::encode_row;
+use bt_messages::Packet;
+use bt_row::{Row, Schema};
+use bt_table::{Alone, Reply, Table};
+use bt_value::{Refusal, Text};
+use bt_view::{KeyRange, page, tree_columns};
+use std::alloc::Global;
+
+// The messages of packed changes of a table.
+fn read_messages(alloc: Global, schema: &Schema, bytes: &[u8]) -> Result<Packet<Row>, Fault>
+    ensures done { IfOk result (λ packet. spec.packed_messages schema.now bytes.now ≡ Ok packet) }
+    ensures fault { IfErr result (λ fault. fault.refusal ≢ Refusal.OutOfMemory → spec.packed_messages schema.now bytes.now ≡ Err fault) }
+    ensures of_schema { IfOk result (AreOfSchema schema.now) }
+{
+    let changes = read_changes(alloc, schema, bytes)?;
+    Ok(changes.into_packet(alloc)?)
+}
+
+/// Applies packed changes in order. If one is refused, none is applied. After `OutOfMemory` the table is as it was, or lost.
+pub fn apply_packed(alloc: Global, table: &mut Table, bytes: &[u8]) -> Result<(), Fault>
+    ensures done { OnOk result (spec.applied table.old bytes.now ≡ Ok table.new) }
+    ensures fault { IfErr result (λ fault. fault.refusal ≢ Refusal.OutOfMemory → (spec.applied table.old bytes.now ≡ Err fault) × (table.new ≡ table.old)) }
+    ensures memory { IfErr result (λ fault. fault.refusal ≡ Refusal.OutOfMemory → StaysOrIsLost table.old table.new) }
+    ensures complete { CompleteIndexesHold table.new }
+    ensures sound { IsSoundUnlessLost table.new }
+{
+    let packet = match table.schema() {
+        Ok(schema) => read_messages(alloc, schema, bytes)?,
+        Err(refusal) => return Err(Fault::of_call(refusal)),
+    };
+    match table.apply_messages(&(), alloc, packet, &Alone) {
+        Ok(reply) => {
+            drop(reply);
+            Ok(())
+        }
+        Err(refusal) => Err(Fault::of_call(refusal)),
+    }
+}
+
+// The values of the key that packed bytes encode.
+fn read_key(alloc: Global, schema: &Schema, bytes: &[u8]) -> Result<Row, Fault>
+    ensures done { IfOk result (λ key. spec.packed_key schema.now bytes.now ≡ Ok key) }
+    ensures fault { IfErr result (λ fault. fault.refusal ≢ Refusal.OutOfMemory → spec.packed_key schema.now bytes.now ≡ Err fault) }
+{
+    let Some((1, rest)) = header_at(bytes) else {
+        return Err(Fault::no_header());
+    };
+    let (key, rest) = key_at(alloc, schema, 1, rest)?;
+    if rest.is_empty() {
+        Ok(key)
+    } else {
+        Err(Fault::bad_bytes(1, 0))
+    }
+}
+
+// The packed row, or no row.
+fn packed_row(row: Option<Row>, room: Vec<u8>) -> Result<Vec<u8>, Fault>
+    ensures done { IfOk result (λ bytes. bytes.items ≡ spec.packed_option row) }
+    ensures memory { IfErr result (λ fault. fault.refusal ≡ Refusal.OutOfMemory) }
+{
+    let mut rows = PackedRows::in_room(room)?;
+    if let Some(row) = row {
+        rows.add(&row)?;
+    }
+    Ok(rows.into_bytes())
+}
+
+/// The packed row of a packed key, or no row, in the room of these bytes, which are dropped.
+pub fn get_packed(
+    alloc: Global,
+    table: &Table,
+    bytes: &[u8],
+    room: Vec<u8>,
+) -> Result<Vec<u8>, Fault>
+    ensures done { IfOk result (λ reply. spec.got table.now bytes.now ≡ Ok reply.items) }
+    ensures fault { IfErr result (λ fault. fault.refusal ≢ Refusal.OutOfMemory → spec.got table.now bytes.now ≡ Err fault) }
+{
+    let key = match table.schema() {
+        Ok(schema) => read_key(alloc, schema, bytes)?,
+        Err(refusal) => return Err(Fault::of_call(refusal)),
+    };
+    let code = encode_row(alloc, &key, key.len())?;
+    match table.get_at(alloc, &code) {
+        Ok(Reply::Row(row)) => packed_row(row, room),
+        Ok(_) => unreachable!(),
+        Err(refusal) => Err(Fault::of_call(refusal)),
+    }
+}
+
+// The packed rows of a page of the tree of this name.
+fn rows_between(
+    alloc: Global,
+    table: &Table,
+    name: &Text,
+    limit: u32,
+    range: &KeyRange,
+    room: Vec<u8>,
+) -> Result<Vec<u8>, Fault>
+    ensures done { IfOk result (λ reply. spec.page_between table.now name.now limit range.now ≡ Ok reply.items) }
+    ensures fault { IfErr result (λ fault. fault.refusal ≢ Refusal.OutOfMemory → spec.page_between table.now name.now limit range.now ≡ Err fault) }
+{
+    let rows = PackedRows::in_room(room)?;
+    match page(alloc, table, name, range, limit as usize, rows) {
+        Ok(rows) => Ok(rows.into_bytes()),
+        Err(refusal) => Err(Fault::of_call(refusal)),
+    }
+}
+
+/// The packed rows of the page that packed bytes ask for, in the room of these bytes, which are dropped.
+pub fn page_packed(
+    alloc: Global,
+    table: &Table,
+    bytes: &[u8],
+    room: Vec<u8>,
+) -> Result<Vec<u8>, Fault>
+    ensures done { IfOk result (λ reply. spec.packed_page table.now bytes.now ≡ Ok reply.items) }
+    ensures fault { IfErr result (λ fault. fault.refusal ≢ Refusal.OutOfMemory → spec.packed_page table.now bytes.now ≡ Err fault) }
+{
+    let Some((limit, rest)) = header_at(bytes) else {
+        return Err(Fault::no_header());
+    };
+    let (name, rest) = name_at(alloc, rest)?;
+    let range = match tree_columns(alloc, table, &name) {
+        Ok(columns) => range_at(alloc, columns.key_columns(), rest)?,
+        Err(refusal) => return Err(Fault::of_call(refusal)),
+    };
+    rows_between(alloc, table, &name, limit, &range, room)
+}
+
+// The name that packed bytes encode.
+fn read_name(alloc: Global, bytes: &[u8]) -> Result<Text, Fault>
+    ensures done { IfOk result (λ name. spec.packed_name bytes.now ≡ Ok name) }
+    ensures fault { IfErr result (λ fault. fault.refusal ≢ Refusal.OutOfMemory → spec.packed_name bytes.now ≡ Err fault) }
+{
+    let Some((1, rest)) = header_at(bytes) else {
+        return Err(Fault::no_header());
+    };
+    let (name, rest) = name_at(alloc, rest)?;
+    if rest.is_empty() {
+        Ok(name)
+    } else {
+        Err(Fault::bad_bytes(1, 0))
+    }
+}
+
+/// The packed columns of the tree that packed bytes name, after the number of its key columns.
+pub fn columns_packed(alloc: Global, table: &Table, bytes: &[u8]) -> Result<Vec<u8>, Fault>
+    ensures done { IfOk result (λ reply. spec.told_columns table.now bytes.now ≡ Ok reply.items) }
+    ensures fault { IfErr result (λ fault. fault.refusal ≢ Refusal.OutOfMemory → spec.told_columns table.now bytes.now ≡ Err fault) }
+{
+    let name = read_name(alloc, bytes)?;
+    match tree_columns(alloc, table, &name) {
+        Ok(columns) => Ok(packed_columns(alloc, columns.columns(), columns.keys())?),
+        Err(refusal) => Err(Fault::of_call(refusal)),
+    }
+}

@@ -1,0 +1,37 @@
+//! The calls of a table on packed bytes: changes, a key or a page in, rows out, with no text in between.
+//!
+//! Packed bytes begin with the letters `BTV` and the version of the layout, 1. Numbers are little endian, there is no padding, and there are no pointers. A
+//! value has the kind of its column: an int is eight bytes, a text or bytes are one byte for the length and the bytes, a flag is one byte, 0 or 1.
+//!
+//! - Changes ([`apply_packed`]): their number in four bytes, and each change: 0 and the values of all columns for a put; 1 and those of the key columns for
+//!   a del; 2, those of the key columns, the number of operations in one byte and the operations for an upsert. An operation is 0 for set, 1 for add, 2 for
+//!   max or 3 for min, the place of its column, counted from 0, and the value or, in eight bytes, the number.
+//! - A key ([`get_packed`]): the number 1 in four bytes, and the values of the key columns.
+//! - A page ([`page_packed`]): the most rows in four bytes, the name of the tree as a text, the lower bound and the upper one. A bound is 0 for none; 1, a
+//!   number of values in one byte, and the values of that many of the tree's first key columns; or 2 and those of all its key columns, for the place directly
+//!   after the row with this key. So the next page begins with 2 and the bytes of the key columns of the last row, with which that row begins.
+//! - The name of a tree ([`columns_packed`]): the number 1 in four bytes, and the name as a text. The reply has, after the first four bytes, the number of key
+//!   columns in eight bytes, and of each column the kind in one byte (0 int, 1 text, 2 flag, 4 bytes) and the name as a text.
+//! - Rows (the replies to a key and to a page): after the first four bytes, the values of each row, one row after the other, to the end of the bytes.
+//!
+//! ```text
+//! apply_packed(alloc, &mut table, b"BTV\x01\x01\0\0\0\0...")?;      // one put
+//! let reply = get_packed(alloc, &table, b"BTV\x01\x01\0\0\0...", Vec::new(alloc))?;
+//! ```
+//!
+//! A [`Fault`] says why bytes are refused, and where. The definitions are in `specs`.
+#![tactic(auto)]
+
+mod calls;
+mod changes;
+mod columns;
+mod fault;
+mod operations;
+mod page;
+mod reading;
+mod rows;
+
+pub use calls::{apply_packed, columns_packed, get_packed, page_packed};
+pub use changes::read_changes;
+pub use fault::Fault;
+pub use rows::PackedRows;

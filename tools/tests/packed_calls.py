@@ -1,0 +1,716 @@
+"""Tests of the calls on packed bytes, of the library for C and of the Python client: beside scripts, with bytes that are none of the layout, and at random.
+
+The bytes are those of an encoder of this file, and not of the client's. `BETABLE_FUZZ` is the number of random bytes that are tried, 20,000 unless it is set."""
+
+import os
+import random
+import struct
+import subprocess
+from textwrap import dedent
+
+from common import expect, expect_within, SECONDS, TOP
+from clients import betable, c_program, library
+
+DONE, OUT_OF_MEMORY, NOT_OPEN, REFUSED = 0, 1, 3, 5
+SYNTAX, NO_TABLE, BAD_FIELD, BAD_LENGTH, NO_SUCH_TREE, BUILDING, NO_SUCH_COLUMN, NOT_INT = 1, 3, 6, 7, 8, 11, 15, 16
+CALLS = ("betable_apply", "betable_get", "betable_page", "betable_columns")
+UNWRITTEN = (99, 98, 97)
+PUT, DEL, UPS = range(3)
+WORDS = ("set", "add", "max", "min")
+FUZZ = int(os.environ.get("BETABLE_FUZZ", 20_000))
+
+
+# ---- the layout, as include/betable.h has it ----
+
+
+def header(number, magic=b"BTV\x01"):
+    return magic + struct.pack("<I", number)
+
+
+def value_bytes(value):
+    """A value by its own type."""
+    if isinstance(value, bool):
+        return bytes([value])
+    if isinstance(value, int):
+        return struct.pack("<q", value)
+    encoded = value.encode() if isinstance(value, str) else value
+    return bytes([len(encoded)]) + encoded
+
+
+def values_bytes(values):
+    return b"".join(map(value_bytes, values))
+
+
+def put(*row):
+    return bytes([PUT]) + values_bytes(row)
+
+
+def delete(*key):
+    return bytes([DEL]) + values_bytes(key)
+
+
+def upsert(key, *operations):
+    """Of the key, and of operations each of a code, a place and a value."""
+    return bytes([UPS]) + values_bytes(key) + bytes([len(operations)]) + b"".join(bytes(one[:2]) + value_bytes(one[2]) for one in operations)
+
+
+def changes(*found):
+    return header(len(found)) + b"".join(found)
+
+
+def from_values(*values):
+    """The bound before the rows that begin with these values, or none."""
+    return bytes([1, len(values)]) + values_bytes(values) if values else b"\0"
+
+
+def after_row(*key):
+    return b"\2" + values_bytes(key)
+
+
+def page(limit, tree="primary", lower=b"\0", upper=b"\0"):
+    return header(limit) + value_bytes(tree) + lower + upper
+
+
+class Bytes:
+    """Bytes that are read from the front. What is not there raises the fault of their place."""
+
+    def __init__(self, given):
+        self.rest = given
+
+    def take(self, count, fault):
+        if len(self.rest) < count:
+            raise Fault(*fault)
+        found, self.rest = self.rest[:count], self.rest[count:]
+        return found
+
+    def value(self, kind, fault):
+        if kind == "int":
+            return struct.unpack("<q", self.take(8, fault))[0]
+        number = self.take(1, fault)[0]
+        if kind == "flag":
+            if number > 1:
+                raise Fault(*fault)
+            return bool(number)
+        found = self.take(number, fault)
+        try:
+            return found.decode() if kind == "text" else found
+        except UnicodeDecodeError:
+            raise Fault(*fault) from None
+
+    def values(self, kinds, item):
+        return tuple([self.value(kind, (BAD_FIELD, item, place)) for place, kind in enumerate(kinds, 1)])
+
+
+class Fault(Exception):
+    """Why packed bytes are refused: the number, the item and the column."""
+
+
+def rows_of(reply, kinds):
+    """The rows of a reply, and where each begins in it."""
+    expect(reply[:4], b"BTV\x01")
+    found, places, bytes_left = [], [], Bytes(reply[4:])
+    while bytes_left.rest:
+        places.append(len(reply) - len(bytes_left.rest))
+        found.append(bytes_left.values(kinds, 0))
+    return found, places
+
+
+def changes_of(given, kinds, keys):
+    """The changes that bytes encode, for a table with these columns, each a list of its code, its row or key, and its operations."""
+    read = Bytes(given)
+    if read.take(4, (SYNTAX, 0, 0)) != b"BTV\x01":
+        raise Fault(SYNTAX, 0, 0)
+    count, found = struct.unpack("<I", read.take(4, (SYNTAX, 0, 0)))[0], []
+    for item in range(1, count + 1):
+        code = read.take(1, (BAD_FIELD, item, 0))[0]
+        if code > UPS:
+            raise Fault(BAD_FIELD, item, 0)
+        values = read.values(kinds if code == PUT else kinds[:keys], item)
+        found.append((code, values, operations_of(read, kinds, keys, item) if code == UPS else []))
+    if read.rest:
+        raise Fault(BAD_FIELD, count + 1, 0)
+    return found
+
+
+def operations_of(read, kinds, keys, item):
+    count, found, faults = read.take(1, (BAD_FIELD, item, 0))[0], [], []
+    for _ in range(count):
+        code, place = read.take(2, (BAD_FIELD, item, 0))
+        at = (BAD_FIELD, item, place + 1)
+        if code == 0 and place >= len(kinds):
+            raise Fault(NO_SUCH_COLUMN, item, place + 1)
+        if code > 3:
+            raise Fault(BAD_FIELD, item, 0)
+        found.append((code, place, read.value("int" if code else kinds[place], at)))
+        if place < keys or place >= len(kinds):
+            faults.append(NO_SUCH_COLUMN)
+        elif code and kinds[place] != "int":
+            faults.append(NOT_INT)
+    if not 1 <= count <= 16:
+        raise Fault(BAD_LENGTH, item, 0)
+    if faults:
+        raise Fault(min(faults), item, 0)
+    return found
+
+
+# ---- sessions ----
+
+
+class Raw:
+    """The calls of the library on a session of the client, with bytes as they are."""
+
+    def __init__(self, script=""):
+        self.session = betable().Session()
+        if script:
+            self.session.run(script)
+
+    def call(self, name, given):
+        """The status, the fault, and the bytes of the reply."""
+        fault = self.session._fault
+        fault.refusal, fault.item, fault.column = UNWRITTEN
+        status = getattr(self.session._library, name)(self.session._handle, given, len(given), fault)
+        return status, (fault.refusal, fault.item, fault.column), self.session._copied()
+
+    def reply(self, name, given):
+        """The reply of a call that is done."""
+        status, fault, reply = self.call(name, given)
+        expect((given, status, fault), (given, DONE, UNWRITTEN))
+        return reply
+
+    def apply(self, *given):
+        expect(self.reply("betable_apply", changes(*given)), b"")
+
+    def images(self):
+        return self.session.replies("".join(f"image {name}\n" for name in ["primary", *(name.decode() for name in self.session.state.table.indexes)]))
+
+    def kinds(self, tree="primary"):
+        return [kind.decode() for _, kind in self.session.state.table.columns_of(tree.encode())]
+
+
+SCHEMA = "table 4 3 2 1 id:int city:text ok:flag raw:bytes qty:int\nindex by_city on city include ok,qty\nbuild by_city 1\nindex large on qty where qty >= 6\nbuild large 1\n"
+TEXTS = ["", "a", "a\0", "a\0\0", "ab", "b", "Oslo", "Bergen, west", '"', "æ", "\ufeffx", "\x7f", "x" * 255]
+BINARIES = [b"", b"\0", b"\0\0", b"\xff", b"\xff" * 255, b"ab"]
+INTS = [0, 1, -1, 2, 7, 2**63 - 1, -(2**63)]
+
+
+def random_row(dice):
+    return dice.randrange(-9, 30), dice.choice(TEXTS), dice.random() < 0.5, dice.choice(BINARIES), dice.choice(INTS)
+
+
+def random_change(dice):
+    """A message of the client, and the bytes of the same change."""
+    client, row = betable(), random_row(dice)
+    form = dice.random()
+    if form < 0.5:
+        return client.put(*row), put(*row)
+    if form < 0.7:
+        return client.delete(row[0]), delete(row[0])
+    places = {"city": 1, "ok": 2, "raw": 3, "qty": 4}
+    given = {}
+    for word in dice.sample(WORDS, dice.randrange(1, 5)):
+        names = dice.sample(sorted(places), dice.randrange(1, 5)) if word == "set" else ["qty"]
+        given[word] = {name: row[places[name]] for name in names}
+    operations = [(code, places[name], value) for code, word in enumerate(WORDS) for name, value in given.get(word, {}).items()]
+    return client.upsert(row[0], **given), upsert(row[:1], *operations)
+
+
+def filled(dice, count=40):
+    raw = Raw(SCHEMA)
+    raw.apply(*(put(*random_row(dice)) for _ in range(count)))
+    return raw
+
+
+# ---- beside scripts ----
+
+
+def changes_by_packed_bytes_and_by_script_leave_equal_trees():
+    """Those of rows and of indexes, of three tables that get the same changes: by script, by packed bytes, and by the client."""
+    for seed in range(12):
+        dice = random.Random(seed)
+        by_script, by_bytes, by_client = Raw(SCHEMA), Raw(SCHEMA), Raw(SCHEMA)
+        for _ in range(15):
+            found = [random_change(dice) for _ in range(dice.choice([0, 1, 2, 5, 40]))]
+            by_script.session.run("batch\n" + "".join(str(message) for message, _ in found) + "end\n")
+            by_bytes.apply(*(given for _, given in found))
+            by_client.session.batch([message for message, _ in found])
+            images = by_script.images()
+            expect((seed, by_bytes.images(), by_client.images()), (seed, images, images))
+
+
+def rows_that_are_put_go_as_they_go_by_text():
+    """Rows of the client, one after the other and many at once, beside the lines of a batch."""
+    client, dice = betable(), random.Random(3)
+    for _ in range(20):
+        rows = [random_row(dice) for _ in range(dice.choice([1, 2, 3, 4, 50]))]
+        by_script, by_client = Raw(SCHEMA), Raw(SCHEMA)
+        by_script.session.run("batch\n" + "".join(str(client.put(*row)) for row in rows) + "end\n")
+        expect(by_client.session.put([dice.choice([tuple, list])(row) for row in rows]), len(rows))
+        expect(by_client.images(), by_script.images())
+
+
+def gets_and_pages_are_those_of_scans():
+    """Of random keys, bounds and limits, in the rows and in the indexes, by packed bytes and by the client."""
+    for seed in range(6):
+        dice = random.Random(seed)
+        raw = filled(dice)
+        session = raw.session
+        for key in range(-12, 33):
+            wanted = session.run(f"get {key}\n")[0].rows
+            reply = raw.reply("betable_get", header(1) + value_bytes(key))
+            expect((key, rows_of(reply, raw.kinds())[0], session.get(key)), (key, wanted, wanted[0] if wanted else None))
+        for tree in ("primary", "by_city", "large"):
+            whole = session.run(f"scan {tree}\ngo\n")[0].rows
+            count = len(session.state.table.key_of(tree.encode()))
+            for _ in range(60):
+                bounds = [dice.choice(whole)[: dice.randrange(count + 1)] for _ in range(2)]
+                lines = "".join(f"{word} {betable().record(values)}\n" for word, values in zip(("from", "to"), bounds) if values)
+                wanted = session.run(f"scan {tree}\n{lines}go\n")[0].rows
+                for limit in (0, 1, 2, len(wanted), len(wanted) + 1, 2**32 - 1):
+                    reply = raw.reply("betable_page", page(limit, tree, *(from_values(*values) for values in bounds)))
+                    expect((tree, bounds, limit, rows_of(reply, raw.kinds(tree))[0]), (tree, bounds, limit, wanted[:limit]))
+                    found = session.scan(tree, *(values or None for values in bounds), limit)
+                    expect((tree, bounds, limit, found), (tree, bounds, limit, wanted[:limit]))
+                expect(session.scan(tree, *(values or None for values in bounds)), wanted)
+                expect(list(session.iterate(tree, *(values or None for values in bounds), dice.randrange(1, 9))), wanted)
+
+
+def a_page_after_a_row_repeats_and_loses_no_row():
+    """Pages that begin with 2 and the first bytes of the last row, which a program has without decoding it."""
+    dice = random.Random(1)
+    raw = filled(dice)
+    for tree in ("primary", "by_city", "large"):
+        kinds, keys = raw.kinds(tree), len(raw.session.state.table.key_of(tree.encode()))
+        wanted = raw.session.run(f"scan {tree}\ngo\n")[0].rows
+        expect(len(wanted) > 5, True)
+        for limit in (1, 2, 3, len(wanted) - 1, len(wanted), len(wanted) + 1):
+            found, lower, pages = [], b"\0", 0
+            while True:
+                reply = raw.reply("betable_page", page(limit, tree, lower))
+                rows, places = rows_of(reply, kinds)
+                found, pages = found + rows, pages + 1
+                if len(rows) < limit:
+                    break
+                end = places[-1] + len(values_bytes(rows[-1][:keys]))
+                lower = b"\2" + reply[places[-1] : end]
+            expect((tree, limit, found, pages), (tree, limit, wanted, len(wanted) // limit + 1))
+            expect(list(raw.session.iterate(tree, page=limit)), wanted)
+
+
+def keys_that_begin_alike_are_in_one_page_each():
+    """Texts and bytes that are the beginning of another, zeros, the largest ints, and texts that only a load takes."""
+    dice = random.Random(2)
+    for kind, pool in (("text", [*TEXTS, "\n", "a\r\n", "a\x01", "\0"]), ("bytes", [*BINARIES, b"\0\1", b"\xff\0"]), ("int", INTS), ("flag", [False, True])):
+        for columns in (1, 2, 3):
+            raw = Raw(f"table 4 3 2 {columns} " + " ".join(f"{name}:{kind}" for name in ("a", "b", "c")[:columns]) + " qty:int\n")
+            raw.session.run("index by_qty on qty\nbuild by_qty 1\n")
+            keys = {tuple(dice.choice(pool) for _ in range(columns)) for _ in range(30)}
+            raw.session.load([(*key, dice.randrange(3)) for key in keys])
+            for tree in ("primary", "by_qty"):
+                wanted = raw.session.run(f"scan {tree}\ngo\n")[0].rows
+                for size in (1, 2, len(keys)):
+                    expect((kind, tree, size, list(raw.session.iterate(tree, page=size))), (kind, tree, size, wanted))
+                for row in wanted:
+                    key = row[: len(raw.session.state.table.key_of(tree.encode()))]
+                    reply = raw.reply("betable_page", page(9, tree, from_values(*key), after_row(*key)))
+                    expect((kind, tree, row, rows_of(reply, raw.kinds(tree))[0]), (kind, tree, row, [row]))
+                    reply = raw.reply("betable_page", page(99, tree, after_row(*key)))
+                    expect((kind, tree, row, rows_of(reply, raw.kinds(tree))[0]), (kind, tree, row, wanted[wanted.index(row) + 1 :]))
+
+
+def columns_are_those_of_the_tables_and_indexes():
+    raw = Raw("table 16 64 16 2 land:text id:int ok:flag raw:bytes qty:int\nindex by_qty on qty include ok\n")
+    session = raw.session
+    text = b"\1\4land\0\2id\2\2ok\4\3raw\0\3qty"
+    expect(raw.reply("betable_columns", header(1) + value_bytes("primary")), b"BTV\x01\2" + bytes(7) + text)
+    # An index that is building has its columns too.
+    expect(raw.reply("betable_columns", header(1) + value_bytes("by_qty")), b"BTV\x01\3" + bytes(7) + b"\0\3qty\1\4land\0\2id\2\2ok")
+    expect(session.columns(), [("land", "text", True), ("id", "int", True), ("ok", "flag", False), ("raw", "bytes", False), ("qty", "int", False)])
+    found = session.columns("by_qty")
+    expect((found, found[3].name, found[3].kind, found[3].is_key), ([("qty", "int", True), ("land", "text", True), ("id", "int", True), ("ok", "flag", False)], "ok", "flag", False))
+
+
+# ---- bytes that are none of the layout ----
+
+ROW = (1, "Oslo", True, b"\0\xff", 30)
+KEY_TOO_LONG = bytes([PUT]) + value_bytes(4) + b"\xff" + b"a" * 20
+MALFORMED = [
+    ("betable_apply", b"", (SYNTAX, 0, 0)),
+    ("betable_apply", b"BTW\x01" + changes(put(*ROW))[4:], (SYNTAX, 0, 0)),
+    ("betable_apply", b"BTV\x02" + changes(put(*ROW))[4:], (SYNTAX, 0, 0)),
+    ("betable_apply", b"batch\nput 1,a\nend\n", (SYNTAX, 0, 0)),
+    ("betable_apply", b"BTV\x01\x01\0\0", (SYNTAX, 0, 0)),
+    ("betable_apply", header(1), (BAD_FIELD, 1, 0)),
+    ("betable_apply", header(2**32 - 1) + put(*ROW), (BAD_FIELD, 2, 0)),
+    ("betable_apply", changes(KEY_TOO_LONG), (BAD_FIELD, 1, 2)),
+    ("betable_apply", changes(put(1, b"\xff", True, b"", 1)), (BAD_FIELD, 1, 2)),
+    ("betable_apply", changes(put(1, b"\xed\xa0\x80", True, b"", 1)), (BAD_FIELD, 1, 2)),
+    ("betable_apply", changes(put(1, b"\xc0\x80", True, b"", 1)), (BAD_FIELD, 1, 2)),
+    ("betable_apply", changes(put(1, "æ".encode()[:1], True, b"", 1)), (BAD_FIELD, 1, 2)),
+    ("betable_apply", changes(bytes([PUT]) + values_bytes((1, "a")) + b"\2" + values_bytes((b"", 1))), (BAD_FIELD, 1, 3)),
+    ("betable_apply", changes(b"\3" + values_bytes(ROW)), (BAD_FIELD, 1, 0)),
+    ("betable_apply", changes(put(*ROW), delete(2), b"\xff"), (BAD_FIELD, 3, 0)),
+    ("betable_apply", changes(put(*ROW), delete(2), put(3, "a", True, b"", 1)[:-1]), (BAD_FIELD, 3, 5)),
+    ("betable_apply", changes(upsert((1,), (4, 4, 1))), (BAD_FIELD, 1, 0)),
+    ("betable_apply", changes(upsert((1,), (255, 4, 1))), (BAD_FIELD, 1, 0)),
+    ("betable_apply", changes(upsert((1,), (0, 0, 1))), (NO_SUCH_COLUMN, 1, 0)),
+    ("betable_apply", changes(upsert((1,), (1, 0, 1))), (NO_SUCH_COLUMN, 1, 0)),
+    ("betable_apply", changes(upsert((1,), (0, 5, 1))), (NO_SUCH_COLUMN, 1, 6)),
+    ("betable_apply", changes(upsert((1,), (2, 255, 1))), (NO_SUCH_COLUMN, 1, 0)),
+    ("betable_apply", changes(upsert((1,), (1, 1, 1))), (NOT_INT, 1, 0)),
+    ("betable_apply", changes(put(*ROW), upsert((1,), (1, 4, 1), (3, 2, 1))), (NOT_INT, 2, 0)),
+    ("betable_apply", changes(upsert((1,), (3, 2, 1), (1, 0, 1))), (NO_SUCH_COLUMN, 1, 0)),
+    ("betable_apply", changes(upsert((1,))), (BAD_LENGTH, 1, 0)),
+    ("betable_apply", changes(upsert((1,), *[(1, 4, 1)] * 17)), (BAD_LENGTH, 1, 0)),
+    ("betable_apply", changes(bytes([UPS]) + value_bytes(1) + b"\1\0\2\2"), (BAD_FIELD, 1, 3)),
+    ("betable_apply", changes(bytes([UPS]) + value_bytes(1) + b"\1\0\1\1\xff"), (BAD_FIELD, 1, 2)),
+    ("betable_apply", changes(put(*ROW)) + b"\0", (BAD_FIELD, 2, 0)),
+    ("betable_apply", changes() + put(*ROW), (BAD_FIELD, 1, 0)),
+    ("betable_get", b"", (SYNTAX, 0, 0)),
+    ("betable_get", header(0) + value_bytes(1), (SYNTAX, 0, 0)),
+    ("betable_get", header(2) + value_bytes(1), (SYNTAX, 0, 0)),
+    ("betable_get", header(1, b"BTV\0") + value_bytes(1), (SYNTAX, 0, 0)),
+    ("betable_get", header(1), (BAD_FIELD, 1, 1)),
+    ("betable_get", header(1) + value_bytes(1)[:-1], (BAD_FIELD, 1, 1)),
+    ("betable_get", header(1) + value_bytes(1) + b"\0", (BAD_FIELD, 1, 0)),
+    ("betable_page", b"", (SYNTAX, 0, 0)),
+    ("betable_page", b"scan primary\ngo\n", (SYNTAX, 0, 0)),
+    ("betable_page", header(1), (BAD_FIELD, 0, 0)),
+    ("betable_page", header(1) + b"\x09primary\0\0", (NO_SUCH_TREE, 0, 0)),
+    ("betable_page", header(1) + b"\x0aprimary\0\0", (BAD_FIELD, 0, 0)),
+    ("betable_page", page(1, b"\xff"), (BAD_FIELD, 0, 0)),
+    ("betable_page", page(1, "nothing"), (NO_SUCH_TREE, 0, 0)),
+    ("betable_page", page(1, ""), (NO_SUCH_TREE, 0, 0)),
+    ("betable_page", page(1, "begun"), (BUILDING, 0, 0)),
+    ("betable_page", page(1, lower=b"", upper=b""), (BAD_FIELD, 1, 0)),
+    ("betable_page", page(1, upper=b""), (BAD_FIELD, 2, 0)),
+    ("betable_page", page(1, lower=b"\3"), (BAD_FIELD, 1, 0)),
+    ("betable_page", page(1, upper=b"\3"), (BAD_FIELD, 2, 0)),
+    ("betable_page", page(1, lower=b"\1", upper=b""), (BAD_FIELD, 1, 0)),
+    ("betable_page", page(1, lower=b"\1\0"), (BAD_LENGTH, 1, 0)),
+    ("betable_page", page(1, upper=b"\1\0"), (BAD_LENGTH, 2, 0)),
+    ("betable_page", page(1, lower=from_values(1, 2)), (BAD_LENGTH, 1, 0)),
+    ("betable_page", page(1, upper=from_values(1)[:-1]), (BAD_FIELD, 2, 1)),
+    ("betable_page", page(1, upper=after_row(1)[:-1]), (BAD_FIELD, 2, 1)),
+    ("betable_page", page(1, "by_city", after_row("Oslo")), (BAD_FIELD, 1, 2)),
+    ("betable_page", page(1, "by_city", from_values(b"\xff")), (BAD_FIELD, 1, 1)),
+    ("betable_page", page(1, "by_city", b"\0", from_values("Oslo", 1, True)), (BAD_LENGTH, 2, 0)),
+    ("betable_page", page(1) + b"\0", (BAD_FIELD, 2, 0)),
+    ("betable_columns", b"", (SYNTAX, 0, 0)),
+    ("betable_columns", header(0) + value_bytes("primary"), (SYNTAX, 0, 0)),
+    ("betable_columns", header(1), (BAD_FIELD, 0, 0)),
+    ("betable_columns", header(1) + b"\x08primary", (BAD_FIELD, 0, 0)),
+    ("betable_columns", header(1) + value_bytes("primary") + b"\0", (BAD_FIELD, 1, 0)),
+    ("betable_columns", header(1) + value_bytes("nothing"), (NO_SUCH_TREE, 0, 0)),
+]
+
+
+def malformed_bytes_are_refused_at_their_place_and_change_nothing():
+    raw = filled(random.Random(4))
+    raw.session.run("index begun on qty\n")
+    before = raw.images()
+    for number, (name, given, fault) in enumerate(MALFORMED):
+        expect((number, raw.call(name, given)), (number, (REFUSED, fault, b"")))
+        expect((number, raw.images()), (number, before))
+    raw.apply(put(*ROW))
+    expect(raw.session.get(1), ROW)
+
+
+def bytes_that_are_cut_are_refused_where_they_end():
+    """A message with each kind of change and value, cut after each of its bytes: the place is that of what is not whole."""
+    parts = [(b"BTV\x01" + struct.pack("<I", 4), (SYNTAX, 0, 0))]
+    for item, code, values in ((1, PUT, ROW), (2, DEL, (2,)), (3, PUT, (3, "æ", False, b"", -1)), (4, UPS, (1,))):
+        parts.append((bytes([code]), (BAD_FIELD, item, 0)))
+        parts += [(value_bytes(value), (BAD_FIELD, item, place)) for place, value in enumerate(values, 1)]
+    parts.append((b"\4", (BAD_FIELD, 4, 0)))
+    for code, place, value in ((0, 1, "Bergen, west"), (0, 2, False), (0, 3, b"ab"), (1, 4, -5)):
+        parts += [(bytes([code, place]), (BAD_FIELD, 4, 0)), (value_bytes(value), (BAD_FIELD, 4, place + 1))]
+    whole = b"".join(part for part, _ in parts)
+    raw = filled(random.Random(5))
+    before, at = raw.images(), 0
+    for part, fault in parts:
+        for end in range(at, at + len(part)):
+            expect((end, raw.call("betable_apply", whole[:end])), (end, (REFUSED, fault, b"")))
+        at += len(part)
+        expect((at, raw.images()), (at, before))
+    expect(raw.reply("betable_apply", whole), b"")
+    expect([raw.session.get(key) for key in (1, 2, 3)], [(1, "Bergen, west", False, b"ab", 25), None, (3, "æ", False, b"", -1)])
+    # The same for a page of an index.
+    parts = [(header(5), (SYNTAX, 0, 0)), (value_bytes("by_city"), (BAD_FIELD, 0, 0)), (b"\1\2", (BAD_FIELD, 1, 0)), (value_bytes("a"), (BAD_FIELD, 1, 1))]
+    parts += [(value_bytes(7), (BAD_FIELD, 1, 2)), (b"\2", (BAD_FIELD, 2, 0)), (value_bytes("z"), (BAD_FIELD, 2, 1)), (value_bytes(9), (BAD_FIELD, 2, 2))]
+    whole, at = b"".join(part for part, _ in parts), 0
+    for part, fault in parts:
+        for end in range(at, at + len(part)):
+            expect((end, raw.call("betable_page", whole[:end])), (end, (REFUSED, fault, b"")))
+        at += len(part)
+    raw.reply("betable_page", whole)
+
+
+def calls_without_a_table_or_on_a_closed_session_are_refused():
+    raw = Raw()
+    for name in CALLS:
+        for given in (b"", changes(put(*ROW)), b"BTV"):
+            expect((name, raw.call(name, given)), (name, (REFUSED, (NO_TABLE, 0, 0), b"")))
+    session, client = raw.session, betable()
+    for call in (lambda: session.put([ROW]), lambda: session.get(1), lambda: session.scan(limit=1), lambda: session.iterate(), session.columns):
+        fault = fault_of(call)
+        expect((type(fault), fault.number), (client.Refused, NO_TABLE))
+    session.close()
+    for name in CALLS:
+        expect((name, raw.call(name, changes(put(*ROW)))), (name, (NOT_OPEN, UNWRITTEN, b"")))
+    for call in (lambda: session.put([ROW]), lambda: session.get(1), lambda: session.scan(limit=1), lambda: session.iterate(), session.columns):
+        expect(type(fault_of(call)), ValueError)
+
+
+# ---- random bytes ----
+
+
+def mutated(dice, given):
+    """Bytes with a few of them changed, removed, doubled or added."""
+    found = bytearray(given)
+    for _ in range(dice.choice([0, 1, 1, 2, 5])):
+        at = dice.randrange(len(found) + 1)
+        form = dice.randrange(5)
+        if form == 0:
+            found[at : at + 1] = bytes([dice.choice([0, 1, 2, 3, 4, 5, 255, dice.randrange(256)])])
+        elif form == 1:
+            del found[at : at + dice.randrange(1, 9)]
+        elif form == 2:
+            found[at:at] = dice.randbytes(dice.randrange(1, 9))
+        elif form == 3:
+            found[at:at] = found[at : at + dice.randrange(20)]
+        elif found:
+            found[at % len(found)] ^= 1 << dice.randrange(8)
+    return bytes(found)
+
+
+def applied(rows, found):
+    """The rows of a dict by their keys after changes."""
+    for code, values, operations in found:
+        if code == PUT:
+            rows[values[0]] = values
+        elif code == DEL:
+            rows.pop(values[0], None)
+        else:
+            row = list(rows.get(values[0], (values[0], "", False, b"", 0)))
+            for operation, place, value in operations:
+                if operation == 1:
+                    row[place] = max(-(2**63), min(2**63 - 1, row[place] + value))
+                else:
+                    row[place] = value if operation == 0 else max(row[place], value) if operation == 2 else min(row[place], value)
+            rows[values[0]] = tuple(row)
+
+
+def random_bytes_are_refused_or_applied_as_they_say():
+    """Random and mutated bytes of each call. The reader of this file says of changes what they are, or why and where they are refused; rows are those of a
+    dict. A call that is refused changes no row, and one that only reads changes none."""
+    dice = random.Random(int(os.environ.get("BETABLE_SEED", 8)))
+    raw, rows, kinds, refused, done = Raw(SCHEMA), {}, ["int", "text", "flag", "bytes", "int"], 0, 0
+    everything = page(2**32 - 1)
+    shown = raw.reply("betable_page", everything)
+    others = [header(1) + value_bytes(3), page(3, "by_city", from_values("a"), after_row("b", 1)), page(2, lower=after_row(1)), header(1) + value_bytes("large")]
+    for number in range(FUZZ):
+        if dice.random() < 0.3:
+            name, given = dice.choice(CALLS[1:]), mutated(dice, dice.choice(others))
+            status, fault, reply = raw.call(name, given)
+            expect((given, status in (DONE, REFUSED), (fault == UNWRITTEN) == (status == DONE)), (given, True, True))
+            expect((given, reply[:4]), (given, b"BTV\x01" if status == DONE else b""))
+        else:
+            given = changes(*(random_change(dice)[1] for _ in range(dice.choice([1, 1, 2, 4]))))
+            given = mutated(dice, given) if dice.random() < 0.95 else dice.randbytes(dice.randrange(40))
+            try:
+                found, wanted = changes_of(given, kinds, 1), (DONE, UNWRITTEN, b"")
+                applied(rows, found)
+                done += 1
+            except Fault as fault:
+                wanted = (REFUSED, fault.args, b"")
+                refused += 1
+            expect((given, raw.call("betable_apply", given)), (given, wanted))
+            if wanted[0] == DONE:
+                shown = raw.reply("betable_page", everything)
+                if len(rows) > 60:
+                    raw.apply(*map(delete, list(rows)[::2]))
+                    rows = {key: row for place, (key, row) in enumerate(rows.items()) if place % 2}
+                    shown = raw.reply("betable_page", everything)
+                expect((given, rows_of(shown, kinds)[0]), (given, [rows[key] for key in sorted(rows)]))
+        expect((given, raw.reply("betable_page", everything) == shown), (given, True))
+    expect((refused > FUZZ // 5, done > FUZZ // 10), (True, True))
+    by_city = sorted((row[1].encode(), row[0], row[2], row[4]) for row in rows.values())
+    expect([(row[0].encode(), *row[1:]) for row in raw.session.scan("by_city")], by_city)
+
+
+# ---- the client ----
+
+
+def fault_of(call):
+    try:
+        call()
+    except Exception as fault:
+        return fault
+    return None
+
+
+REFUSED_CALLS = [
+    lambda c, s: s.put([(4, "a", True, b"", 2**63)]),
+    lambda c, s: s.put([(n, "a", True, b"" if n != 7 else bytes(256), 1) for n in range(9)]),
+    lambda c, s: s.put([(4, "x" * 256, True, b"", 1)], most=5),
+    lambda c, s: s.batch([c.upsert(1, set={"id": 2})]),
+    lambda c, s: s.batch([c.delete(1), c.upsert(1, add={"city": "a"})]),
+    lambda c, s: s.batch([c.upsert(1, add={"qty": 2**63})]),
+    lambda c, s: s.batch([c.delete(2), c.upsert(1, **{word: {name: 1} for word in WORDS[1:] for name in ("qty", "id")})]),
+    lambda c, s: s.get(2**63),
+    lambda c, s: s.scan("nothing"),
+    lambda c, s: s.scan("primary", (2**63,)),
+    lambda c, s: s.scan("begun"),
+    lambda c, s: s.scan("by_city", None, ("x" * 256,)),
+]
+
+
+def refusals_of_packed_bytes_are_those_of_text():
+    """The exceptions of the client, with their fields, beside those of a client that goes by text."""
+    client = betable()
+
+    class ByText(client.Session):
+        _apply, get, scan = client.Calls._apply, client.Calls.get, client.Calls.scan
+
+    packed, text = client.Session(), ByText()
+    for session in (packed, text):
+        session.run(SCHEMA + "index begun on qty\n")
+        session.put([ROW])
+    for number, call in enumerate(REFUSED_CALLS):
+        faults = [fault_of(lambda: call(client, session)) for session in (packed, text)]
+        expect((number, type(faults[0])), (number, client.Refused))
+        expect((number, str(faults[0]), faults[0].__dict__), (number, str(faults[1]), faults[1].__dict__))
+        expect(packed.scan(), [ROW])
+
+
+def limits_and_pages_are_checked():
+    client, session = betable(), filled(random.Random(6)).session
+    wrong = [
+        (lambda: session.scan(limit="5"), TypeError, "the limit of a scan is an int, and not '5'"),
+        (lambda: session.scan(limit=True), TypeError, "the limit of a scan is an int, and not True"),
+        (lambda: session.scan(limit=-1), ValueError, "the limit of a scan is 0 or more, and not -1"),
+        (lambda: session.iterate(page=0), ValueError, "the size of a page is 1 or more, and not 0"),
+        (lambda: session.iterate(page=None), TypeError, "the size of a page is an int, and not None"),
+        (lambda: session.iterate("by city"), ValueError, "a tree: "),
+        (lambda: session.iterate("nothing"), client.Refused, "refused 8 NoSuchTree"),
+        (lambda: session.iterate("primary", 1), client.RowTypeError, "a bound is a tuple, and not 1 of type int: write (1,)"),
+        (lambda: session.scan("primary", (1, 2), limit=1), client.RowValueError, "2 values, and a bound has 1 (id)"),
+        (lambda: session.scan("primary", (2**63,), limit=1), client.Refused, "refused 6 BadField"),
+        (lambda: session.scan("nothing", limit=1), client.Refused, "refused 8 NoSuchTree"),
+        (lambda: list(session.iterate("primary", (2**63,))), client.Refused, "refused 6 BadField"),
+        (lambda: session.columns("nothing"), client.Refused, "refused 8 NoSuchTree: no tree is named 'nothing'"),
+        (lambda: session.columns(5), TypeError, "a tree is named by a str, and not by 5"),
+    ]
+    for number, (call, kind, said) in enumerate(wrong):
+        fault = fault_of(call)
+        expect((number, type(fault)), (number, kind))
+        expect_within(said, str(fault))
+    expect(session.scan(limit=10**30), session.scan())
+
+
+def rows_that_change_while_they_are_read_come_once():
+    """Rows that are added after the last one that was read come, and those before it do not; a tree that is dropped ends the reading."""
+    client = betable()
+    with client.Session() as session:
+        session.run("table 4 3 2 1 id:int qty:int\nindex by_qty on qty\nbuild by_qty 1\n")
+        session.put((number, 0) for number in range(0, 20, 2))
+        rows = session.iterate(page=2)
+        found = [next(rows) for _ in range(4)]
+        session.put([(1, 0), (9, 0)])
+        session.batch([client.delete(10)])
+        expect([row[0] for row in [*found, *rows]], [0, 2, 4, 6, 8, 9, 12, 14, 16, 18])
+        rows = session.iterate("by_qty", page=2)
+        next(rows), next(rows)
+        session.run("drop by_qty\nindex by_qty on qty\nbuild by_qty 100\n")
+        expect_within("the tree 'by_qty' was dropped, or made again", str(fault_of(lambda: next(rows))))
+        rows = session.iterate(page=1)
+        next(rows)
+    expect(type(fault_of(lambda: next(rows))), ValueError)
+
+
+class NoMemory:
+    """The library, whose calls on packed bytes return that memory ran out."""
+
+    def __init__(self, library):
+        self.library = library
+
+    def __getattr__(self, name):
+        return (lambda *_: OUT_OF_MEMORY) if name in CALLS else getattr(self.library, name)
+
+
+def out_of_memory_is_an_exception_of_each_call():
+    client, session = betable(), filled(random.Random(7)).session
+    before, session._library = session.scan(), NoMemory(session._library)
+    for call in (lambda: session.put([ROW]), lambda: session.batch([client.delete(1)]), lambda: session.get(1), lambda: session.scan(limit=1), session.columns):
+        fault = fault_of(call)
+        expect((type(fault), fault.replies, fault.is_lost, str(fault)), (client.OutOfMemory, b"", False, "betable: out of memory"))
+    session._library = session._library.library
+    expect(session.scan(), before)
+
+
+def messages_of_many_shapes_keep_their_encoders_apart():
+    """More shapes than are kept at a time, and values of the types that only text takes, after those of packed bytes."""
+    client = betable()
+    with client.Session() as session:
+        names = [f"c{number}" for number in range(12)]
+        session.run("table 16 64 16 1 id:int " + " ".join(f"{name}:int" for name in names) + "\n")
+        wanted = [0] * 12
+        for number in range(1_500):
+            chosen = [place for place in range(12) if number >> place & 1] or [11]
+            session.batch([client.upsert(1, add={names[place]: place + 1 for place in chosen})])
+            wanted = [count + place + 1 if place in chosen else count for place, count in enumerate(wanted)]
+        expect(session.get(1), (1, *wanted))
+    for kind, plain, other, stored in (("text", "a", type("Text", (str,), {})("b"), "b"), ("int", 1, type("Int", (int,), {})(2), 2), ("bytes", b"a", bytearray(b"b"), b"b")):
+        with client.Session() as session:
+            session.run(f"table 16 64 16 1 id:int it:{kind}\n")
+            for value, found in ((plain, plain), (other, stored), (plain, plain)):
+                session.put([(1, value)])
+                expect((session.get(1), type(session.get(1)[1])), ((1, found), type(plain)))
+                session.batch([client.upsert(1, set={"it": value})])
+                expect(session.scan(), [(1, found)])
+
+
+# ---- C ----
+
+
+PRINTED = "get: 2 Bergen, west 15\npage:\n1 Oslo 30\n2 Bergen, west 15\npage:\n3 Tromsø 7\nrefused 6, item 2, column 2\n"
+
+
+def what_tests_share_is_built():
+    """The library, before tests run side by side."""
+    library()
+
+
+def the_example_in_c_prints_its_rows():
+    ended = subprocess.run([c_program(TOP / "clients/c/packed.c")], capture_output=True, text=True, timeout=SECONDS)
+    expect((ended.returncode, ended.stdout, ended.stderr), (0, PRINTED, ""))
+
+
+def the_page_has_a_part_of_the_example_in_c():
+    """docs/C.md has some of its lines, unchanged, and what the whole of it prints."""
+    code, after = (TOP / "docs/C.md").read_text().split("### Calls on packed bytes\n")[1].split("```c\n")[1].split("```\n", 1)
+    expect_within(code, dedent((TOP / "clients/c/packed.c").read_text().split("int main(void) {\n")[1].removesuffix("}\n")))
+    expect(after.split("```text\n")[1].split("```")[0], PRINTED)
+
+
+TESTS_OF_TEXTS = [
+    changes_by_packed_bytes_and_by_script_leave_equal_trees,
+    rows_that_are_put_go_as_they_go_by_text,
+    gets_and_pages_are_those_of_scans,
+    a_page_after_a_row_repeats_and_loses_no_row,
+    keys_that_begin_alike_are_in_one_page_each,
+    columns_are_those_of_the_tables_and_indexes,
+    malformed_bytes_are_refused_at_their_place_and_change_nothing,
+    bytes_that_are_cut_are_refused_where_they_end,
+    calls_without_a_table_or_on_a_closed_session_are_refused,
+    random_bytes_are_refused_or_applied_as_they_say,
+    refusals_of_packed_bytes_are_those_of_text,
+    limits_and_pages_are_checked,
+    rows_that_change_while_they_are_read_come_once,
+    out_of_memory_is_an_exception_of_each_call,
+    messages_of_many_shapes_keep_their_encoders_apart,
+    the_example_in_c_prints_its_rows,
+    the_page_has_a_part_of_the_example_in_c,
+]
+TESTS = []
+BUILDS = [what_tests_share_is_built]

@@ -1,0 +1,475 @@
+//! Typed calls beside scripts that do the same, and wrong typed calls.
+//!
+//!     typed changes | reads | pages | wrong | allocations
+//!
+//! The status is not 0 if what the word names does not hold, and a line says where.
+
+use betable::{Fault, FromValue, Kind, Op, Packer, Refusal, Reply, Row, Session, Value, Values, quoted};
+use std::alloc::{GlobalAlloc, Layout, System};
+use std::sync::atomic::{AtomicUsize, Ordering};
+
+const TABLE: &str = "table 4 6 3 2 id:int city:text qty:int ok:flag hash:bytes\nindex by_city on city,hash include qty\nbuild by_city 1\n";
+const CITIES: [&str; 12] = ["", "Oslo", "Bergen, west", "\"", "a\"b", " x ", "\u{feff}", "end", "æøå", "\0", "\0\u{1}", "go"];
+const HASHES: [&[u8]; 5] = [b"", b"\0", b"\0\xff", b"\xff", b"\x01\x02\x03\x04\x05\x06\x07\x08"];
+
+struct Counted;
+
+static ALLOCATIONS: AtomicUsize = AtomicUsize::new(0);
+
+unsafe impl GlobalAlloc for Counted {
+    unsafe fn alloc(&self, layout: Layout) -> *mut u8 {
+        ALLOCATIONS.fetch_add(1, Ordering::Relaxed);
+        unsafe { System.alloc(layout) }
+    }
+
+    unsafe fn dealloc(&self, at: *mut u8, layout: Layout) {
+        unsafe { System.dealloc(at, layout) }
+    }
+}
+
+#[global_allocator]
+static COUNTED: Counted = Counted;
+
+/// Numbers that look random (Marsaglia's xorshift64).
+struct Random(u64);
+
+impl Random {
+    fn below(&mut self, limit: usize) -> usize {
+        self.0 ^= self.0 << 13;
+        self.0 ^= self.0 >> 7;
+        self.0 ^= self.0 << 17;
+        (self.0 % limit as u64) as usize
+    }
+
+    fn of<T: Copy>(&mut self, from: &[T]) -> T {
+        from[self.below(from.len())]
+    }
+
+    fn city(&mut self) -> City {
+        City {
+            id: self.below(12) as i64 - 6,
+            name: self.of(&CITIES),
+            qty: self.of(&[0, 1, -1, i64::MIN, i64::MAX, 256]),
+            ok: self.below(2) == 1,
+            hash: self.of(&HASHES),
+        }
+    }
+}
+
+#[derive(Clone, Copy)]
+struct City {
+    id: i64,
+    name: &'static str,
+    qty: i64,
+    ok: bool,
+    hash: &'static [u8],
+}
+
+impl Values for City {
+    fn pack(&self, out: &mut Packer<'_>) -> Result<(), Fault> {
+        out.add(self.id)?;
+        out.add(self.name)?;
+        out.add(self.qty)?;
+        out.add(self.ok)?;
+        out.add(self.hash)
+    }
+}
+
+impl City {
+    fn key(self) -> (i64, &'static str) {
+        (self.id, self.name)
+    }
+}
+
+fn hexadecimal(bytes: &[u8]) -> String {
+    bytes.iter().map(|byte| format!("{byte:02x}")).collect()
+}
+
+/// The text of a value in a reply.
+fn field(value: Value<'_>) -> String {
+    match value {
+        Value::Int(number) => number.to_string(),
+        Value::Text(text) => text.to_string(),
+        Value::Flag(is_set) => is_set.to_string(),
+        Value::Bytes(bytes) => hexadecimal(bytes),
+    }
+}
+
+fn record_of_key(city: City) -> String {
+    format!("{},{}", city.id, quoted(city.name))
+}
+
+fn record(city: City) -> String {
+    format!("{},{},{},{}", record_of_key(city), city.qty, city.ok, hexadecimal(city.hash))
+}
+
+enum Change {
+    Put(City),
+    Delete(City),
+    Upsert(City),
+}
+
+impl Change {
+    fn random(random: &mut Random) -> Change {
+        let city = random.city();
+        match random.below(5) {
+            0 | 1 => Change::Put(city),
+            2 => Change::Delete(city),
+            _ => Change::Upsert(city),
+        }
+    }
+
+    fn line(&self) -> String {
+        match *self {
+            Change::Put(city) => format!("put {}\n", record(city)),
+            Change::Delete(city) => format!("del {}\n", record_of_key(city)),
+            Change::Upsert(city) if city.ok => format!("ups {},add,qty,{},set,ok,true,max,qty,-5\n", record_of_key(city), city.qty),
+            Change::Upsert(city) => format!("ups {},set,hash,{},min,qty,{}\n", record_of_key(city), hexadecimal(city.hash), city.qty),
+        }
+    }
+
+    fn ops(city: City) -> Vec<Op<'static>> {
+        if city.ok {
+            vec![Op::Add("qty", city.qty), Op::Set("ok", Value::Flag(true)), Op::Max("qty", -5)]
+        } else {
+            vec![Op::Set("hash", Value::Bytes(city.hash)), Op::Min("qty", city.qty)]
+        }
+    }
+}
+
+fn run(session: &mut Session, changes: &[Change]) -> Result<(), Fault> {
+    let lines: String = changes.iter().map(Change::line).collect();
+    assert_eq!(session.run(format!("batch\n{lines}end\n").as_bytes())?.refused_count(), 0);
+    Ok(())
+}
+
+fn apply(session: &mut Session, changes: &[Change]) -> Result<(), Fault> {
+    if let [Change::Upsert(city)] = changes {
+        return session.upsert(&city.key(), &Change::ops(*city));
+    }
+    let mut added = session.changes()?;
+    for change in changes {
+        match *change {
+            Change::Put(city) => added.put(&city)?,
+            Change::Delete(city) => added.delete(&city.key())?,
+            Change::Upsert(city) => added.upsert(&city.key(), &Change::ops(city))?,
+        }
+    }
+    added.apply()
+}
+
+fn images(session: &mut Session) -> Result<Vec<u8>, Fault> {
+    Ok(session.run(b"image primary\nimage by_city\n")?.as_bytes().to_vec())
+}
+
+/// Two sessions after the same random changes, which are scripts in one and typed calls in the other.
+fn sessions(rounds: usize) -> Result<(Session, Session), Fault> {
+    let (mut by_script, mut typed) = (Session::new()?, Session::new()?);
+    by_script.run(TABLE.as_bytes())?;
+    typed.run(TABLE.as_bytes())?;
+    let mut random = Random(88_172_645_463_325_252);
+    for round in 0..rounds {
+        for limit in [24, 2] {
+            let changes: Vec<Change> = (0..random.below(limit)).map(|_| Change::random(&mut random)).collect();
+            run(&mut by_script, &changes)?;
+            apply(&mut typed, &changes)?;
+        }
+        assert_eq!(images(&mut typed)?, images(&mut by_script)?, "round {round}");
+    }
+    Ok((by_script, typed))
+}
+
+/// Random changes one by one and together, then puts and deletes of many rows in one call.
+fn check_changes() -> Result<(), Fault> {
+    let (mut by_script, mut typed) = sessions(150)?;
+    let mut random = Random(7);
+    let cities: Vec<City> = (0..40).map(|_| random.city()).collect();
+    let rows: Vec<_> = cities.iter().map(|city| (city.id, city.name.to_string(), city.qty, city.ok, city.hash.to_vec())).collect();
+    run(&mut by_script, &cities.iter().copied().map(Change::Put).collect::<Vec<_>>())?;
+    typed.put(&rows)?;
+    assert_eq!(images(&mut typed)?, images(&mut by_script)?);
+    let keys: Vec<_> = cities[..20].iter().map(|city| [Value::Int(city.id), Value::Text(city.name)]).collect();
+    run(&mut by_script, &cities[..20].iter().copied().map(Change::Delete).collect::<Vec<_>>())?;
+    typed.delete(&keys)?;
+    typed.put::<City>(&[])?;
+    typed.changes()?.apply()?;
+    assert_eq!(images(&mut typed)?, images(&mut by_script)?);
+    Ok(())
+}
+
+/// The fields of the rows of a scan.
+fn scanned<F, T>(session: &mut Session, tree: &str, from: &F, to: &T, most: u32) -> Result<Vec<Vec<String>>, Fault>
+where
+    F: Values + ?Sized,
+    T: Values + ?Sized,
+{
+    let (mut rows, mut found) = (session.pages(tree, from, to, most)?, Vec::new());
+    while let Some(row) = rows.next()? {
+        found.push(row.values().map(field).collect());
+    }
+    assert!(rows.next()?.is_none());
+    Ok(found)
+}
+
+/// The reply to a script of one command.
+fn reply(session: &mut Session, script: &str) -> Result<Reply, Fault> {
+    Ok(session.run(script.as_bytes())?.iter().next().expect("a reply"))
+}
+
+/// Every key of the random rows, in `get`.
+fn check_gets(by_script: &mut Session, typed: &mut Session) -> Result<(), Fault> {
+    for id in -7..7 {
+        for name in CITIES {
+            let expected = match reply(by_script, &format!("get {id},{}\n", quoted(name)))? {
+                Reply::Row(fields) => Some(fields),
+                Reply::None => None,
+                other => panic!("{other:?}"),
+            };
+            let row = typed.get(&(id, name))?;
+            assert_eq!(row.map(|row| row.values().map(field).collect()), expected, "{id} {name:?}");
+            if let Some(row) = row {
+                let (same_id, same_name, _, _, hash): (i64, &str, i64, bool, &[u8]) = row.try_into()?;
+                assert_eq!((same_id, same_name, hash), (id, name, row.get::<Vec<u8>>(4)?.as_slice()));
+            }
+        }
+    }
+    Ok(())
+}
+
+/// Each pair of bounds, of no value, of a part of the key and of the whole key, with each of these numbers of rows of a page.
+fn check_scans(by_script: &mut Session, typed: &mut Session, mosts: &[u32]) -> Result<(), Fault> {
+    let hash = hexadecimal(HASHES[2]);
+    let bounds_of_rows: [(String, Vec<Value>); 4] = [
+        (String::new(), vec![]),
+        ("-4".to_string(), vec![Value::Int(-4)]),
+        ("0,\"Oslo\"".to_string(), vec![Value::Int(0), Value::Text("Oslo")]),
+        ("3,\"\"".to_string(), vec![Value::Int(3), Value::Text("")]),
+    ];
+    let bounds_of_cities: [(String, Vec<Value>); 4] = [
+        (String::new(), vec![]),
+        ("\" x \"".to_string(), vec![Value::Text(" x ")]),
+        (format!("Oslo,{hash}"), vec![Value::Text("Oslo"), Value::Bytes(HASHES[2])]),
+        (format!("Oslo,{hash},2,Oslo"), vec![Value::Text("Oslo"), Value::Bytes(HASHES[2]), Value::Int(2), Value::Text("Oslo")]),
+    ];
+    let line = |word: &str, record: &String| if record.is_empty() { String::new() } else { format!("{word} {record}\n") };
+    for (tree, bounds) in [("primary", bounds_of_rows), ("by_city", bounds_of_cities)] {
+        for (from, lower) in &bounds {
+            for (to, upper) in &bounds {
+                let script = format!("scan {tree}\n{}{}go\n", line("from", from), line("to", to));
+                let expected = reply(by_script, &script)?;
+                for &most in mosts {
+                    assert_eq!(Reply::Rows(scanned(typed, tree, lower, upper, most)?), expected, "{script}, {most} rows of a page");
+                }
+            }
+        }
+    }
+    Ok(())
+}
+
+fn check_reads() -> Result<(), Fault> {
+    let (mut by_script, mut typed) = sessions(40)?;
+    check_gets(&mut by_script, &mut typed)?;
+    check_scans(&mut by_script, &mut typed, &[1024])?;
+    let mut rows = typed.scan("primary", &(-4, "end"), &3)?;
+    let first: (i64, String, i64, bool, Vec<u8>) = rows.next()?.expect("a row").try_into()?;
+    assert_eq!(first.0, -4);
+    Ok(())
+}
+
+fn check_pages() -> Result<(), Fault> {
+    let (mut by_script, mut typed) = sessions(40)?;
+    let count = scanned(&mut typed, "primary", &(), &(), 1024)?.len() as u32;
+    assert!(count > 30, "{count} rows");
+    check_scans(&mut by_script, &mut typed, &[0, 1, 2, 3, 7, count - 1, count, count + 1, u32::MAX])
+}
+
+fn refused(number: u32, name: &str, item: Option<u64>) -> Fault {
+    Fault::Refused { refusal: Refusal { number, name: name.to_string(), item }, column: None }
+}
+
+fn wrong_kind(item: u64, column: u64, name: &str, wanted: Kind, found: Kind) -> Fault {
+    Fault::WrongKind { item: Some(item), column, name: name.to_string(), wanted, found }
+}
+
+fn wrong_length(item: u64, wanted: usize, found: usize) -> Fault {
+    Fault::WrongLength { item: Some(item), wanted, found }
+}
+
+fn too_long(item: u64, column: u64, name: &str, length: usize) -> Fault {
+    Fault::TooLong { item, column, name: name.to_string(), length }
+}
+
+type Call = fn(&mut Session) -> Result<(), Fault>;
+
+const LONG: &str = match std::str::from_utf8(&[b'x'; 256]) {
+    Ok(text) => text,
+    Err(_) => "",
+};
+const GOOD: (i64, &str, i64, bool, &[u8]) = (1, "Alta", 2, true, b"");
+
+fn upsert(session: &mut Session, ops: &[Op<'_>]) -> Result<(), Fault> {
+    session.upsert(&(1, "Oslo"), ops)
+}
+
+/// A good row, and then the given one.
+fn put_second<R: Values>(session: &mut Session, row: &R) -> Result<(), Fault> {
+    let mut changes = session.changes()?;
+    changes.put(&GOOD)?;
+    changes.put(row)?;
+    changes.apply()
+}
+
+/// The first row of a scan.
+fn scan<F: Values, T: Values>(session: &mut Session, tree: &str, from: F, to: T) -> Result<(), Fault> {
+    session.scan(tree, &from, &to)?.next().map(drop)
+}
+
+fn wrong_changes() -> Vec<(Call, Fault)> {
+    vec![
+        (|it| put_second(it, &("1", "Oslo", 3, true, b"")), wrong_kind(2, 1, "id", Kind::Int, Kind::Text)),
+        (|it| put_second(it, &(1, 8, 3, true, b"")), wrong_kind(2, 2, "city", Kind::Text, Kind::Int)),
+        (|it| put_second(it, &(1, b"\x03Oslo", 3, true, b"")), wrong_kind(2, 2, "city", Kind::Text, Kind::Bytes)),
+        (|it| put_second(it, &(1, "Oslo", 3, 1, b"")), wrong_kind(2, 4, "ok", Kind::Flag, Kind::Int)),
+        (|it| put_second(it, &(1, "Oslo", 3, true, "00")), wrong_kind(2, 5, "hash", Kind::Bytes, Kind::Text)),
+        (|it| put_second(it, &(1, "Oslo", 3, true)), wrong_length(2, 5, 4)),
+        (|it| put_second(it, &(1, "Oslo", 3, true, b"", 6)), wrong_length(2, 5, 6)),
+        (|it| put_second(it, &()), wrong_length(2, 5, 0)),
+        (|it| put_second(it, &(1, LONG, 3, true, b"")), too_long(2, 2, "city", 256)),
+        (|it| put_second(it, &(1, "Oslo", 3, true, [0; 300])), too_long(2, 5, "hash", 300)),
+        (|it| it.delete(&[(1, Value::Text("Oslo")), (2, Value::Flag(true))]), wrong_kind(2, 2, "city", Kind::Text, Kind::Flag)),
+        (|it| it.delete(&[1]), wrong_length(1, 2, 1)),
+        (|it| upsert(it, &[Op::Add("qty", 1), Op::Add("city", 1)]), wrong_kind(1, 2, "city", Kind::Text, Kind::Int)),
+        (|it| upsert(it, &[Op::Set("qty", Value::Text("1"))]), wrong_kind(1, 3, "qty", Kind::Int, Kind::Text)),
+        (|it| upsert(it, &[Op::Max("ok", 1)]), wrong_kind(1, 4, "ok", Kind::Flag, Kind::Int)),
+        (|it| upsert(it, &[Op::Set("hash", Value::Bytes(&[0; 256]))]), too_long(1, 5, "hash", 256)),
+        (|it| upsert(it, &[Op::Min("id ", 1)]), Fault::NoSuchColumn { item: 1, name: "id ".to_string() }),
+        (|it| upsert(it, &[Op::Add("id", 1)]), refused(15, "NoSuchColumn", Some(1))),
+        (|it| upsert(it, &[]), refused(7, "BadLength", Some(1))),
+        (|it| upsert(it, &[Op::Add("qty", 1); 17]), refused(7, "BadLength", Some(1))),
+        (|it| upsert(it, &[Op::Add("qty", 1); 257]), refused(7, "BadLength", Some(1))),
+    ]
+}
+
+fn wrong_reads() -> Vec<(Call, Fault)> {
+    vec![
+        (|it| it.get(&(1, 2)).map(drop), wrong_kind(1, 2, "city", Kind::Text, Kind::Int)),
+        (|it| it.get(&1).map(drop), wrong_length(1, 2, 1)),
+        (|it| it.get(&(1, "Oslo", 3)).map(drop), wrong_length(1, 2, 3)),
+        (|it| scan(it, "none", (), ()), refused(8, "NoSuchTree", None)),
+        (|it| scan(it, LONG, (), ()), refused(8, "NoSuchTree", None)),
+        (|it| scan(it, "primary", "1", 2), wrong_kind(1, 1, "id", Kind::Int, Kind::Text)),
+        (|it| scan(it, "primary", 1, (2, false)), wrong_kind(2, 2, "city", Kind::Text, Kind::Flag)),
+        (|it| scan(it, "by_city", "Oslo", ("Oslo", b"", 1, "Oslo", 5)), wrong_length(2, 4, 5)),
+        (|it| scan(it, "by_city", ("Oslo", LONG.as_bytes()), ()), too_long(1, 2, "hash", 256)),
+        (|it| scan(it, "building", (), ()), refused(11, "Building", None)),
+        (|it| read::<String>(it, 0), read_as(1, "id", Kind::Int, Kind::Text)),
+        (|it| read::<i64>(it, 3), read_as(4, "ok", Kind::Flag, Kind::Int)),
+        (|it| read::<bool>(it, 5), Fault::WrongLength { item: None, wanted: 5, found: 6 }),
+        (|it| row_of(it)?.try_into().map(|_: (i64, &str)| ()), Fault::WrongLength { item: None, wanted: 5, found: 2 }),
+    ]
+}
+
+fn read_as(column: u64, name: &str, wanted: Kind, found: Kind) -> Fault {
+    Fault::WrongKind { item: None, column, name: name.to_string(), wanted, found }
+}
+
+fn row_of(session: &mut Session) -> Result<Row<'_>, Fault> {
+    Ok(session.get(&(1, "Oslo"))?.expect("a row"))
+}
+
+fn read<T: for<'r> FromValue<'r>>(session: &mut Session, place: usize) -> Result<(), Fault> {
+    row_of(session)?.get::<T>(place).map(drop)
+}
+
+fn check_wrong_calls() -> Result<(), Fault> {
+    let mut session = Session::new()?;
+    let no_table: [Call; 4] = [|it| it.put(&[1]), |it| it.changes()?.apply(), |it| it.get(&1).map(drop), |it| scan(it, "primary", (), ())];
+    for call in no_table {
+        assert_eq!(call(&mut session), Err(refused(3, "NoTable", None)));
+    }
+    session.run(TABLE.as_bytes())?;
+    session.put(&[(1, "Oslo", 3, true, b"\xff"), (2, &LONG[1..], 3, false, b"x")])?;
+    session.run(b"index building on qty\n")?;
+    let before = images(&mut session)?;
+    for (number, (call, fault)) in wrong_changes().into_iter().chain(wrong_reads()).enumerate() {
+        assert_eq!(call(&mut session), Err(fault), "call {number}");
+        assert_eq!(images(&mut session)?, before, "call {number}");
+    }
+    let mut changes = session.changes()?;
+    changes.delete(&(1, "Oslo"))?;
+    assert_eq!(changes.put(&(2, "Alta", "3")), Err(wrong_kind(2, 3, "qty", Kind::Int, Kind::Text)));
+    changes.delete(&(2, &LONG[1..]))?;
+    changes.apply()?;
+    assert_eq!(scanned(&mut session, "primary", &(), &(), 9)?.len(), 0);
+    Ok(())
+}
+
+/// The columns of an index are those of the last one of its name.
+fn check_columns() -> Result<(), Fault> {
+    let mut session = Session::new()?;
+    session.run(b"table 4 6 3 1 id:int city:text\nindex last on id\nbuild last 1\n")?;
+    session.put(&[(1, "Oslo")])?;
+    assert_eq!(scanned(&mut session, "last", &1, &(), 9)?, [["1", "1"]]);
+    session.run(b"drop last\nindex last on city\nbuild last 9\n")?;
+    assert_eq!(scanned(&mut session, "last", "Oslo", &(), 9)?, [["Oslo", "1"]]);
+    Ok(())
+}
+
+fn check_texts_of_faults() {
+    let texts = [
+        (wrong_kind(2, 3, "qty", Kind::Int, Kind::Text), "item 2, column 3 (qty): the kind is int, and not text"),
+        (read_as(3, "qty", Kind::Int, Kind::Text), "column 3 (qty): the kind is int, and not text"),
+        (wrong_length(2, 5, 4), "item 2, the number of values is 5, and not 4"),
+        (too_long(2, 5, "hash", 300), "item 2, column 5 (hash): 300 bytes, and at most 255 fit"),
+        (refused(15, "NoSuchColumn", Some(1)), "refused 15 NoSuchColumn 1"),
+    ];
+    for (fault, text) in texts {
+        assert_eq!(fault.to_string(), text);
+    }
+}
+
+/// The allocations of the crate while it packs this many rows, and while it reads as many from a page. Those of the library are not among them.
+fn allocations(session: &mut Session, count: u32) -> Result<(usize, usize), Fault> {
+    let mut changes = session.changes()?;
+    let before = ALLOCATIONS.load(Ordering::Relaxed);
+    for id in 0..i64::from(count) {
+        changes.put(&(id, "Bergen, west", id, true, b"0123456789"))?;
+    }
+    let of_puts = ALLOCATIONS.load(Ordering::Relaxed) - before;
+    changes.apply()?;
+    let mut rows = session.pages("primary", &(), &(), count + 1)?;
+    rows.next()?;
+    let (before, mut length) = (ALLOCATIONS.load(Ordering::Relaxed), 0);
+    while let Some(row) = rows.next()? {
+        let (_, city, _, _, hash): (i64, &str, i64, bool, &[u8]) = row.try_into()?;
+        length += city.len() + hash.len();
+    }
+    assert_eq!(length, (count as usize - 1) * 22);
+    Ok((of_puts, ALLOCATIONS.load(Ordering::Relaxed) - before))
+}
+
+/// A buffer grows, and is then used again.
+fn check_allocations() -> Result<(), Fault> {
+    let mut session = Session::new()?;
+    session.run(TABLE.as_bytes())?;
+    let (of_puts, of_reads) = allocations(&mut session, 5000)?;
+    assert!(of_puts < 40, "{of_puts} allocations");
+    assert_eq!(of_reads, 0);
+    assert_eq!(allocations(&mut session, 5000)?, (0, 0));
+    Ok(())
+}
+
+fn main() -> Result<(), Fault> {
+    match std::env::args().nth(1).as_deref() {
+        Some("changes") => check_changes(),
+        Some("reads") => check_reads(),
+        Some("pages") => check_pages(),
+        Some("wrong") => {
+            check_texts_of_faults();
+            check_columns()?;
+            check_wrong_calls()
+        }
+        Some("allocations") => check_allocations(),
+        _ => panic!("changes, reads, pages, wrong or allocations"),
+    }
+}
