@@ -321,9 +321,9 @@ def columns_are_those_of_the_tables_and_indexes():
     raw = Raw("table 16 64 16 2 land:text id:int ok:flag raw:bytes qty:int\nindex by_qty on qty include ok\n")
     session = raw.session
     text = b"\1\4land\0\2id\2\2ok\4\3raw\0\3qty"
-    expect(raw.reply("betable_columns", header(1) + value_bytes("primary")), b"BTV\x01\2" + bytes(7) + text)
+    expect(raw.reply("betable_columns", header(1) + value_bytes("primary")), b"BTV\x01" + struct.pack("<q", 2) + text)
     # An index that is building has its columns too.
-    expect(raw.reply("betable_columns", header(1) + value_bytes("by_qty")), b"BTV\x01\3" + bytes(7) + b"\0\3qty\1\4land\0\2id\2\2ok")
+    expect(raw.reply("betable_columns", header(1) + value_bytes("by_qty")), b"BTV\x01" + struct.pack("<q", 3) + b"\0\3qty\1\4land\0\2id\2\2ok")
     expect(session.columns(), [("land", "text", True), ("id", "int", True), ("ok", "flag", False), ("raw", "bytes", False), ("qty", "int", False)])
     found = session.columns("by_qty")
     expect((found, found[3].name, found[3].kind, found[3].is_key), ([("qty", "int", True), ("land", "text", True), ("id", "int", True), ("ok", "flag", False)], "ok", "flag", False))

@@ -260,8 +260,9 @@ def name_bytes(tree: str) -> bytes:
 
 def columns_of_reply(reply: bytes) -> list[TreeColumn]:
     """The columns of a reply, of which the first are those of the key."""
-    keys = int.from_bytes(reply[4:12], "little")
-    return [TreeColumn(name, KINDS[kind], place < keys) for place, (kind, name) in enumerate(_named(reply, 12))]
+    at = len(MAGIC) + 8
+    keys = int.from_bytes(reply[len(MAGIC) : at], "little")
+    return [TreeColumn(name, KINDS[kind], place < keys) for place, (kind, name) in enumerate(_named(reply, at))]
 
 
 def _named(reply: bytes, at: int) -> Iterator[tuple[int, str]]:
