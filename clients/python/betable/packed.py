@@ -111,7 +111,8 @@ def encoding(parts: Sequence[int | str]) -> tuple[list[str], str, dict[str, Any]
     for value, kind in zip(values, kinds):
         if kind == "text":
             lines += [f'if "\\n" in {value} or "\\r" in {value}: raise ValueError', f"{value} = {value}.encode()"]
-    rest, sums, names = iter(values), [], {}
+    rest, sums = iter(values), []
+    names: dict[str, Any] = {}
     for number, piece in enumerate(pieces_of(parts)):
         found = [str(part) if isinstance(part, int) else next(rest) for part in piece.parts]
         if piece.has_length:

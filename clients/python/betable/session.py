@@ -158,7 +158,7 @@ class Session(Calls):
             length = library.betable_replies_length(handle)
             room = ctypes.create_string_buffer(length)
             count = library.betable_copy_replies(handle, 0, room, length)
-        return room[:count]
+        return ctypes.string_at(room, count)
 
     def _note(self, script: bytes, replies: bytes, is_whole: bool) -> None:
         count = 0
