@@ -14,7 +14,8 @@
  * Your obligations, which nothing checks:
  *   - The session is BETABLE_CLOSED before its first use, and only these calls write it. You may move it, but it has one owner: after a copy, you may use
  *     either the copy or the original, not both.
- *   - One call at a time uses a session, and all calls of a session are made by one thread. Sessions are independent: two threads may use two sessions.
+ *   - One call at a time uses a session. A session may go from one thread to another between two calls, if a lock, a channel, or the start or the join of a
+ *     thread orders the calls; no two threads use it at the same time. Sessions are independent: two threads may use two sessions.
  *   - No argument is a null pointer, even if a length is 0. A script and the session, or a buffer and the session, do not overlap.
  *   - malloc, realloc and free are those of one allocator, which aligns blocks as the C standard says. No call is made from a signal handler, or in a child
  *     that a process with threads has forked.
@@ -74,6 +75,25 @@ typedef struct {
     uint64_t column;
 } betable_fault;
 
+/* What a command of a script did. */
+typedef enum {
+    /* It was carried out, and is one that reads: get, scan, sums or image. */
+    BETABLE_READ = 0,
+    /* It was carried out, and is one that can change the table. */
+    BETABLE_CHANGED = 1,
+    /* It was refused, and changed nothing. */
+    BETABLE_COMMAND_REFUSED = 2
+} betable_reply_kind;
+
+/* Where a reply is among those of a script. */
+typedef struct {
+    /* The place of its first byte, counted from 0, and the number of its bytes. */
+    uint64_t offset;
+    uint64_t length;
+    /* What its command did: a betable_reply_kind. */
+    uint32_t kind;
+} betable_reply_place;
+
 /* Opens a session, which has no table. DONE, OUT_OF_MEMORY or ALREADY_OPEN. */
 betable_status betable_open(betable_session *session) BETABLE_NOT_NULL;
 
@@ -108,10 +128,21 @@ betable_status betable_get(betable_session *session, const unsigned char *key, s
  * next page begins with 2 and the first bytes of the last row. DONE, OUT_OF_MEMORY, NOT_OPEN or REFUSED. */
 betable_status betable_page(betable_session *session, const unsigned char *page, size_t length, betable_fault *fault) BETABLE_NOT_NULL;
 
+/* Replies with the groups of the rows of a range of a tree, in order, with the sum of an int column. The rows are grouped by the first columns of the tree's key,
+   as many as the number in the header. After the header are the name of the tree and that of the summed column, as texts, and the bounds of a page. The reply
+   is the letters BTV, the version, and of each group: the values of its columns, the number of its rows in eight bytes, and the sum in sixteen bytes (two's
+   complement). DONE, OUT_OF_MEMORY, NOT_OPEN or REFUSED. */
+betable_status betable_sums(betable_session *session, const unsigned char *sums, size_t length, betable_fault *fault) BETABLE_NOT_NULL;
+
 /* Replies with the columns of the rows of a tree. After the header, whose number is 1, is the name of the tree, as a text. The reply is the letters BTV, the
    version, the number of key columns in eight bytes, and each column: its kind in one byte (0 int, 1 text, 2 flag, 4 bytes) and its name, as a text. DONE,
    OUT_OF_MEMORY, NOT_OPEN or REFUSED. */
 betable_status betable_columns(betable_session *session, const unsigned char *name, size_t length, betable_fault *fault) BETABLE_NOT_NULL;
+
+/* Replies with how much a tree holds. The request is that of betable_columns. The reply is the letters BTV, the version, and three numbers of eight bytes: the
+   rows in the leaves of the tree, the messages in the buffers of its inner nodes, and its height. A row can be in a buffer, as a message, and a message can
+   delete a row of a leaf, so the first number is not that of the tree's rows. All nodes are read. DONE, OUT_OF_MEMORY, NOT_OPEN or REFUSED. */
+betable_status betable_usage(betable_session *session, const unsigned char *name, size_t length, betable_fault *fault) BETABLE_NOT_NULL;
 
 /* The number of bytes of the replies to the last script, or to the last call on packed bytes. 0 if the session is not open. */
 size_t betable_replies_length(betable_session *session) BETABLE_NOT_NULL;
@@ -121,6 +152,13 @@ size_t betable_copy_replies(betable_session *session, size_t from, unsigned char
 
 /* The number of commands of the last script that were refused. 0 if the session is not open, and after a run that was not DONE. */
 size_t betable_refused_count(betable_session *session) BETABLE_NOT_NULL;
+
+/* The number of replies to the last script: one for each of its commands. 0 if the session is not open, after a run that was not DONE, and after a call on packed
+   bytes. */
+size_t betable_reply_count(betable_session *session) BETABLE_NOT_NULL;
+
+/* Tells where the reply at a place, counted from 0, is among these replies, and what its command did. False if there is none; then nothing is written. */
+bool betable_reply(betable_session *session, size_t place, betable_reply_place *reply) BETABLE_NOT_NULL;
 
 /* Whether the table was lost because an allocation failed while it was changed. A lost table stays lost, and each command on it except `table` has the reply
    'refused 18 Failed'. */

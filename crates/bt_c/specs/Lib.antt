@@ -1,2 +1,3 @@
 pub mod Owned
+pub mod Replies
 pub mod Sessions

@@ -5,12 +5,14 @@ use Rattle.bt_value.specs.Refusals.{number_of}
 use Rattle.bt_value.specs.declared.refusal.Refusal.TheVariants.{NoTable}
 use Rattle.bt_table.specs.Calls.{StaysOrIsLost}
 use Rattle.bt_table.specs.Tables.{Intact, Lost, TableState}
-use Rattle.bt_packed.specs.Calls.{applied, on_ok}
+use Rattle.bt_packed.specs.Calls.{applied, got, on_ok, packed_page, told_columns, told_sums, told_usage}
 use Rattle.bt_packed.specs.Layout.{fault_at}
 use Rattle.bt_packed.specs.declared.fault.Fault.{Fault}
 use Rattle.bt_shell.specs.Steps.{State}
 use Rattle.bt_c.specs.declared.fault.FaultInC.{FaultInC}
 use Rattle.bt_c.specs.declared.handle.Handle.{Handle}
+use Rattle.bt_c.specs.declared.session.Question.{Question}
+use Rattle.bt_c.specs.declared.session.Question.TheVariants.{Columns, Page, Row, Sums, Usage}
 use Rattle.bt_c.specs.declared.session.Session.{Session}
 use Rattle.bt_c.specs.declared.status.Status.{Status}
 use Rattle.bt_c.specs.declared.status.Status.TheVariants.{AlreadyOpen, Done, NotOpen, OutOfMemory, Refused, ReplyCut}
@@ -48,6 +50,14 @@ no_table = fault_at NoTable 0 0
 abbrev pub applied_to : State → List ℕ → Result State Fault
 applied_to None bytes = Err no_table
 applied_to (Some table) bytes = on_ok Some (applied table bytes)
+
+-- what a table replies to a question in packed bytes
+abbrev pub answer_of : Question → TableState → List ℕ → Result (List ℕ) Fault
+answer_of Row = got
+answer_of Page = packed_page
+answer_of Sums = told_sums
+answer_of Columns = told_columns
+answer_of Usage = told_usage
 
 -- the reply of a table to a question in packed bytes, or the fault
 abbrev pub asked : (TableState → List ℕ → Result (List ℕ) Fault) → State → List ℕ → Result (List ℕ) Fault

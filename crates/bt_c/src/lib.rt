@@ -20,30 +20,34 @@ ghost use Rattle.bt_shell.specs.Runs.{AreOneRun, EndsBetweenCommands, after_comm
 ghost use Rattle.bt_shell.specs.Steps.{State};
 ghost use Rattle.bt_table.specs.Standing.{CompleteIndexesHold, IsSoundUnlessLost};
 ghost use Rattle.bt_table.specs.Tables.{Lost};
-ghost use Rattle.bt_packed.specs.Calls.{got, packed_page, told_columns};
-ghost use Rattle.bt_c.specs.Sessions.{IsFault, StaysOpen, StaysOrIsLostIn, applied_to, asked, code_of, fault_of, is_lost, session_of};
+ghost use Rattle.bt_packed.specs.Calls.{got, packed_page, told_columns, told_sums, told_usage};
+ghost use Rattle.bt_c.specs.Replies.{marks_of, reply_at};
+ghost use Rattle.bt_c.specs.Sessions.{IsFault, StaysOpen, StaysOrIsLostIn, answer_of, applied_to, asked, code_of, fault_of, is_lost, session_of};
 ghost use Rattle.bt_c.specs.declared.status.Status.TheVariants as status;
 
 mod fault;
 mod handle;
 mod parts;
+mod reply;
 mod session;
 mod slot;
 mod status;
 
+use crate::reply::reply_at;
 use bt_packed::Fault;
 use bt_script::RunFault;
 use bt_value::Refusal;
 pub use fault::FaultInC;
 pub use handle::Handle;
-pub use session::Session;
+pub use reply::{ReplyInC, ReplyMark};
+pub use session::{Question, Session};
 pub use status::Status;
 use std::alloc::Global;
 
 /// Opens a session that has no table. A handle that has a session keeps it.
 #[unsafe(no_mangle)]
 pub extern "C" fn betable_open(alloc: Global, handle: &mut Handle) -> u32
-    ensures opened { result ≡ code_of status.Done → MatchOption (session_of handle.new) ⊥ (λ session. (session.table ≡ None) × (session.text.items ≡ []) × (session.refused ≡ 0)) }
+    ensures opened { result ≡ code_of status.Done → MatchOption (session_of handle.new) ⊥ (λ session. (session.table ≡ None) × (session.text.items ≡ []) × (session.refused ≡ 0) × (session.marks.items ≡ [])) }
     ensures closed { result ≡ code_of status.OutOfMemory → session_of handle.new ≡ None }
     ensures ends { session_of handle.old ≡ None → (result ≡ code_of status.Done) ⊎ (result ≡ code_of status.OutOfMemory) }
     ensures refused { is_some (session_of handle.old) ≡ true → (result ≡ code_of status.AlreadyOpen) × (session_of handle.new ≡ session_of handle.old) }
@@ -75,7 +79,8 @@ pub extern "C" fn betable_run(alloc: Global, handle: &mut Handle, script: &[u8])
     ensures refused { result ≡ code_of status.Done → StaysOpen handle.old handle.new (λ old new. new.refused ≡ refused_count old.table (commands script.now)) }
     ensures memory { result ≡ code_of status.OutOfMemory → StaysOpen handle.old handle.new (λ old new. StopsBetweenReplies (λ bytes. new.text.items ≡ bytes) old.table new.table script.now) }
     ensures cut { result ≡ code_of status.ReplyCut → StaysOpen handle.old handle.new (λ old new. StopsWithinReply (λ bytes. new.text.items ≡ bytes) old.table new.table script.now) }
-    ensures uncounted { result ≢ code_of status.Done → IfSome (session_of handle.new) (λ session. session.refused ≡ 0) }
+    ensures marks { result ≡ code_of status.Done → StaysOpen handle.old handle.new (λ old new. new.marks.items ≡ marks_of old.table (commands script.now)) }
+    ensures uncounted { result ≢ code_of status.Done → IfSome (session_of handle.new) (λ session. (session.refused ≡ 0) × (session.marks.items ≡ [])) }
 
     // A lost table stays lost, and each command on it except `table` is refused as Failed.
     ensures lost { is_some (session_of handle.old) ≡ true → StaysOpen handle.old handle.new (λ old new. old.table ≡ Some Lost → (new.table ≡ Some Lost) × (replies old.table (commands script.now) ≡ flat_map lost_reply (commands script.now))) }
@@ -122,6 +127,29 @@ fn code_of_answer(ended: Result<(), Fault>, fault: &mut FaultInC) -> u32
     }
 }
 
+// The reply to a question in packed bytes.
+fn answered(
+    alloc: Global,
+    handle: &mut Handle,
+    question: Question,
+    bytes: &[u8],
+    fault: &mut FaultInC,
+) -> u32
+    ensures closed { session_of handle.old ≡ None → (result ≡ code_of status.NotOpen) × (session_of handle.new ≡ None) }
+    ensures ends { is_some (session_of handle.old) ≡ true → (result ≡ code_of status.Done) ⊎ (result ≡ code_of status.OutOfMemory) ⊎ (result ≡ code_of status.Refused) }
+    ensures done { result ≡ code_of status.Done → StaysOpen handle.old handle.new (λ old new. asked (answer_of question) old.table bytes.now ≡ Ok new.text.items) }
+    ensures refused { result ≡ code_of status.Refused → StaysOpen handle.old handle.new (λ old _. IsFault (asked (answer_of question) old.table bytes.now) fault.new) }
+    ensures unanswered { result ≢ code_of status.Done → IfSome (session_of handle.new) (λ session. session.text.items ≡ []) }
+    ensures table { is_some (session_of handle.old) ≡ true → StaysOpen handle.old handle.new (λ old new. new.table ≡ old.table) }
+{
+    let Some(mut session) = handle.take(alloc) else {
+        return Status::NotOpen.code();
+    };
+    let ended = session.ask(alloc, question, bytes);
+    *handle = Handle::of(session);
+    code_of_answer(ended, fault)
+}
+
 /// Applies packed changes to the table, all or none. The replies are emptied.
 ///
 /// `Done`: the table has applied all of them. `Refused`: the fault says which change is refused and why, and the table is as it was. `OutOfMemory`: the table
@@ -165,12 +193,7 @@ pub extern "C" fn betable_get(
     ensures unanswered { result ≢ code_of status.Done → IfSome (session_of handle.new) (λ session. session.text.items ≡ []) }
     ensures table { is_some (session_of handle.old) ≡ true → StaysOpen handle.old handle.new (λ old new. new.table ≡ old.table) }
 {
-    let Some(mut session) = handle.take(alloc) else {
-        return Status::NotOpen.code();
-    };
-    let ended = session.get(alloc, key);
-    *handle = Handle::of(session);
-    code_of_answer(ended, fault)
+    answered(alloc, handle, Question::Row, key, fault)
 }
 
 /// Replies with the packed rows of a page of a tree, in ascending order of their keys, as [`betable_get`] does.
@@ -188,12 +211,25 @@ pub extern "C" fn betable_page(
     ensures unanswered { result ≢ code_of status.Done → IfSome (session_of handle.new) (λ session. session.text.items ≡ []) }
     ensures table { is_some (session_of handle.old) ≡ true → StaysOpen handle.old handle.new (λ old new. new.table ≡ old.table) }
 {
-    let Some(mut session) = handle.take(alloc) else {
-        return Status::NotOpen.code();
-    };
-    let ended = session.page(alloc, page);
-    *handle = Handle::of(session);
-    code_of_answer(ended, fault)
+    answered(alloc, handle, Question::Page, page, fault)
+}
+
+/// Replies with the packed groups of a range, as [`betable_get`] does.
+#[unsafe(no_mangle)]
+pub extern "C" fn betable_sums(
+    alloc: Global,
+    handle: &mut Handle,
+    sums: &[u8],
+    fault: &mut FaultInC,
+) -> u32
+    ensures closed { session_of handle.old ≡ None → (result ≡ code_of status.NotOpen) × (session_of handle.new ≡ None) }
+    ensures ends { is_some (session_of handle.old) ≡ true → (result ≡ code_of status.Done) ⊎ (result ≡ code_of status.OutOfMemory) ⊎ (result ≡ code_of status.Refused) }
+    ensures done { result ≡ code_of status.Done → StaysOpen handle.old handle.new (λ old new. asked told_sums old.table sums.now ≡ Ok new.text.items) }
+    ensures refused { result ≡ code_of status.Refused → StaysOpen handle.old handle.new (λ old _. IsFault (asked told_sums old.table sums.now) fault.new) }
+    ensures unanswered { result ≢ code_of status.Done → IfSome (session_of handle.new) (λ session. session.text.items ≡ []) }
+    ensures table { is_some (session_of handle.old) ≡ true → StaysOpen handle.old handle.new (λ old new. new.table ≡ old.table) }
+{
+    answered(alloc, handle, Question::Sums, sums, fault)
 }
 
 /// Replies with the packed columns of the tree that packed bytes name, as [`betable_get`] does.
@@ -211,12 +247,25 @@ pub extern "C" fn betable_columns(
     ensures unanswered { result ≢ code_of status.Done → IfSome (session_of handle.new) (λ session. session.text.items ≡ []) }
     ensures table { is_some (session_of handle.old) ≡ true → StaysOpen handle.old handle.new (λ old new. new.table ≡ old.table) }
 {
-    let Some(mut session) = handle.take(alloc) else {
-        return Status::NotOpen.code();
-    };
-    let ended = session.columns(alloc, name);
-    *handle = Handle::of(session);
-    code_of_answer(ended, fault)
+    answered(alloc, handle, Question::Columns, name, fault)
+}
+
+/// Replies with how much the tree that packed bytes name holds, as [`betable_get`] does.
+#[unsafe(no_mangle)]
+pub extern "C" fn betable_usage(
+    alloc: Global,
+    handle: &mut Handle,
+    name: &[u8],
+    fault: &mut FaultInC,
+) -> u32
+    ensures closed { session_of handle.old ≡ None → (result ≡ code_of status.NotOpen) × (session_of handle.new ≡ None) }
+    ensures ends { is_some (session_of handle.old) ≡ true → (result ≡ code_of status.Done) ⊎ (result ≡ code_of status.OutOfMemory) ⊎ (result ≡ code_of status.Refused) }
+    ensures done { result ≡ code_of status.Done → StaysOpen handle.old handle.new (λ old new. asked told_usage old.table name.now ≡ Ok new.text.items) }
+    ensures refused { result ≡ code_of status.Refused → StaysOpen handle.old handle.new (λ old _. IsFault (asked told_usage old.table name.now) fault.new) }
+    ensures unanswered { result ≢ code_of status.Done → IfSome (session_of handle.new) (λ session. session.text.items ≡ []) }
+    ensures table { is_some (session_of handle.old) ≡ true → StaysOpen handle.old handle.new (λ old new. new.table ≡ old.table) }
+{
+    answered(alloc, handle, Question::Usage, name, fault)
 }
 
 /// The number of bytes of the replies to the last script: none, if there is no session.
@@ -266,6 +315,48 @@ pub extern "C" fn betable_refused_count(alloc: Global, handle: &mut Handle) -> u
     let count = session.refused;
     *handle = Handle::of(session);
     count
+}
+
+/// The number of replies to the last script. After a script that was not carried out to its end, and after a call on packed bytes, it is 0.
+#[unsafe(no_mangle)]
+pub extern "C" fn betable_reply_count(alloc: Global, handle: &mut Handle) -> usize
+    ensures count { MatchOption (session_of handle.old) (result ≡ 0) (λ session. result ≡ length session.marks.items) }
+    ensures kept { session_of handle.new ≡ session_of handle.old }
+{
+    let Some(session) = handle.take(alloc) else {
+        return 0;
+    };
+    let count = session.marks.len();
+    *handle = Handle::of(session);
+    count
+}
+
+/// Where the reply at a place, counted from 0, is among the bytes of the replies to the last script, and what its command did. Returns whether there is
+/// one.
+#[unsafe(no_mangle)]
+pub extern "C" fn betable_reply(
+    alloc: Global,
+    handle: &mut Handle,
+    place: usize,
+    reply: &mut ReplyInC,
+) -> bool
+    ensures found { result ≡ true → MatchOption (session_of handle.old) ⊥ (λ session. reply_at session.marks.items place ≡ Some reply.new) }
+    ensures none { result ≡ false → IfSome (session_of handle.old) (λ session. reply_at session.marks.items place ≡ None) }
+    ensures unchanged { result ≡ false → reply.new ≡ reply.old }
+    ensures kept { session_of handle.new ≡ session_of handle.old }
+{
+    let Some(session) = handle.take(alloc) else {
+        return false;
+    };
+    let found = reply_at(session.marks.as_slice(), place);
+    *handle = Handle::of(session);
+    match found {
+        Some(place) => {
+            *reply = place;
+            true
+        }
+        None => false,
+    }
 }
 
 /// Whether the table was lost because memory ran out: then each command on it is refused.

@@ -5,10 +5,13 @@ ghost use Rattle.bt_shell.specs.Faults.{StopsBetweenReplies, StopsWithinReply, l
 ghost use Rattle.bt_shell.specs.Runs.{after_commands, refused_count, replies};
 ghost use Rattle.bt_table.specs.Standing.{CompleteIndexesHold, IsSoundUnlessLost};
 ghost use Rattle.bt_table.specs.Tables.{Lost};
-ghost use Rattle.bt_packed.specs.Calls.{got, packed_page, told_columns};
-ghost use Rattle.bt_c.specs.Sessions.{StaysOrIsLostIn, applied_to, asked, is_lost};
+ghost use Rattle.bt_c.specs.Replies.{marks_of};
+ghost use Rattle.bt_c.specs.Sessions.{StaysOrIsLostIn, answer_of, applied_to, asked, is_lost};
 
-use bt_packed::{Fault, apply_packed, columns_packed, get_packed, page_packed};
+use crate::reply::{ReplyMark, ReplyMarks};
+use bt_packed::{
+    Fault, apply_packed, columns_packed, get_packed, page_packed, sums_packed, usage_packed,
+};
 use bt_script::{Counted, RunFault};
 use bt_shell::run_commands;
 use bt_table::{Alone, Table};
@@ -16,12 +19,13 @@ use bt_value::Refusal;
 use std::alloc::Global;
 use std::mem;
 
-/// The table, if there is one; the replies to the last script, and the number of its commands that were refused.
+/// The table, if there is one; the replies to the last script, the number of its commands that were refused, and where the reply to each of them ends.
 #[derive(Drop)]
 pub struct Session {
     pub table: Option<Table>,
     pub text: Vec<u8>,
     pub refused: usize,
+    pub marks: Vec<ReplyMark>,
 }
 
 // Carries out the commands of a script on a table, appends their replies to a text, and returns the number of refused commands.
@@ -30,10 +34,12 @@ fn run_into(
     script: &[u8],
     table: &mut Option<Table>,
     text: &mut Vec<u8>,
+    marks: &mut ReplyMarks,
 ) -> Result<usize, RunFault>
     ensures written { OnOk result (text.new.items ≡ text.old.items ++ replies table.old (commands script.now)) }
     ensures state { OnOk result (table.new ≡ after_commands table.old (commands script.now)) }
     ensures refused { IfOk result (λ count. count ≡ refused_count table.old (commands script.now)) }
+    ensures marks { marks.old ≡ [] → OnOk result (marks.new ≡ marks_of table.old (commands script.now)) }
     ensures no_read { IsErrOf result RunFault.Read → ⊥ }
     ensures write { IsErrOf result RunFault.Write → StopsWithinReply (λ bytes. text.new.items ≡ text.old.items ++ bytes) table.old table.new script.now }
     ensures memory { IsErrOf result RunFault.OutOfMemory → StopsBetweenReplies (λ bytes. text.new.items ≡ text.old.items ++ bytes) table.old table.new script.now }
@@ -42,9 +48,44 @@ fn run_into(
     ensures complete { IfSome table.new CompleteIndexesHold }
 {
     let mut writer = Counted::new(mem::replace(text, Vec::new(alloc)));
-    let counted = run_commands(&(), alloc, script, table, &mut writer, &Alone);
+    let counted = run_commands(&(), alloc, script, table, &mut writer, marks, &Alone);
     *text = writer.into_inner();
     counted
+}
+
+/// A question to a table in packed bytes.
+#[derive(Clone, Copy, Drop)]
+pub enum Question {
+    /// Which row has a key?
+    Row,
+    /// Which rows are on a page?
+    Page,
+    /// Which sums have the groups of a range?
+    Sums,
+    /// Which columns have the rows of a tree?
+    Columns,
+    /// How much does a tree hold?
+    Usage,
+}
+
+// The reply to a question, in the room of these bytes, which are dropped.
+fn answer(
+    alloc: Global,
+    table: &Table,
+    question: Question,
+    bytes: &[u8],
+    room: Vec<u8>,
+) -> Result<Vec<u8>, Fault>
+    ensures done { IfOk result (λ reply. answer_of question table.now bytes.now ≡ Ok reply.items) }
+    ensures fault { IfErr result (λ fault. fault.refusal ≢ Refusal.OutOfMemory → answer_of question table.now bytes.now ≡ Err fault) }
+{
+    match question {
+        Question::Row => get_packed(alloc, table, bytes, room),
+        Question::Page => page_packed(alloc, table, bytes, room),
+        Question::Sums => sums_packed(alloc, table, bytes, room),
+        Question::Columns => columns_packed(alloc, table, bytes, room),
+        Question::Usage => usage_packed(alloc, table, bytes, room),
+    }
 }
 
 impl Session {
@@ -52,22 +93,26 @@ impl Session {
         ensures table { result.table ≡ None }
         ensures text { result.text.items ≡ [] }
         ensures refused { result.refused ≡ 0 }
+        ensures marks { result.marks.items ≡ [] }
     {
         Session {
             table: None,
             text: Vec::new(alloc),
             refused: 0,
+            marks: Vec::new(alloc),
         }
     }
 
-    // Empties the replies, and sets the number of refused commands to 0.
+    // Empties the replies and their marks, and sets the number of refused commands to 0.
     fn clear(&mut self)
         ensures table { self.new.table ≡ self.old.table }
         ensures text { self.new.text.items ≡ [] }
         ensures refused { self.new.refused ≡ 0 }
+        ensures marks { self.new.marks.items ≡ [] }
     {
         self.text.clear();
         self.refused = 0;
+        self.marks.clear();
     }
 
     /// Carries out the commands of a script. Their replies replace the previous ones.
@@ -76,6 +121,8 @@ impl Session {
         ensures state { OnOk result (self.new.table ≡ after_commands self.old.table (commands script.now)) }
         ensures refused { OnOk result (self.new.refused ≡ refused_count self.old.table (commands script.now)) }
         ensures uncounted { OnErr result (self.new.refused ≡ 0) }
+        ensures marks { OnOk result (self.new.marks.items ≡ marks_of self.old.table (commands script.now)) }
+        ensures unmarked { OnErr result (self.new.marks.items ≡ []) }
         ensures no_read { IsErrOf result RunFault.Read → ⊥ }
         ensures write { IsErrOf result RunFault.Write → StopsWithinReply (λ bytes. self.new.text.items ≡ bytes) self.old.table self.new.table script.now }
         ensures memory { IsErrOf result RunFault.OutOfMemory → StopsBetweenReplies (λ bytes. self.new.text.items ≡ bytes) self.old.table self.new.table script.now }
@@ -84,7 +131,11 @@ impl Session {
         ensures complete { IfSome self.new.table CompleteIndexesHold }
     {
         self.clear();
-        self.refused = run_into(alloc, script, &mut self.table, &mut self.text)?;
+        let mut log = ReplyMarks {
+            marks: mem::replace(&mut self.marks, Vec::new(alloc)),
+        };
+        self.refused = run_into(alloc, script, &mut self.table, &mut self.text, &mut log)?;
+        self.marks = log.marks;
         Ok(())
     }
 
@@ -95,6 +146,7 @@ impl Session {
         ensures memory { IfErr result (λ fault. fault.refusal ≡ Refusal.OutOfMemory → StaysOrIsLostIn self.old self.new) }
         ensures text { self.new.text.items ≡ [] }
         ensures refused { self.new.refused ≡ 0 }
+        ensures marks { self.new.marks.items ≡ [] }
         ensures sound { IfSome self.new.table IsSoundUnlessLost }
         ensures complete { IfSome self.new.table CompleteIndexesHold }
     {
@@ -110,56 +162,27 @@ impl Session {
         ensures table { self.new.table ≡ self.old.table }
         ensures text { self.new.text.items ≡ [] }
         ensures refused { self.new.refused ≡ 0 }
+        ensures marks { self.new.marks.items ≡ [] }
     {
         self.refused = 0;
+        self.marks.clear();
         mem::replace(&mut self.text, Vec::new(alloc))
     }
 
-    /// Replies with the packed row of a packed key, or with no row.
-    pub fn get(&mut self, alloc: Global, key: &[u8]) -> Result<(), Fault>
-        ensures done { OnOk result (asked got self.old.table key.now ≡ Ok self.new.text.items) }
-        ensures fault { IfErr result (λ fault. fault.refusal ≢ Refusal.OutOfMemory → asked got self.old.table key.now ≡ Err fault) }
+    /// Replies to a question in packed bytes.
+    pub fn ask(&mut self, alloc: Global, question: Question, bytes: &[u8]) -> Result<(), Fault>
+        ensures done { OnOk result (asked (answer_of question) self.old.table bytes.now ≡ Ok self.new.text.items) }
+        ensures fault { IfErr result (λ fault. fault.refusal ≢ Refusal.OutOfMemory → asked (answer_of question) self.old.table bytes.now ≡ Err fault) }
         ensures no_text { IfErr result (λ _. self.new.text.items ≡ []) }
         ensures table { self.new.table ≡ self.old.table }
         ensures refused { self.new.refused ≡ 0 }
+        ensures marks { self.new.marks.items ≡ [] }
     {
         let room = self.take_room(alloc);
         let Some(table) = &self.table else {
             return Err(Fault::of_call(Refusal::NoTable));
         };
-        self.text = get_packed(alloc, table, key, room)?;
-        Ok(())
-    }
-
-    /// Replies with the packed rows of a page.
-    pub fn page(&mut self, alloc: Global, page: &[u8]) -> Result<(), Fault>
-        ensures done { OnOk result (asked packed_page self.old.table page.now ≡ Ok self.new.text.items) }
-        ensures fault { IfErr result (λ fault. fault.refusal ≢ Refusal.OutOfMemory → asked packed_page self.old.table page.now ≡ Err fault) }
-        ensures no_text { IfErr result (λ _. self.new.text.items ≡ []) }
-        ensures table { self.new.table ≡ self.old.table }
-        ensures refused { self.new.refused ≡ 0 }
-    {
-        let room = self.take_room(alloc);
-        let Some(table) = &self.table else {
-            return Err(Fault::of_call(Refusal::NoTable));
-        };
-        self.text = page_packed(alloc, table, page, room)?;
-        Ok(())
-    }
-
-    /// Replies with the packed columns of a tree.
-    pub fn columns(&mut self, alloc: Global, name: &[u8]) -> Result<(), Fault>
-        ensures done { OnOk result (asked told_columns self.old.table name.now ≡ Ok self.new.text.items) }
-        ensures fault { IfErr result (λ fault. fault.refusal ≢ Refusal.OutOfMemory → asked told_columns self.old.table name.now ≡ Err fault) }
-        ensures no_text { IfErr result (λ _. self.new.text.items ≡ []) }
-        ensures table { self.new.table ≡ self.old.table }
-        ensures refused { self.new.refused ≡ 0 }
-    {
-        let _room = self.take_room(alloc);
-        let Some(table) = &self.table else {
-            return Err(Fault::of_call(Refusal::NoTable));
-        };
-        self.text = columns_packed(alloc, table, name)?;
+        self.text = answer(alloc, table, question, bytes, room)?;
         Ok(())
     }
 

@@ -24,6 +24,9 @@ impl Model for Slot {
     ghost also_owns = { λ s. owned s.at s.heap s.value };
 }
 
+// A session may go to another thread, as the box of one may.
+unsafe impl Send for Slot {}
+
 impl Slot {
     pub fn closed(heap: Global) -> Slot
         ensures { result.value ≡ None }

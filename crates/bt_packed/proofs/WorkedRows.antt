@@ -9,7 +9,7 @@ use Rattle.bt_value.specs.declared.value.Value.TheVariants as value
 use Rattle.bt_row.specs.Schemas.{Schema}
 use Rattle.bt_row.specs.declared.schema.Column.{Column}
 use Rattle.bt_row.specs.declared.op.Op.TheVariants.{Add, Set}
-use Rattle.bt_packed.specs.Calls.{packed_rows}
+use Rattle.bt_packed.specs.Calls.{count_bytes, packed_rows, packed_sums, packed_usage, total_bytes}
 use Rattle.bt_packed.specs.Changes.{op_at, ops_at}
 use Rattle.bt_packed.specs.Layout.{bad_bytes, fault_at, header_at, int_bytes, int_from, number_from, row_bytes, value_at, values_at}
 
@@ -71,6 +71,18 @@ second_column = refl
 
 two_rows : packed_rows ((1 ∷ [], value.Flag true ∷ []) ∷ (2 ∷ [], value.Flag false ∷ []) ∷ []) ≡ codes "BTV" ++ (1 ∷ 1 ∷ 0 ∷ [])
 two_rows = refl
+
+-- a group of the flag true with 258 rows, whose sum is -2, and one of the flag false
+two_groups : packed_sums (record { group = value.Flag true ∷ []; count = 258; total = negsuc 1 } ∷ record { group = value.Flag false ∷ []; count = 7; total = pos 7 } ∷ [])
+    ≡ codes "BTV" ++ (1 ∷ 1 ∷ 2 ∷ 1 ∷ 0 ∷ 0 ∷ 0 ∷ 0 ∷ 0 ∷ 0 ∷ 254 ∷ 255 ∷ 255 ∷ 255 ∷ 255 ∷ 255 ∷ 255 ∷ 255 ∷ 255 ∷ 255 ∷ 255 ∷ 255 ∷ 255 ∷ 255 ∷ 255 ∷ 255
+    ∷ 0 ∷ [] ++ (seven ++ (seven ++ (0 ∷ 0 ∷ 0 ∷ 0 ∷ 0 ∷ 0 ∷ 0 ∷ 0 ∷ []))))
+unfolding count_bytes total_bytes
+two_groups = refl
+
+rows_messages_height : packed_usage (record { rows = 258; messages = 7; height = 1 })
+    ≡ codes "BTV" ++ (1 ∷ 2 ∷ 1 ∷ 0 ∷ 0 ∷ 0 ∷ 0 ∷ 0 ∷ 0 ∷ [] ++ (seven ++ (1 ∷ 0 ∷ 0 ∷ 0 ∷ 0 ∷ 0 ∷ 0 ∷ 0 ∷ [])))
+unfolding count_bytes
+rows_messages_height = refl
 
 -- ---- headers
 

@@ -1,7 +1,7 @@
 -- The calls of a table on packed bytes: the table after each, the reply, or the fault.
-use Rattle.std.specs.Prelude.{ℕ, ◌==◌, ◌&&◌, ◌++◌, List, [], ◌∷◌, fold, length, take, nat_le, nat_lt, Option, Some, None, Result, Ok, Err, if◌then◌else◌}
+use Rattle.std.specs.Prelude.{ℕ, ℤ, ◌==◌, ◌&&◌, ◌++◌, List, [], ◌∷◌, fold, length, take, nat_le, nat_lt, Option, Some, None, Result, Ok, Err, if◌then◌else◌}
 use Rattle.std.specs.FinMap.{find}
-use Rattle.std.specs.Int.{to_le_bytes, w64}
+use Rattle.std.specs.Int.{cast_unsigned, to_le_bytes, w64, w128}
 use Rattle.bt_value.specs.Kinds.{tag_of}
 use Rattle.bt_value.specs.declared.refusal.Refusal.{Refusal}
 use Rattle.bt_value.specs.declared.refusal.Refusal.TheVariants.{BadLength, Failed}
@@ -16,8 +16,12 @@ use Rattle.bt_messages.specs.Messages.{sorted_batch}
 use Rattle.bt_node.specs.Messages.{Rows}
 use Rattle.bt_batch.specs.Batches.{RowMessages}
 use Rattle.bt_table.specs.Tables.{Intact, Lost, TableState, after_batch}
+use Rattle.bt_view.specs.Groups.{sums_between}
 use Rattle.bt_view.specs.Ranges.{page, tree_columns}
+use Rattle.bt_view.specs.Usage.{usage}
+use Rattle.bt_view.specs.declared.groups.Sum.{Sum}
 use Rattle.bt_view.specs.declared.range.KeyRange.{KeyRange}
+use Rattle.bt_view.specs.declared.tree_usage.TreeUsage.{TreeUsage}
 use Rattle.bt_packed.specs.Changes.{key_at, packed_changes}
 use Rattle.bt_packed.specs.Layout.{Read, bad_bytes, fault_at, header_at, magic, no_header, or_fault, row_bytes, then_read, value_at, values_at}
 use Rattle.bt_packed.specs.declared.fault.Fault.{Fault}
@@ -137,6 +141,10 @@ range_to from to = on_ok (λ bound. record { from = from; to = bound }) (whole 2
 abbrev pub range_at : List Column → List ℕ → Result KeyRange Fault
 range_at columns bytes = then_read (λ from. then_read (range_to from.0) (bound_at columns 2 from.1)) (bound_at columns 1 bytes)
 
+-- the range of keys of the tree of this name
+abbrev pub range_of_tree : TableState → List ℕ → List ℕ → Result KeyRange Fault
+range_of_tree state name bytes = then_do (λ schema. range_at (take schema.keys schema.columns) bytes) (of_call (tree_columns state name))
+
 -- the packed rows, without their keys
 abbrev pub packed_rows : Rows (List Value) → List ℕ
 packed_rows rows = fold (λ bytes row. bytes ++ row_bytes row.1) magic rows
@@ -146,8 +154,7 @@ abbrev pub page_between : TableState → List ℕ → ℕ → KeyRange → Resul
 page_between state name limit range = on_ok packed_rows (of_call (page state name range limit))
 
 abbrev pub page_of_tree : TableState → ℕ → Read (List ℕ) → Result (List ℕ) Fault
-page_of_tree state limit (name, bytes) =
-    then_do (λ schema. then_do (page_between state name limit) (range_at (take schema.keys schema.columns) bytes)) (of_call (tree_columns state name))
+page_of_tree state limit (name, bytes) = then_do (page_between state name limit) (range_of_tree state name bytes)
 
 -- a page: a header with the most rows, the name of a tree, a lower bound and an upper one
 abbrev pub page_under : TableState → Option (Read ℕ) → Result (List ℕ) Fault
@@ -157,7 +164,39 @@ page_under state (Some read) = then_read (page_of_tree state read.0) (name_at re
 abbrev pub packed_page : TableState → List ℕ → Result (List ℕ) Fault
 packed_page state bytes = page_under state (header_at bytes)
 
--- ---- the columns of a tree that is asked for
+-- ---- sums
+
+-- the sixteen bytes of a total, the lowest first
+unfoldable pub total_bytes : ℤ → List ℕ
+total_bytes n = to_le_bytes w128 (cast_unsigned w128 n)
+
+-- a group: the values of its columns, the number of its rows, and the total
+abbrev pub sum_bytes : Sum → List ℕ
+sum_bytes sum = row_bytes sum.group ++ (count_bytes sum.count ++ total_bytes sum.total)
+
+abbrev pub sums_bytes : List Sum → List ℕ
+sums_bytes [] = []
+sums_bytes (sum ∷ sums) = sum_bytes sum ++ sums_bytes sums
+
+abbrev pub packed_sums : List Sum → List ℕ
+packed_sums sums = magic ++ sums_bytes sums
+
+-- the packed groups of a range of the tree of this name
+abbrev pub groups_between : TableState → List ℕ → ℕ → List ℕ → KeyRange → Result (List ℕ) Fault
+groups_between state name grouping column range = on_ok packed_sums (of_call (sums_between state name grouping column range))
+
+abbrev pub sums_of_tree : TableState → ℕ → List ℕ → Read (List ℕ) → Result (List ℕ) Fault
+sums_of_tree state grouping name (column, bytes) = then_do (groups_between state name grouping column) (range_of_tree state name bytes)
+
+-- sums: a header with the number of columns of a group, the names of a tree and of the summed column, a lower bound and an upper one
+abbrev pub sums_under : TableState → Option (Read ℕ) → Result (List ℕ) Fault
+sums_under state None = Err no_header
+sums_under state (Some read) = then_read (λ name. then_read (sums_of_tree state read.0 name.0) (name_at name.1)) (name_at read.1)
+
+abbrev pub told_sums : TableState → List ℕ → Result (List ℕ) Fault
+told_sums state bytes = sums_under state (header_at bytes)
+
+-- ---- what is told of a tree
 
 -- the packed columns of the tree of this name
 abbrev pub columns_named : TableState → List ℕ → Result (List ℕ) Fault
@@ -173,3 +212,13 @@ packed_name bytes = name_under (header_at bytes)
 
 abbrev pub told_columns : TableState → List ℕ → Result (List ℕ) Fault
 told_columns state bytes = then_do (columns_named state) (packed_name bytes)
+
+-- how much a tree holds: its rows, messages and height, each in eight bytes
+abbrev pub packed_usage : TreeUsage → List ℕ
+packed_usage usage = magic ++ (count_bytes usage.rows ++ (count_bytes usage.messages ++ count_bytes usage.height))
+
+abbrev pub usage_named : TableState → List ℕ → Result (List ℕ) Fault
+usage_named state name = on_ok packed_usage (of_call (usage state name))
+
+abbrev pub told_usage : TableState → List ℕ → Result (List ℕ) Fault
+told_usage state bytes = then_do (usage_named state) (packed_name bytes)

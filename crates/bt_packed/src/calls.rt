@@ -11,12 +11,13 @@ use crate::fault::Fault;
 use crate::page::{name_at, range_at};
 use crate::reading::header_at;
 use crate::rows::PackedRows;
+use crate::told::{packed_sums, packed_usage};
 use bt_keycode::encode_row;
 use bt_messages::Packet;
 use bt_row::{Row, Schema};
 use bt_table::{Alone, Reply, Table};
 use bt_value::{Refusal, Text};
-use bt_view::{KeyRange, page, tree_columns};
+use bt_view::{KeyRange, page, sums_between, tree_columns, usage};
 use std::alloc::Global;
 
 // The messages of packed changes of a table.
@@ -100,6 +101,17 @@ pub fn get_packed(
     }
 }
 
+// The range of keys of the tree of this name that bytes encode.
+fn read_range(alloc: Global, table: &Table, name: &Text, bytes: &[u8]) -> Result<KeyRange, Fault>
+    ensures done { IfOk result (λ range. spec.range_of_tree table.now name.now bytes.now ≡ Ok range) }
+    ensures fault { IfErr result (λ fault. fault.refusal ≢ Refusal.OutOfMemory → spec.range_of_tree table.now name.now bytes.now ≡ Err fault) }
+{
+    match tree_columns(alloc, table, name) {
+        Ok(columns) => range_at(alloc, columns.key_columns(), bytes),
+        Err(refusal) => Err(Fault::of_call(refusal)),
+    }
+}
+
 // The packed rows of a page of the tree of this name.
 fn rows_between(
     alloc: Global,
@@ -133,10 +145,7 @@ pub fn page_packed(
         return Err(Fault::no_header());
     };
     let (name, rest) = name_at(alloc, rest)?;
-    let range = match tree_columns(alloc, table, &name) {
-        Ok(columns) => range_at(alloc, columns.key_columns(), rest)?,
-        Err(refusal) => return Err(Fault::of_call(refusal)),
-    };
+    let range = read_range(alloc, table, &name, rest)?;
     rows_between(alloc, table, &name, limit, &range, room)
 }
 
@@ -156,14 +165,74 @@ fn read_name(alloc: Global, bytes: &[u8]) -> Result<Text, Fault>
     }
 }
 
-/// The packed columns of the tree that packed bytes name, after the number of its key columns.
-pub fn columns_packed(alloc: Global, table: &Table, bytes: &[u8]) -> Result<Vec<u8>, Fault>
+/// The packed columns of the tree that packed bytes name, after the number of its key columns, in the room of these bytes, which are dropped.
+pub fn columns_packed(
+    alloc: Global,
+    table: &Table,
+    bytes: &[u8],
+    room: Vec<u8>,
+) -> Result<Vec<u8>, Fault>
     ensures done { IfOk result (λ reply. spec.told_columns table.now bytes.now ≡ Ok reply.items) }
     ensures fault { IfErr result (λ fault. fault.refusal ≢ Refusal.OutOfMemory → spec.told_columns table.now bytes.now ≡ Err fault) }
 {
     let name = read_name(alloc, bytes)?;
     match tree_columns(alloc, table, &name) {
-        Ok(columns) => Ok(packed_columns(alloc, columns.columns(), columns.keys())?),
+        Ok(columns) => Ok(packed_columns(columns.columns(), columns.keys(), room)?),
         Err(refusal) => Err(Fault::of_call(refusal)),
     }
+}
+
+/// How much the tree that packed bytes name holds, in the room of these bytes, which are dropped.
+pub fn usage_packed(
+    alloc: Global,
+    table: &Table,
+    bytes: &[u8],
+    room: Vec<u8>,
+) -> Result<Vec<u8>, Fault>
+    ensures done { IfOk result (λ reply. spec.told_usage table.now bytes.now ≡ Ok reply.items) }
+    ensures fault { IfErr result (λ fault. fault.refusal ≢ Refusal.OutOfMemory → spec.told_usage table.now bytes.now ≡ Err fault) }
+{
+    let name = read_name(alloc, bytes)?;
+    match usage(table, &name) {
+        Ok(usage) => Ok(packed_usage(usage, room)?),
+        Err(refusal) => Err(Fault::of_call(refusal)),
+    }
+}
+
+// The packed groups of a range of the tree of this name.
+fn groups_between(
+    alloc: Global,
+    table: &Table,
+    name: &Text,
+    grouping: u32,
+    column: &Text,
+    range: &KeyRange,
+    room: Vec<u8>,
+) -> Result<Vec<u8>, Fault>
+    ensures done { IfOk result (λ reply. spec.groups_between table.now name.now grouping column.now range.now ≡ Ok reply.items) }
+    ensures fault { IfErr result (λ fault. fault.refusal ≢ Refusal.OutOfMemory → spec.groups_between table.now name.now grouping column.now range.now ≡ Err fault) }
+{
+    match sums_between(alloc, table, name, range, grouping, column) {
+        Ok(sums) => Ok(packed_sums(sums.as_slice(), room)?),
+        Err(refusal) => Err(Fault::of_call(refusal)),
+    }
+}
+
+/// The packed groups that packed bytes ask for, in the room of these bytes, which are dropped.
+pub fn sums_packed(
+    alloc: Global,
+    table: &Table,
+    bytes: &[u8],
+    room: Vec<u8>,
+) -> Result<Vec<u8>, Fault>
+    ensures done { IfOk result (λ reply. spec.told_sums table.now bytes.now ≡ Ok reply.items) }
+    ensures fault { IfErr result (λ fault. fault.refusal ≢ Refusal.OutOfMemory → spec.told_sums table.now bytes.now ≡ Err fault) }
+{
+    let Some((grouping, rest)) = header_at(bytes) else {
+        return Err(Fault::no_header());
+    };
+    let (name, rest) = name_at(alloc, rest)?;
+    let (column, rest) = name_at(alloc, rest)?;
+    let range = read_range(alloc, table, &name, rest)?;
+    groups_between(alloc, table, &name, grouping, &column, &range, room)
 }

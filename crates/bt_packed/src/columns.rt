@@ -2,10 +2,9 @@
 ghost use Rattle.std.specs.Prelude.{◌≡◌, ◌++◌, IfOk, OnOk};
 ghost use Rattle.bt_packed.specs.Calls as spec;
 
-use crate::reading::MAGIC;
-use crate::rows::add_bytes;
+use crate::rows::{add_bytes, begun_in, count_bytes};
 use bt_row::Column;
-use std::alloc::{AllocError, Global};
+use std::alloc::AllocError;
 
 // Adds a column: its kind and its name.
 fn add_column(out: &mut Vec<u8>, column: &Column) -> Result<(), AllocError>
@@ -25,25 +24,16 @@ fn add_columns(out: &mut Vec<u8>, columns: &[Column]) -> Result<(), AllocError>
     Ok(())
 }
 
-// The eight bytes of a count.
-#[tactic(auto, unfolding(crate::specs::Calls::count_bytes))]
-fn count_bytes(count: usize) -> [u8; 8]
-    ensures { result ≡ spec.count_bytes count }
-{
-    (count as u64).to_le_bytes()
-}
-
-/// The columns, after the number of key columns.
+/// The columns, after the number of key columns, in the room of these bytes, which are dropped.
 pub(crate) fn packed_columns(
-    alloc: Global,
     columns: &[Column],
     keys: usize,
+    room: Vec<u8>,
 ) -> Result<Vec<u8>, AllocError>
     ensures { IfOk result (λ bytes. bytes.items ≡ spec.packed_columns (record { columns = columns.now; keys = keys })) }
 {
-    let mut out = Vec::new(alloc);
-    out.extend_from_slice(MAGIC.as_slice())?;
-    out.extend_from_slice(&count_bytes(keys))?;
+    let mut out = begun_in(room)?;
+    out.extend_from_slice(&count_bytes(keys as u64))?;
     add_columns(&mut out, columns)?;
     Ok(out)
 }

@@ -12,6 +12,10 @@
 //!   after the row with this key. So the next page begins with 2 and the bytes of the key columns of the last row, with which that row begins.
 //! - The name of a tree ([`columns_packed`]): the number 1 in four bytes, and the name as a text. The reply has, after the first four bytes, the number of key
 //!   columns in eight bytes, and of each column the kind in one byte (0 int, 1 text, 2 flag, 4 bytes) and the name as a text.
+//! - The name of a tree ([`usage_packed`]), in the same form: the reply has, after the first four bytes, the number of rows in the leaves of the tree, the number
+//!   of messages in its buffers and its height, each in eight bytes.
+//! - Sums ([`sums_packed`]): the number of columns of a group in four bytes, the name of the tree and that of the summed column as texts, and two bounds as for a
+//!   page. The reply has, after the first four bytes, of each group the values of its columns, the number of its rows in eight bytes and the sum in sixteen.
 //! - Rows (the replies to a key and to a page): after the first four bytes, the values of each row, one row after the other, to the end of the bytes.
 //!
 //! ```text
@@ -30,8 +34,9 @@ mod operations;
 mod page;
 mod reading;
 mod rows;
+mod told;
 
-pub use calls::{apply_packed, columns_packed, get_packed, page_packed};
+pub use calls::{apply_packed, columns_packed, get_packed, page_packed, sums_packed, usage_packed};
 pub use changes::read_changes;
 pub use fault::Fault;
 pub use rows::PackedRows;

@@ -1,7 +1,8 @@
-//! Writing rows as packed bytes.
+//! Writing values and rows as packed bytes.
 ghost use Rattle.std.specs.Prelude.{◌≡◌, ◌++◌, ◌≤◌, ◌∷◌, IfOk, OnOk, length};
 ghost use Rattle.bt_value.specs.Values.{BytesFit};
 ghost use Rattle.bt_value.specs.Views.{value_of_ref};
+ghost use Rattle.bt_packed.specs.Calls as calls;
 ghost use Rattle.bt_packed.specs.Layout as spec;
 
 use crate::reading::MAGIC;
@@ -11,6 +12,24 @@ use bt_row::{Row, Values};
 use bt_value::{Content, ValueRef};
 use std::alloc::{AllocError, Global};
 use std::marker::Model;
+
+/// The first bytes of a reply, in the room of these bytes, which are dropped.
+pub(crate) fn begun_in(room: Vec<u8>) -> Result<Vec<u8>, AllocError>
+    ensures { IfOk result (λ out. out.items ≡ spec.magic) }
+{
+    let mut out = room;
+    out.clear();
+    out.extend_from_slice(MAGIC.as_slice())?;
+    Ok(out)
+}
+
+/// The eight bytes of a count.
+#[tactic(auto, unfolding(crate::specs::Calls::count_bytes))]
+pub(crate) fn count_bytes(count: u64) -> [u8; 8]
+    ensures { result ≡ calls.count_bytes count }
+{
+    count.to_le_bytes()
+}
 
 // The eight bytes of an int.
 #[tactic(auto, unfolding(crate::specs::Layout::int_bytes))]
@@ -41,8 +60,8 @@ fn add_value(out: &mut Vec<u8>, value: ValueRef<'_>) -> Result<(), AllocError>
     }
 }
 
-// Adds the bytes of values.
-fn add_values(out: &mut Vec<u8>, values: Values<'_>) -> Result<(), AllocError>
+/// Adds the bytes of values.
+pub(crate) fn add_values(out: &mut Vec<u8>, values: Values<'_>) -> Result<(), AllocError>
     ensures { OnOk result (out.new.items ≡ out.old.items ++ spec.row_bytes values.entry) }
 {
     let mut rest = values;
@@ -71,10 +90,9 @@ impl PackedRows {
     pub fn in_room(room: Vec<u8>) -> Result<Self, AllocError>
         ensures { IfOk result (λ rows. rows ≡ spec.magic) }
     {
-        let mut bytes = room;
-        bytes.clear();
-        bytes.extend_from_slice(MAGIC.as_slice())?;
-        Ok(PackedRows { bytes })
+        Ok(PackedRows {
+            bytes: begun_in(room)?,
+        })
     }
 
     /// Adds a row.

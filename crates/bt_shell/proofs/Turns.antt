@@ -6,9 +6,11 @@ use Rattle.std.specs.Io.KnownBytes.{Keeps}
 use Rattle.bt_script.specs.Streams.{Took, TookPrefix, count_of, source_of}
 use Rattle.bt_script.specs.declared.counted.Counted.{Counted}
 use Rattle.bt_script.proofs.offered.Streams.{prefix-all, prefix-done, prefix-more, Took-kept, Took-nil, Took-trans}
-use Rattle.bt_shell.specs.inside.Turns.{IsTurn}
+use Rattle.bt_shell.specs.inside.Turns.{IsTurn, first_kind}
 use Rattle.bt_shell.specs.Runs.{IsScriptOf, TookReplies, WritesPrefix, WritesReplies, WritesRun, after_commands, one_where, refused_count, replies, run}
-use Rattle.bt_shell.specs.Steps.{State, has_refusal, turn}
+use Rattle.bt_shell.specs.declared.log.ReplyKind.{ReplyKind}
+use Rattle.bt_shell.specs.Logs.{end_of, has_refusal, kind_of, logged}
+use Rattle.bt_shell.specs.Steps.{State, turn}
 
 pub replies-append : (state : State) (done more : List Answer) → replies state (done ++ more) ≡ replies state done ++ replies (after_commands state done) more
 unfolding replies after_commands
@@ -133,6 +135,35 @@ pub count_ends : (begin table : State) (all others : List Answer) (count : ℕ) 
 count_ends begin table all others count so_far none =
     let rest : refused_count table others ≡ 0 = ap (refused_count table) none ∙ count-none table in
     omega (arith, so_far, rest)
+
+-- what a log has is that of the commands so far and that of the others
+module _ {L : Type 0} (added : L → ℕ → ReplyKind → L) where
+  logged-one : (log : L) (at : ℕ) (state : State) (answer : Answer) (more : List Answer)
+      → logged added log at state (answer ∷ more)
+      ≡ logged added (added log (end_of at (turn state answer).1) (kind_of state answer)) (end_of at (turn state answer).1) (turn state answer).0 more
+  unfolding logged
+  logged-one log at state answer more = refl
+
+  logged-none : (log : L) (at : ℕ) (state : State) → logged added log at state [] ≡ log
+  unfolding logged
+  logged-none log at state = refl
+
+  pub log_goes_on : (whole log after_log : L) (at after_at : ℕ) (table after : State) (others more : List Answer) (text : List ℕ) {refused : Bool} (kind : ReplyKind)
+      → IsTurn table after others more text refused → kind ≡ first_kind table others → after_at ≡ end_of at text → after_log ≡ added log after_at kind
+      → whole ≡ logged added log at table others → whole ≡ logged added after_log after_at after more
+  log_goes_on whole log after_log at after_at table after others more text kind next is ends adds so_far =
+      let answer = next.answer in
+      let own : kind ≡ kind_of table answer = is ∙ ap (first_kind table) next.first in
+      let end : after_at ≡ end_of at (turn table answer).1 = ends ∙ ap (end_of at) next.said in
+      let told : after_log ≡ added log (end_of at (turn table answer).1) (kind_of table answer) =
+      adds ∙ ap (λ (e : ℕ). added log e kind) end ∙ ap (added log (end_of at (turn table answer).1)) own in
+      so_far ∙ ap (logged added log at table) next.first ∙ logged-one log at table answer more
+      ∙ sym (ap (λ (l : L). logged added l after_at after more) told
+      ∙ ap (λ (e : ℕ). logged added (added log (end_of at (turn table answer).1) (kind_of table answer)) e after more) end
+      ∙ ap (λ (state : State). logged added (added log (end_of at (turn table answer).1) (kind_of table answer)) (end_of at (turn table answer).1) state more) next.left)
+
+  pub log_ends : (whole log : L) (at : ℕ) (table : State) (others : List Answer) → whole ≡ logged added log at table others → others ≡ [] → log ≡ whole
+  log_ends whole log at table others so_far none = sym (so_far ∙ ap (logged added log at table) none ∙ logged-none log at table)
 
 -- a script that the reader may have had
 pub some_script : (known : Option (List ℕ)) → (script : List ℕ) × IsScriptOf known script

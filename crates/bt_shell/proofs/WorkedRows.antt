@@ -11,11 +11,15 @@ use Rattle.bt_value.proofs.offered.OnLiterals.{values_on_literals}
 use Rattle.bt_messages.specs.declared.message.Message.TheVariants as message
 use Rattle.bt_script.specs.declared.command.Capacity.TheVariants.{Messages}
 use Rattle.bt_script.specs.Lines.{behind_words}
-use Rattle.bt_script.specs.Commands.{bounds_of, closing_of, column_of, command_of, commands_from, index_command, item_of_line, items_of, line_step, names_of, sums_command, table_command, table_from}
+use Rattle.bt_script.specs.Commands.{bounds_of, closing_of, column_of, command_of, commands, commands_from, index_command, item_of_line, items_of, line_step}
+use Rattle.bt_script.specs.Commands.{names_of, sums_command, table_command, table_from}
 use Rattle.bt_keycode.specs.Codes.{eight_bytes}
 use Rattle.bt_node.specs.Trees.{inner, leaf, node, none}
 use Rattle.bt_view.specs.Images.{change_text, entry_image, entry_text, leaf_row_line, message_line, row_text}
+use Rattle.bt_shell.specs.Logs.{logged}
 use Rattle.bt_shell.specs.Runs.{replies, run}
+use Rattle.bt_shell.specs.declared.log.ReplyKind.{ReplyKind}
+use Rattle.bt_shell.specs.declared.log.ReplyKind.TheVariants.{Changed, Read, Refused}
 use Rattle.bt_batch.specs.Batches.{read_message}
 use Rattle.bt_rowtype.specs.declared.item.Item.TheVariants as line
 
@@ -210,6 +214,14 @@ pub empty_ranges : run (codes "table 4 3 2 1 id:int qty:int\nbatch\nput 1,10\npu
     ≡ codes "table 2\nbatch 4\nrows 0\nindex q\nrefused 7 BadLength 1\nrefused 11 Building\nrefused 11 Building\n"
 unfolding replies commands_from line_step closing_of command_of bounds_of sums_command index_command names_of behind_words items_of item_of_line column_of table_command eight_bytes values_on_literals
 empty_ranges = refl
+
+-- ---- logs
+
+-- replies of 8, 17 and 5 bytes: a table, a refusal and a row that there is not
+pub ends_of_replies : logged (λ (log : List (ℕ × ReplyKind)) end kind. log ++ (end, kind) ∷ []) [] 0 None (commands (codes "table 4 3 2 1 id:int\nnope\nget 1\n"))
+    ≡ (8, Changed) ∷ (25, Refused) ∷ (30, Read) ∷ []
+unfolding logged commands_from line_step closing_of command_of bounds_of items_of item_of_line column_of table_command eight_bytes values_on_literals
+ends_of_replies = refl
 
 -- ---- images of indexes
 

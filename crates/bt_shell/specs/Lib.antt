@@ -1,5 +1,6 @@
 pub mod Contents
 pub mod Faults
+pub mod Logs
 pub mod Programs
 pub mod Replies
 pub mod Runs

@@ -4,7 +4,8 @@ use Rattle.bt_script.specs.Commands.{Answer, Outside, Place, commands, line_step
 use Rattle.bt_script.specs.Lines.{lines}
 use Rattle.bt_script.specs.Streams.{Gave, Took, TookPrefix, source_of}
 use Rattle.bt_script.specs.declared.counted.Counted.{Counted}
-use Rattle.bt_shell.specs.Steps.{State, has_refusal, turn}
+use Rattle.bt_shell.specs.Logs.{has_refusal}
+use Rattle.bt_shell.specs.Steps.{State, turn}
 
 -- the replies to commands one after the other, from a table on
 unfoldable pub replies : State → List Answer → List ℕ

@@ -1,5 +1,5 @@
 -- How a command changes the table, its reply, and why it is refused.
-use Rattle.std.specs.Prelude.{ℕ, not, Bool, true, List, ◌++◌, length, Option, Some, None, is_err, is_some, Result, Ok, Err, codes}
+use Rattle.std.specs.Prelude.{ℕ, not, Bool, List, ◌++◌, length, Option, Some, None, is_some, Result, Ok, Err, codes}
 use Rattle.bt_value.specs.Refusals.{least}
 use Rattle.bt_row.specs.Schemas.{is_schema}
 use Rattle.bt_value.specs.declared.refusal.Refusal.{Refusal}
@@ -100,8 +100,3 @@ done_or_refused state (Err refusal) = (state, refused_text refusal)
 abbrev pub turn : State → Answer → Done
 turn state (Err refusal) = (state, refused_text refusal)
 turn state (Ok command) = done_or_refused state (outcome state command)
-
--- whether it is refused
-abbrev pub has_refusal : State → Answer → Bool
-has_refusal state (Err refusal) = true
-has_refusal state (Ok command) = is_err (outcome state command)

@@ -16,6 +16,7 @@
 #![tactic(auto)]
 
 mod context;
+mod log;
 mod program_run;
 mod replies;
 mod reply_text;
@@ -29,6 +30,7 @@ pub use bt_script::{
     SCRIPT_LIMIT, SumsForm, TableForm, Words, WordsError, parse_command, read_words,
 };
 pub use bt_table::{Alone, Workforce};
+pub use log::{CommandLog, NoLog, ReplyKind};
 pub use program_run::{ProgramFault, program};
 pub use replies::Lines;
 pub use script_run::{replies_to, run_commands, run_script};

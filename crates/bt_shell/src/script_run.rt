@@ -5,12 +5,14 @@ ghost use Rattle.bt_script.specs.Commands.{commands};
 ghost use Rattle.bt_script.specs.Streams.{FailsToGive, GaveAtMost, GivesWithin, Took, TookPrefix, count_of, has_failed, has_unflushed, script_limit, source_of};
 ghost use Rattle.bt_shell.specs.Contents.{BatchesAreFolded, CutsDoNotShow, NoTreeShows, ShapeIsNoContent, UpkeepKeepsContents};
 ghost use Rattle.bt_shell.specs.Faults.{StopsBetweenReplies, StopsWithinReply, lost_reply};
+ghost use Rattle.bt_shell.specs.Logs.{logged};
 ghost use Rattle.bt_shell.specs.Runs.{AreOneRun, EndsBetweenCommands, IsWholeRun, WritesPrefix, WritesReplies, after_commands, one_where, refused_count, replies, run, state_after_commands};
 ghost use Rattle.bt_shell.specs.Steps.{State};
 ghost use Rattle.bt_table.specs.Standing.{CompleteIndexesHold, IsSound, IsSoundUnlessLost};
 ghost use Rattle.bt_table.specs.Tables.{Lost};
 
 use crate::context::Context;
+use crate::log::{CommandLog, NoLog};
 use crate::turn::next_reply;
 use crate::workforce::ScriptWorkforce;
 use bt_script::{Counted, RunFault, read_script};
@@ -60,7 +62,7 @@ fn laws(_script: &[u8])
 {}
 
 /// Carries out the commands of a script, writes the reply to each of them, and flushes the replies. The commands start from a table that outlives the run, or
-/// from none. Returns the number of commands that were refused.
+/// from none. Returns the number of commands that were refused. The log is told of each command after its reply was written.
 ///
 /// The replies are those that the definition `replies` gives for the commands from that table on, and the table afterwards is the one that the commands leave.
 /// So the runs of two scripts, one after the other, are the run of both as one script, if the first ends between two commands. `Write`: the writer failed.
@@ -68,18 +70,20 @@ fn laws(_script: &[u8])
 ///
 /// After a fault the table is the one after the commands with whole replies, the one after one more command, or lost. A lost table stays lost, and each command
 /// on it except `table` is refused as `Failed`.
-pub fn run_commands<W: Write, T, C: ScriptWorkforce<T>>(
+pub fn run_commands<W: Write, L: CommandLog, T, C: ScriptWorkforce<T>>(
     rt: &T,
     alloc: Global,
     script: &[u8],
     table: &mut Option<Table>,
     writer: &mut Counted<W>,
+    log: &mut L,
     crew: &C,
 ) -> Result<usize, RunFault>
     requires ready { C.accepts crew.now }
     ensures ok { OnOk result (Took W.contents writer.old writer.new (replies table.old (commands script.now))) }
     ensures state { OnOk result (table.new ≡ after_commands table.old (commands script.now)) }
     ensures refused { IfOk result (λ count. count ≡ refused_count table.old (commands script.now)) }
+    ensures log { OnOk result (log.new ≡ logged L.added log.old (count_of writer.old) table.old (commands script.now)) }
     ensures healthy { OnOk result (has_failed writer.new ≡ has_failed writer.old) }
     ensures flushed { OnOk result (has_unflushed writer.new ≡ false) }
     ensures err { OnErr result (TookPrefix W.contents writer.old writer.new (replies table.old (commands script.now))) }
@@ -115,7 +119,8 @@ pub fn run_commands<W: Write, T, C: ScriptWorkforce<T>>(
     let mut room = Vec::new(alloc);
     'commands: while let Some((reply, next)) = next_reply(&context, script, table, at, room)? {
         reply.text.write_to(writer)?;
-        refused = count_with(refused, reply.refused);
+        log.add(writer.count(), reply.kind)?;
+        refused = count_with(refused, reply.kind.is_refusal());
         at = next;
         room = reply.text.into_room();
     }
@@ -136,7 +141,15 @@ pub fn replies_to<T, C: ScriptWorkforce<T>>(
 {
     let mut table = None;
     let mut writer = Counted::new(Vec::new(alloc));
-    match run_commands(rt, alloc, script, &mut table, &mut writer, workforce) {
+    match run_commands(
+        rt,
+        alloc,
+        script,
+        &mut table,
+        &mut writer,
+        &mut NoLog,
+        workforce,
+    ) {
         Ok(_refused) => Ok(writer.into_inner()),
         // A vector takes all bytes if there is memory for them.
         Err(_fault) => Err(RunFault::OutOfMemory),
@@ -191,6 +204,7 @@ impl RunMemory {
             self.script.as_slice(),
             &mut self.table,
             writer,
+            &mut NoLog,
             crew,
         )?;
         Ok(())

@@ -3,15 +3,17 @@ ghost use Rattle.std.specs.Prelude.{◌≡◌, ◌<◌, ◌≤◌, false, true, 
 ghost use Rattle.bt_script.specs.Commands.{commands};
 ghost use Rattle.bt_script.specs.declared.command.Command.TheVariants as command;
 ghost use Rattle.bt_shell.specs.Faults.{IsLeftAfter};
-ghost use Rattle.bt_shell.specs.inside.Turns.{CarriesOut, IsCutShort, IsTurn};
+ghost use Rattle.bt_shell.specs.inside.Turns.{CarriesOut, IsCutShort, IsTurn, first_kind};
 ghost use Rattle.bt_shell.specs.Replies as spec;
 ghost use Rattle.bt_shell.specs.Replies.{refused_text};
+ghost use Rattle.bt_shell.specs.Logs as logs;
 ghost use Rattle.bt_shell.specs.Steps as step;
 ghost use Rattle.bt_value.specs.Answers.{Answers};
 ghost use Rattle.bt_value.specs.Results.{map_ok};
 ghost use Rattle.bt_table.specs.Standing.{Suits};
 
 use crate::context::Context;
+use crate::log::ReplyKind;
 use crate::replies::{Lines, count_reply, refusal_reply, reply_text, sums_reply};
 use crate::reply_text::ReplyText;
 use crate::workforce::ScriptWorkforce;
@@ -197,22 +199,41 @@ fn command_reply<T, C: ScriptWorkforce<T>>(
     }
 }
 
-/// The reply to a command, and whether it is a refusal.
+/// The reply to a command, and what it did.
 #[derive(Drop)]
 pub(crate) struct CommandReply {
     pub(crate) text: ReplyText,
-    pub(crate) refused: bool,
+    pub(crate) kind: ReplyKind,
 }
 
 // The reply that is a refusal.
 fn refusal_answer(alloc: Global, refusal: Refusal) -> Result<CommandReply, AllocError>
     ensures text { IfOk result (λ reply. reply.text ≡ refused_text refusal) }
-    ensures refused { IfOk result (λ reply. reply.refused ≡ true) }
+    ensures refused { IfOk result (λ reply. reply.kind ≡ ReplyKind.Refused) }
 {
     Ok(CommandReply {
         text: refusal_reply(alloc, refusal)?,
-        refused: true,
+        kind: ReplyKind::Refused,
     })
+}
+
+// What a command does if it is carried out.
+fn kind_of_done(command: &Command<'_>) -> ReplyKind
+    ensures { result ≡ logs.kind_of_done command.now }
+{
+    match command {
+        Command::Get(_) | Command::Scan(..) | Command::Sums(_) | Command::Image(_) => {
+            ReplyKind::Read
+        }
+        Command::Table(_)
+        | Command::Batch(_)
+        | Command::Index(_)
+        | Command::Build(..)
+        | Command::Drop(_)
+        | Command::Load(_)
+        | Command::Drain(_)
+        | Command::Rebuild(_) => ReplyKind::Changed,
+    }
 }
 
 // The reply to a command, after it is carried out. An `Err` means that an allocation failed.
@@ -224,15 +245,13 @@ fn take_turn<T, C: ScriptWorkforce<T>>(
 ) -> Result<CommandReply, AllocError>
     requires ready { C.accepts context.now.crew.now }
     ensures text { IfOk result (λ reply. reply.text ≡ (step.turn table.old (Ok command.entry)).1) }
-    ensures refused { IfOk result (λ reply. reply.refused ≡ step.has_refusal table.old (Ok command.entry)) }
+    ensures kind { IfOk result (λ reply. reply.kind ≡ logs.kind_of table.old (Ok command.entry)) }
     ensures state { OnOk result (table.new ≡ (step.turn table.old (Ok command.entry)).0) }
     ensures left { OnErr result (IsCutShort table.old table.new command.entry) }
 {
+    let kind = kind_of_done(&command);
     match command_reply(context, table, command, room) {
-        Ok(text) => Ok(CommandReply {
-            text,
-            refused: false,
-        }),
+        Ok(text) => Ok(CommandReply { text, kind }),
         Err(Refusal::OutOfMemory) => Err(AllocError),
         Err(refusal) => refusal_answer(context.alloc, refusal),
     }
@@ -250,7 +269,8 @@ pub(crate) fn next_reply<T, C: ScriptWorkforce<T>>(
     room: Vec<u8>,
 ) -> Result<Option<(CommandReply, usize)>, AllocError>
     requires ready { C.accepts context.now.crew.now }
-    ensures step { IfOk result (λ found. IfSome found (λ f. IsTurn table.old table.new (commands (drop at script.now)) (commands (drop f.1 script.now)) f.0.text f.0.refused)) }
+    ensures step { IfOk result (λ found. IfSome found (λ f. IsTurn table.old table.new (commands (drop at script.now)) (commands (drop f.1 script.now)) f.0.text (logs.is_refusal f.0.kind))) }
+    ensures kind { IfOk result (λ found. IfSome found (λ f. f.0.kind ≡ first_kind table.old (commands (drop at script.now)))) }
     ensures end { IfOk result (λ found. IfNone found (commands (drop at script.now) ≡ [])) }
     ensures kept { IfOk result (λ found. IfNone found (table.new ≡ table.old)) }
     ensures past { IfOk result (λ found. IfSome found (λ f. (at < f.1) × (f.1 ≤ length script.now))) }

@@ -20,9 +20,10 @@ use Rattle.bt_table.specs.Tables.{PlainTable}
 use Rattle.bt_table.specs.Indexes.{Index}
 use Rattle.bt_table.proofs.offered.KeyOrder.{keys_rise}
 use Rattle.bt_view.specs.inside.Entries.{index_kinds, rows_of_entries}
-use Rattle.bt_view.specs.Groups.{groups_of, summed_place, sums_of}
+use Rattle.bt_view.specs.Groups.{groups_of, summed_place, sums_of, sums_within}
 use Rattle.bt_view.specs.inside.Neighbours.{after_row}
 use Rattle.bt_view.specs.Ranges.{index_row, index_schema, page_of, range_as, rows_within, scan_with_keys_of, when_whole}
+use Rattle.bt_view.specs.declared.groups.Sum.{Sum}
 use Rattle.bt_view.specs.declared.range.KeyRange.{KeyRange}
 use Rattle.bt_view.proofs.EntryRows.{shown-between, shown-rows, shown-take}
 use Rattle.bt_view.proofs.IndexRows.{all_rise, all_shown, all_stand}
@@ -121,18 +122,39 @@ module _ (table : PlainTable) (index : Index) (from to : Option (List (List ℕ)
           (has_range range (is_whole index.cover) own (subst (λ s. and_then (when_whole index.cover) (range_by s) ≡ Ok own) shows.schema_is is)).1
           ∙ ap (λ p. and_then (λ place. groups_of grouping place (rows_within own rows)) p) (subst (λ s. place_by s ≡ Err refusal) shows.schema_is none)
 
-      pub sums_done : (place : ℕ) (own : KeyRange) → and_then (when_whole index.cover) (range_by schema) ≡ Ok own → place_by schema ≡ Ok place → grouping ≤ (index_schema schema index.def).keys
-          → sums_of grouping column from to (Secondary table index) ≡ or_refused TooMany (fold after_row (grouping, place, Some []) (entries_by schema own)).2
-      sums_done place own is placed few =
+      -- the groups of a range of an index that covers all are those of its entries
+      groups_of_entries : (place : ℕ) (own : KeyRange) → is_whole index.cover ≡ true → grouping ≤ (index_schema schema index.def).keys
+          → groups_of grouping place (rows_within own rows) ≡ or_refused TooMany (fold after_row (grouping, place, Some []) (entries_by schema own)).2
+      groups_of_entries place own whole few =
           let on = under table.schema.columns index.def.on shows.suits.within.on in
           let include = under table.schema.columns index.def.include shows.suits.within.include in
-          let ranged = has_range range (is_whole index.cover) own (subst (λ s. and_then (when_whole index.cover) (range_by s) ≡ Ok own) shows.schema_is is) in
           let stand = all_stand table.schema index.def on include shows.few table.rows shows.stand in
           let rise = keys_rise (index_schema table.schema index.def) rows stand (all_rise table.schema index.def on include shows.few table.rows) in
           let ascending = ascend (index_schema table.schema index.def) grouping (subst (λ s. grouping ≤ (index_schema s index.def).keys) shows.schema_is few) own rows stand rise in
+          of_rows grouping place (map (λ c. c.kind) (take grouping (index_schema table.schema index.def).columns)) (between own.from own.to rows) ascending
+          ∙ ap (λ rows. or_refused TooMany (fold after_row (grouping, place, Some []) rows).2) (sym (through own whole))
+
+      -- by whether the index covers all, and by the place of the summed column
+      abbrev sums_when : KeyRange → Bool → Result ℕ Refusal → Result (List Sum) Refusal
+      sums_when own whole place = and_then (λ rows. and_then (λ place. groups_of grouping place (rows_within own rows)) place) (if whole then Ok rows else Err Building)
+
+      pub sums_placed : (place : ℕ) (own : KeyRange) → is_whole index.cover ≡ true → place_by schema ≡ Ok place → grouping ≤ (index_schema schema index.def).keys
+          → sums_within grouping column (Secondary table index) own ≡ or_refused TooMany (fold after_row (grouping, place, Some []) (entries_by schema own)).2
+      sums_placed place own whole placed few =
+          ap (λ w. sums_when own w (place_by table.schema)) whole ∙ ap (sums_when own true) (subst (λ s. place_by s ≡ Ok place) shows.schema_is placed)
+          ∙ groups_of_entries place own whole few
+
+      pub sums_unplaced : (refusal : Refusal) (own : KeyRange) → is_whole index.cover ≡ true → place_by schema ≡ Err refusal
+          → sums_within grouping column (Secondary table index) own ≡ Err refusal
+      sums_unplaced refusal own whole none =
+          ap (λ w. sums_when own w (place_by table.schema)) whole ∙ ap (sums_when own true) (subst (λ s. place_by s ≡ Err refusal) shows.schema_is none)
+
+      pub sums_done : (place : ℕ) (own : KeyRange) → and_then (when_whole index.cover) (range_by schema) ≡ Ok own → place_by schema ≡ Ok place → grouping ≤ (index_schema schema index.def).keys
+          → sums_of grouping column from to (Secondary table index) ≡ or_refused TooMany (fold after_row (grouping, place, Some []) (entries_by schema own)).2
+      sums_done place own is placed few =
+          let ranged = has_range range (is_whole index.cover) own (subst (λ s. and_then (when_whole index.cover) (range_by s) ≡ Ok own) shows.schema_is is) in
           ranged.1 ∙ ap (λ p. and_then (λ place. groups_of grouping place (rows_within own rows)) p) (subst (λ s. place_by s ≡ Ok place) shows.schema_is placed)
-          ∙ of_rows grouping place (map (λ c. c.kind) (take grouping (index_schema table.schema index.def).columns)) (between own.from own.to rows) ascending
-          ∙ ap (λ rows. or_refused TooMany (fold after_row (grouping, place, Some []) rows).2) (sym (through own ranged.0))
+          ∙ groups_of_entries place own ranged.0 few
 
 -- ---- pages
 

@@ -11,4 +11,5 @@ pub mod NextPages
 pub mod offered
 pub mod RowOrder
 pub mod Summing
+pub mod Totals
 pub mod WorkedRows

@@ -1,5 +1,5 @@
 -- The groups that a visitor of rows has at the end are those by the codes of their columns. Serves grouped sums.
-use Rattle.std.proofs.Common.{◌≡◌, ◌≢◌, ◌∙◌, ◌≤◌, ℕ, List, [], IfErr, None, Option, Some, Result, Ok, refl, sym, ap, fold, map, subst, take}
+use Rattle.std.proofs.Common.{◌≡◌, ◌≢◌, ◌∙◌, ◌≤◌, ℕ, List, [], IfErr, None, Option, Some, Result, Ok, Err, refl, sym, ap, fold, map, subst, take}
 use Rattle.std.proofs.lemmas.List.Folds.{fold-map}
 use Rattle.bt_value.specs.Results.{or_refused, and_then}
 use Rattle.bt_row.specs.Schemas.{Schema}
@@ -13,7 +13,7 @@ use Rattle.bt_node.specs.Trees.{Shape}
 use Rattle.bt_fanout.specs.Effects.{row_effect}
 use Rattle.bt_table.specs.Calls.{Primary, ShowsRows, tree_named}
 use Rattle.bt_table.specs.Tables.{PlainTable, RowTree, TableState}
-use Rattle.bt_view.specs.Groups.{groups_of, summed_place, sums, sums_of}
+use Rattle.bt_view.specs.Groups.{groups_of, summed_place, sums, sums_of, sums_within}
 use Rattle.bt_view.specs.inside.GroupParts.{columns_stay}
 use Rattle.bt_view.specs.inside.Neighbours.{Ascend, Groups, grouped, after_row}
 use Rattle.bt_view.specs.Ranges.{range_as, rows_within}
@@ -51,13 +51,29 @@ module _ (table : PlainTable) (schema : Schema) (tree : Shape × RowTree) (shows
   abbrev place_by : Schema → Result ℕ Refusal
   place_by schema = summed_place schema.columns schema.keys grouping column
 
+  -- the groups of a range of keys are those of the rows that the tree holds
+  pub groups_of_held : (own : KeyRange) (place : ℕ) → grouping ≤ schema.keys
+      → groups_of grouping place (rows_within own table.rows) ≡ or_refused TooMany (fold after_row (grouping, place, Some []) (between own.from own.to (holds row_effect tree.1))).2
+  groups_of_held own place few =
+      of_rows grouping place (map (λ c. c.kind) (take grouping table.schema.columns)) (between own.from own.to table.rows)
+      (ascend table.schema grouping (subst (λ s. grouping ≤ s.keys) shows.schema_is few) own table.rows shows.stand shows.order)
+      ∙ ap (λ rows. or_refused TooMany (fold after_row (grouping, place, Some []) (between own.from own.to rows)).2) (sym shows.held)
+
+  -- the groups of a range of keys, if the summed column has this place
+  pub sums_placed : (own : KeyRange) (place : ℕ) → place_by schema ≡ Ok place → grouping ≤ schema.keys
+      → sums_within grouping column (Primary table) own ≡ or_refused TooMany (fold after_row (grouping, place, Some []) (between own.from own.to (holds row_effect tree.1))).2
+  sums_placed own place placed few =
+      ap (and_then (λ place. groups_of grouping place (rows_within own table.rows))) (subst (λ s. place_by s ≡ Ok place) shows.schema_is placed) ∙ groups_of_held own place few
+
+  -- and if it has none
+  pub sums_unplaced : (own : KeyRange) (refusal : Refusal) → place_by schema ≡ Err refusal → sums_within grouping column (Primary table) own ≡ Err refusal
+  sums_unplaced own refusal none =
+      ap (and_then (λ place. groups_of grouping place (rows_within own table.rows))) (subst (λ s. place_by s ≡ Err refusal) shows.schema_is none)
+
   pub sums_of_rows : (state : TableState) (name : List ℕ) (own : KeyRange) (place : ℕ) → tree_named state name ≡ Ok (Primary table) → range_by schema ≡ Ok own
       → place_by schema ≡ Ok place → grouping ≤ schema.keys
       → sums state name grouping column from to ≡ or_refused TooMany (fold after_row (grouping, place, Some []) (between own.from own.to (holds row_effect tree.1))).2
   sums_of_rows state name own place named is placed few =
       ap (and_then (sums_of grouping column from to)) named
       ∙ ap (and_then (λ range. and_then (λ place. groups_of grouping place (rows_within range table.rows)) (place_by table.schema))) (subst (λ s. range_by s ≡ Ok own) shows.schema_is is)
-      ∙ ap (and_then (λ place. groups_of grouping place (rows_within own table.rows))) (subst (λ s. place_by s ≡ Ok place) shows.schema_is placed)
-      ∙ of_rows grouping place (map (λ c. c.kind) (take grouping table.schema.columns)) (between own.from own.to table.rows)
-      (ascend table.schema grouping (subst (λ s. grouping ≤ s.keys) shows.schema_is few) own table.rows shows.stand shows.order)
-      ∙ ap (λ rows. or_refused TooMany (fold after_row (grouping, place, Some []) (between own.from own.to rows)).2) (sym shows.held)
+      ∙ sums_placed own place placed few

@@ -9,12 +9,13 @@ use Rattle.bt_value.specs.declared.value.Value.TheVariants as value
 use Rattle.bt_value.proofs.offered.OnLiterals.{values_on_literals}
 use Rattle.bt_keycode.specs.Codes.{code_of, eight_bytes}
 use Rattle.bt_messages.specs.declared.measure.Measure.TheVariants as measures
-use Rattle.bt_node.specs.Trees.{leaf}
+use Rattle.bt_node.specs.Trees.{inner, leaf, node, none}
 use Rattle.bt_fanout.specs.declared.cover.Cover.{Cover}
 use Rattle.bt_fanout.specs.declared.cover.Cover.TheVariants.{UpTo, Whole}
 use Rattle.bt_table.specs.Tables.{TableState, Intact, empty_table}
-use Rattle.bt_view.specs.Groups.{sums}
+use Rattle.bt_view.specs.Groups.{sums, sums_between}
 use Rattle.bt_view.specs.Ranges.{scan}
+use Rattle.bt_view.specs.Usage.{usage_of}
 
 -- a key, a number of each, and a place
 abbrev stock : Schema
@@ -53,6 +54,17 @@ pub sums_of_index : sums (with_cover Whole) (codes "q") 1 (codes "id") None None
     ≡ Ok (record { group = value.Int (pos 10) ∷ []; count = 1; total = pos 2 } ∷ record { group = value.Int (pos 20) ∷ []; count = 2; total = pos 4 } ∷ [])
 unfolding eight_bytes values_on_literals
 sums_of_index = refl
+
+-- from the key of a qty on
+pub sums_of_keys : sums_between (with_cover Whole) (codes "q") 1 (codes "id") (record { from = Some (code_of (value.Int (pos 20) ∷ [])); to = None })
+    ≡ Ok (record { group = value.Int (pos 20) ∷ []; count = 2; total = pos 4 } ∷ [])
+unfolding eight_bytes values_on_literals
+sums_of_keys = refl
+
+-- three rows in two leaves, and a message before them
+pub usage_of_two_leaves : usage_of {V = ℕ} {M = ℕ} (inner (node [] (leaf ((1 ∷ [], 7) ∷ (2 ∷ [], 8) ∷ [])) (node (3 ∷ []) (leaf ((3 ∷ [], 9) ∷ [])) none)) ((2 ∷ [], 5) ∷ []))
+    ≡ record { rows = 3; messages = 1; height = 2 }
+usage_of_two_leaves = refl
 
 -- a bad bound is refused before a building index, and that before a group of more columns than the key
 pub wrong_bound : scan (with_cover (UpTo (code_of (value.Int (pos 3) ∷ [])))) (codes "q") None (Some (codes "x" ∷ [])) ≡ Err (BadField 2)

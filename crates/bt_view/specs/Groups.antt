@@ -19,6 +19,7 @@ use Rattle.bt_table.specs.Tables.{TableState}
 use Rattle.bt_value.specs.Results.{and_then}
 use Rattle.bt_view.specs.Ranges.{range_of, rows_of_tree, rows_within, schema_of}
 use Rattle.bt_view.specs.declared.groups.Sum.{Sum}
+use Rattle.bt_view.specs.declared.range.KeyRange.{KeyRange}
 
 -- the number that a value is; 0 if it is not int
 abbrev pub number_of_value : Value → ℤ
@@ -72,12 +73,20 @@ summed_at keys grouping found = if nat_le 1 grouping && nat_le grouping keys the
 abbrev pub summed_place : List Column → ℕ → ℕ → List ℕ → Result ℕ Refusal
 summed_place columns keys grouping name = summed_at keys grouping (named_from 0 name columns)
 
--- the groups of a range of a tree by its first columns, with the sum of the column of this name, or the first of these refusals: of the bounds, of an index
--- that is building, of the columns, and of a group that has too many rows
+-- the groups of the rows of a tree whose keys are in a range, by its first columns, with the sum of the column of this name, or the first of these refusals: of
+-- an index that is building, of the columns, and of a group that has too many rows
+abbrev pub sums_within : ℕ → List ℕ → NamedTree → KeyRange → Result (List Sum) Refusal
+sums_within grouping column tree range =
+    and_then (λ rows. and_then (λ place. groups_of grouping place (rows_within range rows))
+    (summed_place (schema_of tree).columns (schema_of tree).keys grouping column)) (rows_of_tree tree)
+
+-- the groups of a range of keys of the tree of this name
+abbrev pub sums_between : TableState → List ℕ → ℕ → List ℕ → KeyRange → Result (List Sum) Refusal
+sums_between state name grouping column range = and_then (λ tree. sums_within grouping column tree range) (tree_named state name)
+
+-- the groups of a range of a tree, or the first refusal, which may be that of the bounds
 abbrev pub sums_of : ℕ → List ℕ → Option (List (List ℕ)) → Option (List (List ℕ)) → NamedTree → Result (List Sum) Refusal
-sums_of grouping column from to tree =
-    and_then (λ range. and_then (λ rows. and_then (λ place. groups_of grouping place (rows_within range rows))
-    (summed_place (schema_of tree).columns (schema_of tree).keys grouping column)) (rows_of_tree tree)) (range_of tree from to)
+sums_of grouping column from to tree = and_then (sums_within grouping column tree) (range_of tree from to)
 
 -- the groups of a range of the tree of this name
 abbrev pub sums : TableState → List ℕ → ℕ → List ℕ → Option (List (List ℕ)) → Option (List (List ℕ)) → Result (List Sum) Refusal

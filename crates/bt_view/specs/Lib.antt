@@ -4,3 +4,4 @@ pub mod Images
 pub mod Lists
 pub mod Ranges
 pub mod RecordTexts
+pub mod Usage

@@ -9,10 +9,12 @@
 //! let rows = scan(&rt, alloc, &table, &name, Some(&from), None, RowList::new(alloc), &crew)?;     // the rows from the key that `from` encodes
 //! let rows = page(alloc, &table, &name, &range, 100, RowList::new(alloc))?;                        // the first 100 rows of a range of keys
 //! let sums = sums(&rt, alloc, &table, &name, 1, &column, None, None, &crew)?;                     // one Sum for each value of the first column
+//! let sums = sums_between(alloc, &table, &name, &range, 1, &column)?;                              // the same for a range of keys
 //! let text = image(alloc, &table, &name)?;                                                        // the nodes of the tree, line by line
 //! ```
 //!
-//! `specs` has the definitions: `Ranges` defines the rows of a range, `Groups` groups and their sums, and `Images` the text of a tree.
+//! `specs` has the definitions: `Ranges` defines the rows of a range, `Groups` groups and their sums,
+//! `Usage` how much a tree holds, and `Images` its text.
 #![tactic(auto)]
 
 mod columns;
@@ -22,14 +24,17 @@ mod entry_rows;
 mod groups;
 mod pages;
 mod range;
+mod range_sums;
 mod shown;
 mod shown_columns;
 mod tree_image;
+mod tree_usage;
 mod view;
 mod visitors;
 
 pub use groups::Sum;
 pub use range::KeyRange;
 pub use shown_columns::{TreeColumns, tree_columns};
-pub use view::{image, page, scan, scan_alone, sums, sums_alone};
+pub use tree_usage::TreeUsage;
+pub use view::{image, page, scan, scan_alone, sums, sums_alone, sums_between, usage};
 pub use visitors::{RecordText, RowList};

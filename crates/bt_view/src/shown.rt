@@ -2,7 +2,7 @@
 ghost use Rattle.std.specs.Prelude.{◌≡◌, ◌≢◌, ◌≤◌, IfErr, IfOk, IsErrOf, None, Ok, fold, take};
 ghost use Rattle.std.specs.Option.{option_copied};
 ghost use Rattle.bt_value.specs.Answers.{Answers};
-ghost use Rattle.bt_fanout.specs.Effects.{entry_effect};
+ghost use Rattle.bt_fanout.specs.Effects.{entry_effect, row_effect};
 ghost use Rattle.bt_node.specs.Flushes.{holds};
 ghost use Rattle.bt_node.specs.Messages.{between};
 ghost use Rattle.bt_value.specs.Results.{and_then};
@@ -20,6 +20,7 @@ use crate::entry_groups::EntryGroups;
 use crate::entry_rows::EntryRows;
 use crate::groups::{Grouping, summed_place};
 use crate::range::{KeyRange, read_range};
+use crate::range_sums::group_entries;
 use bt_fanout::{Cover, IndexDef};
 use bt_gang::{Crew, Gate};
 use bt_gather::read;
@@ -56,6 +57,21 @@ pub(crate) struct Summed<'a> {
     pub(crate) groups: Grouping,
 }
 
+/// Shows the rows of a table in a range, without workers.
+pub(crate) fn show_rows<S: Visitor<Row>>(
+    alloc: Global,
+    tree: &Tree<Row>,
+    range: &KeyRange,
+    visitor: S,
+) -> Result<S, AllocError>
+    ensures { IfOk result (λ after. after ≡ fold S.visited visitor (between range.now.from range.now.to (holds row_effect tree.now.1))) }
+{
+    let (from, to) = range.bounds();
+    let mut visitor = visitor;
+    tree.walk().visit(alloc, from, to, &mut visitor)?;
+    Ok(visitor)
+}
+
 /// Shows the rows, without workers.
 pub(crate) fn show_alone<S: Visitor<Row>>(
     alloc: Global,
@@ -65,12 +81,7 @@ pub(crate) fn show_alone<S: Visitor<Row>>(
     ensures { IfOk result (λ after. after ≡ fold S.visited visitor (rows_shown shown.entry)) }
 {
     match shown {
-        Shown::Rows { tree, range } => {
-            let (from, to) = range.bounds();
-            let mut visitor = visitor;
-            tree.walk().visit(alloc, from, to, &mut visitor)?;
-            Ok(visitor)
-        }
+        Shown::Rows { tree, range } => show_rows(alloc, tree, &range, visitor),
         Shown::Entries { tree, kinds, range } => {
             let (from, to) = range.bounds();
             let mut rows = EntryRows {
@@ -118,10 +129,7 @@ pub(crate) fn sum_alone(alloc: Global, summed: Summed<'_>) -> Result<Grouping, A
     let Summed { shown, groups } = summed;
     match shown {
         Shown::Entries { tree, kinds, range } => {
-            let (from, to) = range.bounds();
-            let mut entries = EntryGroups::new(kinds.as_slice(), groups);
-            tree.walk().visit(alloc, from, to, &mut entries)?;
-            Ok(entries.into_groups())
+            group_entries(alloc, tree, kinds.as_slice(), &range, groups)
         }
         rows => show_alone(alloc, rows, groups),
     }
@@ -262,8 +270,8 @@ pub(crate) fn rows_to_show<'a>(
     }
 }
 
-// The place of the summed column of this name among those of the rows of an index, grouped by the first `grouping` columns. Allocates nothing.
-fn index_place(
+/// The place of the summed column of this name among those of the rows of an index, grouped by the first `grouping` columns. Allocates nothing.
+pub(crate) fn index_place(
     schema: &Schema,
     def: &IndexDef,
     grouping: u32,

@@ -1,11 +1,11 @@
 //! The text of a tree.
-ghost use Rattle.std.specs.Prelude.{◌≡◌, ◌<◌, ◌-◌, ◌^◌, ◌++◌, ◌∷◌, [], IfOk, OnOk, flat_map, length, min, slice_get};
-ghost use Rattle.bt_node.specs.Trees as trees;
+ghost use Rattle.std.specs.Prelude.{◌≡◌, ◌<◌, ◌++◌, ◌∷◌, [], IfOk, OnOk, flat_map, length, slice_get};
 ghost use Rattle.bt_node.specs.Walks.{children_of, messages_of, rows_of};
 ghost use Rattle.bt_view.specs.inside.Drawings.{own_text, pivot_text};
 ghost use Rattle.bt_view.specs.Images as spec;
 
 use crate::drawing::Drawing;
+use crate::tree_usage::usage_of;
 use bt_keycode::Key;
 use bt_messages::{Merge, Message};
 use bt_node::Walk;
@@ -210,18 +210,6 @@ fn write_node<V: Merge, D: Drawing<V>>(
     Ok(())
 }
 
-// The height of a node, at most the largest `u64`.
-fn height<V: Merge>(walk: &Walk<V>) -> u64
-    ensures { result ≡ min (trees.height walk.now) (2 ^ 64 - 1) }
-{
-    let mut highest = 0u64;
-    for place in 0..walk.child_count() {
-        let child = walk.child(place);
-        highest = highest.max(height(&child));
-    }
-    highest.saturating_add(1)
-}
-
 /// The image of a tree under its name.
 pub(crate) fn image_text<V: Merge, D: Drawing<V>>(
     alloc: Global,
@@ -232,7 +220,7 @@ pub(crate) fn image_text<V: Merge, D: Drawing<V>>(
     ensures { IfOk result (λ text. text.items ≡ spec.image_text (D.value_text drawing.now) (D.delta_text drawing.now) name.now walk.now) }
 {
     let mut text = Vec::new(alloc);
-    write_first_line(&mut text, name, height(walk))?;
+    write_first_line(&mut text, name, usage_of(walk).height)?;
     write_node(alloc, &mut text, drawing, &[], walk)?;
     text.extend_from_slice(b"end\n")?;
     Ok(text)

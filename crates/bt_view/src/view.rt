@@ -7,13 +7,16 @@ ghost use Rattle.bt_table.specs.Calls.{tree_named};
 ghost use Rattle.bt_view.specs.Groups as groups;
 ghost use Rattle.bt_view.specs.Images as images;
 ghost use Rattle.bt_view.specs.Ranges as spec;
+ghost use Rattle.bt_view.specs.Usage as usages;
 
 use crate::drawing::{EntryDrawing, RowDrawing};
 use crate::groups::Sum;
 use crate::pages::{page_of_index, page_of_rows};
 use crate::range::KeyRange;
+use crate::range_sums::{sums_of_index, sums_of_rows};
 use crate::shown::{rows_to_show, rows_to_sum, show, show_alone, sum, sum_alone};
 use crate::tree_image::image_text;
+use crate::tree_usage::{TreeUsage, usage_of};
 use bt_gang::{Crew, Gate};
 use bt_node::{ForkVisitor, Visitor};
 use bt_record::RecordLine;
@@ -130,6 +133,42 @@ pub fn sums_alone(
 {
     let summed = rows_to_sum(alloc, table, name, grouping, column, from, to)?;
     sum_alone(alloc, summed)?.finish()
+}
+
+/// The groups of the rows of the tree of this name whose keys are in a range, in order, by the caller without workers. The rows are grouped by their first
+/// `grouping` columns, with the sum of the column of this name.
+///
+/// Refused with the first that applies: `Failed`, `NoSuchTree`, `Building`, `NoSuchColumn` if a group has no columns or more than the key, or if there is no
+/// column of this name, `NotInt` if it is not int, and `TooMany` if a group has more than 2^64 - 1 rows. All but the last come before anything is allocated.
+pub fn sums_between(
+    alloc: Global,
+    table: &Table,
+    name: &Text,
+    range: &KeyRange,
+    grouping: u32,
+    column: &Text,
+) -> Result<Sequence<Sum>, Refusal>
+    ensures answer { Answers (groups.sums_between table.now name.now grouping column.now range.now) result }
+    ensures certain { IfErr (groups.sums_between table.now name.now grouping column.now range.now) (λ refusal. refusal ≢ Refusal.TooMany → IsErrOf result refusal) }
+{
+    match table.tree(name)? {
+        TreeRef::Rows { schema, tree } => {
+            sums_of_rows(alloc, schema, tree, range, grouping, column)
+        }
+        TreeRef::Index { schema, index } => {
+            sums_of_index(alloc, schema, index, range, grouping, column)
+        }
+    }
+}
+
+/// How much the tree of this name holds. All its nodes are read. Refused with the first that applies: `Failed`, `NoSuchTree`. Allocates nothing.
+pub fn usage(table: &Table, name: &Text) -> Result<TreeUsage, Refusal>
+    ensures { result ≡ usages.usage table.now name.now }
+{
+    match table.tree(name)? {
+        TreeRef::Rows { tree, .. } => Ok(usage_of(&tree.walk())),
+        TreeRef::Index { index, .. } => Ok(usage_of(&index.tree.walk())),
+    }
 }
 
 /// The image of the tree of this name: its nodes with their rows, pivots and messages. `Failed` and `NoSuchTree` come before anything is allocated.

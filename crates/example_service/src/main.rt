@@ -1,34 +1,43 @@
-//! A service on the library: it counts hits of pages with batches of upserts, builds an index of them in steps between the batches, and reads both trees.
+//! A service on the library: it counts hits of pages with batches of upserts, builds an index of them in steps between the batches, and reads both trees. It
+//! hands values over, and formats and parses no text.
 #![tactic(auto)]
 
 use anyhow::Result;
+use bt_batch::Changes;
 use bt_fanout::IndexDef;
 use bt_gang::{Crew, NoGate};
+use bt_keycode::encode_row;
 use bt_node::Shape;
 use bt_rowtype::{
-    Column, Columns, Item, Kind, RecordLine, Refusal, Row, Schema, Text, Texts, ValueRef,
+    Column, Columns, Kind, MOST_VALUE_BYTES, Op, Ops, Refusal, Row, Schema, Text, Texts, ValueRef,
 };
 use bt_table::{Reply, Table};
-use bt_view::{RecordText, RowList, scan};
+use bt_view::{KeyRange, RecordText, RowList, page, scan};
 use std::alloc::{AllocError, Global};
 use std::sync::Wait;
 use std::thread::Threads;
 use thiserror::Error;
 
-// Hits of pages in the order of their arrival, each as the record of its key: a page and a day.
-const FIRST: &[&str] = &["home,1", "shop,1", "home,1", "about,2"];
+// Hits of pages in the order of their arrival: a page and a day.
+const FIRST: &[(&str, i64)] = &[("home", 1), ("shop", 1), ("home", 1), ("about", 2)];
 
-const SECOND: &[&str] = &["shop,1", "home,1", "home,2", "shop,1"];
+const SECOND: &[(&str, i64)] = &[("shop", 1), ("home", 1), ("home", 2), ("shop", 1)];
 
-const THIRD: &[&str] = &["about,2", "docs,3"];
+const THIRD: &[(&str, i64)] = &[("about", 2), ("docs", 3)];
+
+// The place of the column that counts hits.
+const HITS: usize = 2;
+
+// The most rows that are read of the index.
+const PAGE: usize = 100;
 
 /// Why the service stops.
 #[derive(Debug, Drop, Error)]
 enum Fault {
     #[error("refused {} {}", .0.number(), .0.name())]
     Refused(#[from] Refusal),
-    #[error("a line in which no record stands")]
-    NoRecord,
+    #[error("a name is over 255 bytes")]
+    NameTooLong,
     #[error(transparent)]
     Memory(#[from(alloc)] AllocError),
 }
@@ -58,17 +67,27 @@ fn new_table(alloc: Global) -> Result<Table, Fault> {
     Ok(Table::new(alloc, schema, Shape::new(16, 1024, 256)?))
 }
 
-fn record(line: &str) -> Result<RecordLine<'_>, Fault> {
-    RecordLine::new(line.as_bytes()).ok_or(Fault::NoRecord)
+// A name from outside as a text.
+fn text(alloc: Global, name: &str) -> Result<Text, Fault> {
+    if name.len() > MOST_VALUE_BYTES {
+        return Err(Fault::NameTooLong);
+    }
+    Ok(Text::new(alloc, name)?)
 }
 
-// The hits in a row of the table, its third value.
+// The key columns of a row: a page and a day.
+fn key(alloc: Global, name: &str, day: i64) -> Result<Row, Fault> {
+    let mut key = Row::new();
+    let name = text(alloc, name)?;
+    key.push(alloc, ValueRef::Text(name.as_bytes()))?;
+    key.push(alloc, ValueRef::Int(day))?;
+    Ok(key)
+}
+
+// The hits in a row of the table.
 fn hits_in(row: &Row) -> i64 {
-    if row.len() < 3 {
-        return 0;
-    }
-    match row.get(2) {
-        ValueRef::Int(hits) => hits,
+    match row.find(HITS) {
+        Some(ValueRef::Int(hits)) => hits,
         _ => 0,
     }
 }
@@ -85,17 +104,20 @@ impl Service {
     }
 
     // Applies one batch; each event in it adds one to the hits of its key.
-    fn count<R: Threads + Wait + Sync>(&mut self, rt: &R, events: &[&str]) -> Result<(), Fault> {
+    fn count<R: Threads + Wait + Sync>(
+        &mut self,
+        rt: &R,
+        events: &[(&str, i64)],
+    ) -> Result<(), Fault> {
         let alloc = self.alloc;
-        let mut lines = Vec::new(alloc);
-        for event in events {
-            lines.push(format!(in alloc; "{event},add,hits,1")?)?;
+        let mut changes = Changes::new(alloc, self.table.schema()?);
+        for (name, day) in events {
+            let mut ops = Ops::new(alloc);
+            ops.push(Op::Add(HITS, 1))?;
+            changes.ups(alloc, key(alloc, name, *day)?, ops)?;
         }
-        let mut items = Vec::new(alloc);
-        for line in &lines {
-            items.push(Item::Ups(record(line.as_str())?))?;
-        }
-        self.table.apply(rt, alloc, items.as_slice(), &self.crew)?;
+        let packet = changes.into_packet(alloc)?;
+        self.table.apply_messages(rt, alloc, packet, &self.crew)?;
         Ok(())
     }
 
@@ -119,19 +141,27 @@ impl Service {
     }
 
     // The hits of a page on a day.
-    fn hits(&self, key: &str) -> Result<i64, Fault> {
-        match self.table.get(self.alloc, &record(key)?)? {
+    fn hits(&self, name: &str, day: i64) -> Result<i64, Fault> {
+        let alloc = self.alloc;
+        let key = key(alloc, name, day)?;
+        let code = encode_row(alloc, &key, key.len())?;
+        match self.table.get_at(alloc, &code)? {
             Reply::Row(Some(row)) => Ok(hits_in(&row)),
             _ => Ok(0),
         }
     }
 
-    // The records of the index with at least `from` hits: the hits, the page and the day.
-    fn busiest<R: Threads + Wait + Sync>(&self, rt: &R, from: &str) -> Result<RecordText, Fault> {
-        let (alloc, table, index, crew) = (self.alloc, &self.table, &self.index, &self.crew);
-        let from = record(from)?;
+    // The first records of the index with at least `least` hits: the hits, the page and the day.
+    fn busiest(&self, least: i64) -> Result<RecordText, Fault> {
+        let alloc = self.alloc;
+        let mut bound = Row::new();
+        bound.push(alloc, ValueRef::Int(least))?;
+        let range = KeyRange {
+            from: Some(encode_row(alloc, &bound, bound.len())?),
+            to: None,
+        };
         let text = RecordText::new(alloc);
-        Ok(scan(rt, alloc, table, index, Some(&from), None, text, crew)?)
+        Ok(page(alloc, &self.table, &self.index, &range, PAGE, text)?)
     }
 
     // All rows.
@@ -152,8 +182,8 @@ fn serve<R: Print + AllocGlobal + Threads + Wait + Sync>(rt: &R) -> Result<()> {
         service.count(rt, events)?;
     }
     println!(rt; "index complete: {}", service.build_more(rt)?)?;
-    println!(rt; "hits of home on day 1: {}", service.hits("home,1")?)?;
-    let text = service.busiest(rt, "2")?;
+    println!(rt; "hits of home on day 1: {}", service.hits("home", 1)?)?;
+    let text = service.busiest(2)?;
     print!(rt; "{}", String::from_utf8_lossy(alloc, text.as_bytes())?)?;
     let list = service.all(rt)?;
     let mut total: i64 = 0;

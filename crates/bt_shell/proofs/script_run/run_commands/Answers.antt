@@ -1,15 +1,18 @@
-use Rattle.std.proofs.Common.{ℕ, [], ◌+◌, ◌≡◌, ◌∙◌, ap, arith, rules, drop, sym}
-use Rattle.bt_shell.specs.Runs.{refused_count}
+use Rattle.std.proofs.Common.{ℕ, Bool, [], ◌+◌, ◌≡◌, ◌∙◌, ap, arith, rules, drop, refl, sym}
+use Rattle.bt_script.specs.Streams.{count_of}
+use Rattle.bt_shell.specs.Logs.{is_refusal, logged}
+use Rattle.bt_shell.specs.Runs.{one_where, refused_count}
 use Rattle.bt_script.specs.Commands.{commands}
 use Rattle.bt_script.proofs.offered.Streams.{Took-kept, Took-nil}
-use Rattle.bt_shell.proofs.Faults.{left_at_end, left_by_next, left_later, lost_is_left, stops_at_end, stops_between, stops_within}
+use Rattle.bt_shell.proofs.Faults.{left_as_it_was, left_at_end, left_by_next, left_later, lost_is_left, stops_at_end, stops_between, stops_within}
 use Rattle.bt_shell.proofs.Sound.{hold_unless_lost, left_keeps_sound}
-use Rattle.bt_shell.proofs.Turns.{count_ends, count_goes_on, on_err, run_begins, run_breaks, run_goes_on, run_leaves, run_prefix}
+use Rattle.bt_shell.proofs.Turns.{count_ends, count_goes_on, log_ends, log_goes_on, on_err, run_begins, run_breaks, run_goes_on, run_leaves, run_prefix}
 use Rattle.bt_shell.proofs.script_run.run_commands.Goals as goal
 
 pub commands-init : goal.commands-init
 commands-init g c = record {
   counted = omega arith;
+  log = refl;
   few = omega arith;
   within = omega arith;
   healthy = search rules;
@@ -68,14 +71,51 @@ returns-in_err-write_to-clause-sound g c =
 pub returns-in_err-write_to-clause-complete : goal.returns-in_err-write_to-clause-complete
 returns-in_err-write_to-clause-complete g c = hold_unless_lost c.next_reply.new.table (returns-in_err-write_to-clause-sound g c)
 
+-- ---- the reply is written, and out of memory for the log
+
+pub returns-in_err-add-clause-err : goal.returns-in_err-add-clause-err
+returns-in_err-add-clause-err g c =
+    let script = c.args.script.now in
+    let next = rw c.in-Some.is at c.in_ok-reply.ensures.step in
+    on_err c.from_residual-in_err-add.result _
+    (run_prefix g.W.Write.contents c.args.writer.now c.args.table.now c.write_to.new.writer c.next_reply.new.table (commands script) (commands (drop c.in-Some.next script))
+    (run_goes_on g.W.Write.contents c.args.writer.now c.args.table.now c.commands.writer c.write_to.new.writer c.commands.table c.next_reply.new.table (commands script)
+    (commands (drop c.commands.at script)) (commands (drop c.in-Some.next script)) c.in-Some.reply.text c.commands.invariant.so_far next c.in_ok-write_to.ensures.ok))
+
+pub returns-in_err-add-clause-memory : goal.returns-in_err-add-clause-memory
+returns-in_err-add-clause-memory g c =
+    let script = c.args.script.now in
+    let next = rw c.in-Some.is at c.in_ok-reply.ensures.step in
+    let so_far = run_goes_on g.W.Write.contents c.args.writer.now c.args.table.now c.commands.writer c.write_to.new.writer c.commands.table c.next_reply.new.table (commands script)
+    (commands (drop c.commands.at script)) (commands (drop c.in-Some.next script)) c.in-Some.reply.text c.commands.invariant.so_far next c.in_ok-write_to.ensures.ok in
+    λ _. (search rules, stops_between script so_far c.next_reply.new.table (left_as_it_was c.next_reply.new.table c.next_reply.new.table (commands (drop c.in-Some.next script)) refl))
+
+pub returns-in_err-add-clause-lost : goal.returns-in_err-add-clause-lost
+returns-in_err-add-clause-lost g c =
+    let next = rw c.in-Some.is at c.in_ok-reply.ensures.step in
+    lost_is_left c.args.table.now c.next_reply.new.table (commands c.args.script.now) _ (left_by_next c.commands.invariant.so_far next)
+
+pub returns-in_err-add-clause-sound : goal.returns-in_err-add-clause-sound
+returns-in_err-add-clause-sound g c =
+    let next = rw c.in-Some.is at c.in_ok-reply.ensures.step in
+    left_keeps_sound c.args.table.now c.next_reply.new.table (commands c.args.script.now) _ c.soundness.ensures (left_by_next c.commands.invariant.so_far next)
+
+pub returns-in_err-add-clause-complete : goal.returns-in_err-add-clause-complete
+returns-in_err-add-clause-complete g c = hold_unless_lost c.next_reply.new.table (returns-in_err-add-clause-sound g c)
+
 pub commands-preserved : goal.commands-preserved
 commands-preserved g c =
     let script = c.args.script.now in
     let next = rw c.in-Some.is at c.in_ok-reply.ensures.step in
     record {
       counted = count_goes_on c.args.table.now c.commands.table c.next_reply.new.table (commands script) (commands (drop c.commands.at script)) (commands (drop c.in-Some.next script))
-          c.in-Some.reply.text c.in-Some.reply.refused c.commands.refused next c.commands.invariant.counted
-          ∙ ap (λ (count : ℕ). count + refused_count c.next_reply.new.table (commands (drop c.in-Some.next script))) (sym c.count_with-refused.ensures);
+          c.in-Some.reply.text (is_refusal c.in-Some.reply.kind) c.commands.refused next c.commands.invariant.counted
+          ∙ ap (λ (count : ℕ). count + refused_count c.next_reply.new.table (commands (drop c.in-Some.next script)))
+          (ap (λ (refused : Bool). c.commands.refused + one_where refused) (sym c.is_refusal.ensures) ∙ sym c.count_with-refused.ensures);
+      log = log_goes_on g.L.CommandLog.added (logged g.L.CommandLog.added c.args.log.now (count_of c.args.writer.now) c.args.table.now (commands script)) c.commands.log c.add.new.self
+          (count_of c.commands.writer) (count_of c.write_to.new.writer) c.commands.table c.next_reply.new.table (commands (drop c.commands.at script))
+          (commands (drop c.in-Some.next script)) c.in-Some.reply.text c.in-Some.reply.kind next (rw c.in-Some.is at c.in_ok-reply.ensures.kind) c.in_ok-write_to.ensures.ok.1
+          (c.in_ok-add.ensures ∙ ap (λ (end : ℕ). g.L.CommandLog.added c.commands.log end c.in-Some.reply.kind) c.count.ensures) c.commands.invariant.log;
       few = search (arith, rules);
       within = search (arith, rules);
       healthy = search rules;
@@ -124,6 +164,12 @@ returns-clause-refused g c =
     let others = commands (drop c.commands.at c.args.script.now) in
     let none : others ≡ [] = search rules in
     sym (count_ends c.args.table.now c.commands.table all others c.commands.refused c.commands.invariant.counted none)
+
+pub returns-clause-log : goal.returns-clause-log
+returns-clause-log g c =
+    let others = commands (drop c.commands.at c.args.script.now) in
+    let none : others ≡ [] = search rules in
+    log_ends g.L.CommandLog.added _ c.commands.log (count_of c.commands.writer) c.commands.table others c.commands.invariant.log none
 
 pub returns-clause-lost : goal.returns-clause-lost
 returns-clause-lost g c =

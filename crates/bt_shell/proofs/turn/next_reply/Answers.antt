@@ -1,5 +1,6 @@
-use Rattle.std.proofs.Common.{refl, Ok, Err, drop}
+use Rattle.std.proofs.Common.{refl, Ok, Err, ap, drop}
 use Rattle.bt_script.specs.Commands.{commands}
+use Rattle.bt_shell.specs.Logs.{is_refusal}
 use Rattle.bt_shell.proofs.Faults.{left_as_it_was, left_by_command}
 use Rattle.bt_shell.proofs.Turns.{on_err}
 use Rattle.bt_shell.proofs.turn.next_reply.Goals as goal
@@ -10,7 +11,7 @@ returns-in_ok-reply-in-Bad-clause-step g c = record {
   first = rw c.in-Bad.is at c.in_ok-parse_command.ensures.found;
   said = c.in_ok-reply-in-Bad.ensures.text;
   left = refl;
-  judged = c.in_ok-reply-in-Bad.ensures.refused;
+  judged = ap is_refusal c.in_ok-reply-in-Bad.ensures.refused;
 }
 
 pub returns-in_ok-reply-in-Good-clause-step : goal.returns-in_ok-reply-in-Good-clause-step
@@ -19,7 +20,7 @@ returns-in_ok-reply-in-Good-clause-step g c = record {
   first = rw c.in-Good.is at c.in_ok-parse_command.ensures.found;
   said = c.in_ok-reply-in-Good.ensures.text;
   left = c.in_ok-reply-in-Good.ensures.state;
-  judged = c.in_ok-reply-in-Good.ensures.refused;
+  judged = ap is_refusal c.in_ok-reply-in-Good.ensures.kind;
 }
 
 -- out of memory: no command is read, its refusal has no text, or the command is cut short

@@ -1,0 +1,15 @@
+use Rattle.std.proofs.Common.{rules, ◌∙◌, refl}
+use Rattle.bt_node.specs.Flushes.{holds}
+use Rattle.bt_node.specs.Messages.{between}
+use Rattle.bt_fanout.specs.Effects.{entry_effect}
+use Rattle.bt_view.specs.inside.Entries.{rows_of_entries}
+use Rattle.bt_view.specs.inside.Neighbours.{after_row}
+use Rattle.bt_view.proofs.EntryRows.{gone-along}
+use Rattle.bt_view.proofs.range_sums.group_entries.Goals as goal
+
+pub returns : goal.returns
+returns c =
+    let entries = between c.args.range.now.from c.args.range.now.to (holds entry_effect c.args.tree.now.1) in
+    c.into_groups.ensures
+    ∙ gone-along after_row (rows_of_entries c.args.kinds.now entries) c.args.groups c.args.kinds.now entries
+    c.new-entries.result c.visit.new.visitor refl c.new-entries.ensures (search rules)

@@ -1,0 +1,23 @@
+use Rattle.std.proofs.Common.{rules, ◌≡◌, ◌≤◌, ◌∙◌, ℕ, [], Ok, None, Some, refl, sym, ap}
+use Rattle.bt_value.specs.Results.{or_refused}
+use Rattle.bt_value.specs.declared.refusal.Refusal.TheVariants.{TooMany}
+use Rattle.bt_node.specs.Flushes.{holds}
+use Rattle.bt_node.specs.Messages.{between}
+use Rattle.bt_fanout.specs.Effects.{row_effect}
+use Rattle.bt_view.specs.Groups.{summed_place}
+use Rattle.bt_view.specs.inside.Neighbours.{Groups}
+use Rattle.bt_view.proofs.Summing.{of_shown, sums_placed}
+use Rattle.bt_view.proofs.range_sums.sums_of_rows.Goals as goal
+
+pub returns-clause-answer : goal.returns-clause-answer
+returns-clause-answer c = λ table shows.
+    let schema = c.args.schema.now in
+    let own = c.args.range.now in
+    let place = c.in_ok-place.place in
+    let few : c.args.grouping ≤ schema.keys = search rules in
+    let rows = between own.from own.to (holds row_effect c.args.tree.now.1) in
+    let placed : summed_place schema.columns schema.keys c.args.grouping c.args.column.now ≡ Ok place = search rules in
+    let summed = of_shown _ (c.args.grouping, place, Some []) c.new-groups.result rows rows
+    (sums_placed table schema c.args.tree.now shows None None c.args.grouping c.args.column.now own place placed few) c.new-groups.ensures refl
+    ∙ ap (λ (g : ℕ × ℕ × Groups). or_refused TooMany g.2) (sym c.in_ok-show_rows.ensures) in
+    search (rules, summed)
