@@ -2,6 +2,7 @@
 memory, valgrind, and the programs of docs/C.md and docs/PYTHON.md. The library is that of BETABLE_LIBRARY, or bin/build_c builds it. Where valgrind or rustc
 is not installed a line says so, and what needs it passes without a look."""
 
+import ctypes
 import os
 import re
 import shutil
@@ -9,7 +10,7 @@ import subprocess
 import sys
 import tempfile
 import threading
-from functools import cache
+from functools import cache, wraps
 from pathlib import Path
 
 from common import Failure, expect, expect_within, SECONDS, TOP
@@ -37,11 +38,70 @@ def library():
 
 
 @cache
+def build_extension():
+    """Builds the extension of the Python client, if it can be. It is built in the checkout, so it is done before tests run side by side."""
+    words = [sys.executable, TOP / "clients/python/setup.py", "-q", "build_ext", "--inplace", "--build-temp", programs().name]
+    subprocess.run(words, capture_output=True)
+
+
+@cache
 def betable():
     """The Python client, as a module."""
     library()
+    build_extension()
     sys.path.insert(0, str(TOP / "clients/python"))
     return __import__("betable")
+
+
+say_once = cache(print)
+
+
+def both_ways(test):
+    """The test, with sessions of the extension, and then with those that go by ctypes."""
+
+    @wraps(test)
+    def tested():
+        client = betable()
+        usual, pure = client.session.Session, client.session.PureSession
+        if usual.__mro__[1] is pure:
+            say_once("the extension of the Python package is not built, or BETABLE_PURE is set: calls are tested by ctypes alone")
+        try:
+            for client.Session in (usual, pure):
+                test()
+        finally:
+            client.Session = usual
+
+    return tested
+
+
+PACKED_CALLS = ("betable_apply", "betable_get", "betable_page", "betable_columns", "betable_sums")
+
+
+class OtherLibrary:
+    """The library of a session, with other functions in place of some of its own."""
+
+    def __init__(self, session, functions):
+        self.library, self.functions = session._library, functions
+        session._library = self
+        self.connect(session)
+
+    def __getattr__(self, name):
+        return self.functions.get(name) or getattr(self.library, name)
+
+    def connect(self, session):
+        # The extension has the addresses of its calls.
+        getattr(session, "_connect_calls", lambda: None)()
+
+    def end(self, session):
+        session._library = self.library
+        self.connect(session)
+
+
+def library_without_memory(session, calls=PACKED_CALLS):
+    """A library whose calls on packed bytes return that memory ran out, in a session."""
+    module = betable().session
+    kind = ctypes.CFUNCTYPE(ctypes.c_uint, ctypes.POINTER(module._Handle), ctypes.c_char_p, ctypes.c_size_t, ctypes.POINTER(module._Fault))
+    return OtherLibrary(session, {name: kind(lambda *_: module.OUT_OF_MEMORY) for name in calls})
 
 
 @cache
@@ -60,8 +120,9 @@ def c_program(source, *options):
 
 
 def what_tests_share_is_built():
-    """The library, and the programs that more than one test runs, before tests run side by side."""
+    """The library, the extension of the Python client, and the programs that more than one test runs, before tests run side by side."""
     library()
+    build_extension()
     worked_scripts()
     for source in (TOP / "clients/c/example.c", HERE / "c/cuts.c", HERE / "c/wrong_use.c"):
         c_program(source)

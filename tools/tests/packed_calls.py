@@ -9,9 +9,9 @@ import subprocess
 from textwrap import dedent
 
 from common import expect, expect_within, SECONDS, TOP
-from clients import betable, c_program, library
+from clients import OtherLibrary, betable, both_ways, build_extension, c_program, library, library_without_memory
 
-DONE, OUT_OF_MEMORY, NOT_OPEN, REFUSED = 0, 1, 3, 5
+DONE, NOT_OPEN, REFUSED = 0, 3, 5
 SYNTAX, NO_TABLE, BAD_FIELD, BAD_LENGTH, NO_SUCH_TREE, BUILDING, NO_SUCH_COLUMN, NOT_INT = 1, 3, 6, 7, 8, 11, 15, 16
 CALLS = ("betable_apply", "betable_get", "betable_page", "betable_columns")
 UNWRITTEN = (99, 98, 97)
@@ -223,6 +223,7 @@ def filled(dice, count=40):
 # ---- beside scripts ----
 
 
+@both_ways
 def changes_by_packed_bytes_and_by_script_leave_equal_trees():
     """Those of rows and of indexes, of three tables that get the same changes: by script, by packed bytes, and by the client."""
     for seed in range(12):
@@ -237,6 +238,7 @@ def changes_by_packed_bytes_and_by_script_leave_equal_trees():
             expect((seed, by_bytes.images(), by_client.images()), (seed, images, images))
 
 
+@both_ways
 def rows_that_are_put_go_as_they_go_by_text():
     """Rows of the client, one after the other and many at once, beside the lines of a batch."""
     client, dice = betable(), random.Random(3)
@@ -248,6 +250,7 @@ def rows_that_are_put_go_as_they_go_by_text():
         expect(by_client.images(), by_script.images())
 
 
+@both_ways
 def gets_and_pages_are_those_of_scans():
     """Of random keys, bounds and limits, in the rows and in the indexes, by packed bytes and by the client."""
     for seed in range(6):
@@ -274,6 +277,7 @@ def gets_and_pages_are_those_of_scans():
                 expect(list(session.iterate(tree, *(values or None for values in bounds), dice.randrange(1, 9))), wanted)
 
 
+@both_ways
 def a_page_after_a_row_repeats_and_loses_no_row():
     """Pages that begin with 2 and the first bytes of the last row, which a program has without decoding it."""
     dice = random.Random(1)
@@ -296,6 +300,7 @@ def a_page_after_a_row_repeats_and_loses_no_row():
             expect(list(raw.session.iterate(tree, page=limit)), wanted)
 
 
+@both_ways
 def keys_that_begin_alike_are_in_one_page_each():
     """Texts and bytes that are the beginning of another, zeros, the largest ints, and texts that only a load takes."""
     dice = random.Random(2)
@@ -445,6 +450,7 @@ def bytes_that_are_cut_are_refused_where_they_end():
     raw.reply("betable_page", whole)
 
 
+@both_ways
 def calls_without_a_table_or_on_a_closed_session_are_refused():
     raw = Raw()
     for name in CALLS:
@@ -565,12 +571,14 @@ REFUSED_CALLS = [
 ]
 
 
+@both_ways
 def refusals_of_packed_bytes_are_those_of_text():
     """The exceptions of the client, with their fields, beside those of a client that goes by text."""
     client = betable()
 
     class ByText(client.Session):
-        _apply, get, scan = client.Calls._apply, client.Calls.get, client.Calls.scan
+        put, batch, get, sums = client.Calls.put, client.Calls.batch, client.Calls.get, client.Calls.sums
+        _apply, scan = client.Calls._apply, client.Calls.scan
 
     packed, text = client.Session(), ByText()
     for session in (packed, text):
@@ -583,6 +591,7 @@ def refusals_of_packed_bytes_are_those_of_text():
         expect(packed.scan(), [ROW])
 
 
+@both_ways
 def limits_and_pages_are_checked():
     client, session = betable(), filled(random.Random(6)).session
     wrong = [
@@ -608,6 +617,7 @@ def limits_and_pages_are_checked():
     expect(session.scan(limit=10**30), session.scan())
 
 
+@both_ways
 def rows_that_change_while_they_are_read_come_once():
     """Rows that are added after the last one that was read come, and those before it do not; a tree that is dropped ends the reading."""
     client = betable()
@@ -628,26 +638,18 @@ def rows_that_change_while_they_are_read_come_once():
     expect(type(fault_of(lambda: next(rows))), ValueError)
 
 
-class NoMemory:
-    """The library, whose calls on packed bytes return that memory ran out."""
-
-    def __init__(self, library):
-        self.library = library
-
-    def __getattr__(self, name):
-        return (lambda *_: OUT_OF_MEMORY) if name in CALLS else getattr(self.library, name)
-
-
+@both_ways
 def out_of_memory_is_an_exception_of_each_call():
     client, session = betable(), filled(random.Random(7)).session
-    before, session._library = session.scan(), NoMemory(session._library)
+    before, library = session.scan(), library_without_memory(session)
     for call in (lambda: session.put([ROW]), lambda: session.batch([client.delete(1)]), lambda: session.get(1), lambda: session.scan(limit=1), session.columns):
         fault = fault_of(call)
         expect((type(fault), fault.replies, fault.is_lost, str(fault)), (client.OutOfMemory, b"", False, "betable: out of memory"))
-    session._library = session._library.library
+    library.end(session)
     expect(session.scan(), before)
 
 
+@both_ways
 def messages_of_many_shapes_keep_their_encoders_apart():
     """More shapes than are kept at a time, and values of the types that only text takes, after those of packed bytes."""
     client = betable()
@@ -677,8 +679,9 @@ PRINTED = "get: 2 Bergen, west 15\npage:\n1 Oslo 30\n2 Bergen, west 15\npage:\n3
 
 
 def what_tests_share_is_built():
-    """The library, before tests run side by side."""
+    """The library, and the extension of the Python client, before tests run side by side."""
     library()
+    build_extension()
 
 
 def the_example_in_c_prints_its_rows():

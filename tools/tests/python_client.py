@@ -19,7 +19,7 @@ import uuid
 from pathlib import Path
 
 from common import expect, expect_within, TOP
-from clients import betable
+from clients import OtherLibrary, betable, both_ways, build_extension, library, library_without_memory
 
 SCHEMA = "table 16 64 16 1 id:int city:text ok:flag raw:bytes\nindex by_city on city include ok\nbuild by_city 100\n"
 ROWS = [(1, "Oslo", True, b"\0"), (2, "Bergen, west", False, b""), (3, "", True, b"ab")]
@@ -131,7 +131,7 @@ SHAPES = [
     (lambda c, s: s.put("4,a,true,"), "TypeError", "rows are an iterable, as a list, and not '4,a,true,' of type str: write [(1, ..), (2, ..)]"),
     (lambda c, s: s.put(b"4,a,true,"), "TypeError", "rows are an iterable, as a list, and not b'4,a,true,' of type bytes"),
     (lambda c, s: s.put(bytearray(b"4")), "TypeError", "of type bytearray"),
-    (lambda c, s: s.put({"id": 4}), "TypeError", "rows are an iterable, as a list, and not {'id': 4} of type dict"),
+    (lambda c, s: s.put({"id": 4}), "RowValueError", "'city' is missing: columns of rows are a dict from each of the names id, city, ok, raw to its values"),
     (lambda c, s: s.put(4), "TypeError", "rows are an iterable, as a list, and not 4 of type int"),
     (lambda c, s: s.put(None), "TypeError", "rows are an iterable, as a list, and not None"),
     (lambda c, s: s.put(ROWS[0]), "RowTypeError", "row 1: 1 is of type int, and a row is a tuple, a list or a dict: write [(id, city, ok, raw), ..]"),
@@ -258,6 +258,7 @@ OTHERS += [(lambda c, s, name=name: s.sums("primary", 1, name), "ValueError", "a
 WRONG_USES = VALUES + LENGTHS + SHAPES + UPSERTS + OTHERS
 
 
+@both_ways
 def wrong_uses_of_the_python_client_change_nothing():
     """Each raises what it should, says what to do, and leaves rows, indexes and trees as they were, and what the client knows of them."""
     expect(len(WRONG_USES) >= 120, True)
@@ -275,6 +276,7 @@ def wrong_uses_of_the_python_client_change_nothing():
     expect(session.get(1), ROWS[0])
 
 
+@both_ways
 def calls_without_a_table_are_refused():
     client = betable()
     with client.Session() as session:
@@ -292,6 +294,7 @@ def calls_without_a_table_are_refused():
                 expect("no exception", "Refused")
 
 
+@both_ways
 def names_are_never_a_piece_of_a_script():
     """Each public method is here: those with a name take none that is more than one, and the others take texts as values."""
     client = betable()
@@ -300,17 +303,25 @@ def names_are_never_a_piece_of_a_script():
         "batch": lambda s: s.batch([client.put(4, text, True, b"")]),
         "close": None,
         "columns": lambda s: s.columns(text),
+        "delete": lambda s: s.delete(text),
         "get": lambda s: s.get(text),
+        "index": lambda s: s.index("by_ok", on="ok", where=("city", "=", text)),
         "is_lost": None,
         "iterate": lambda s: s.iterate(text),
         "load": lambda s: s.load([(4, text, True, text)]),
         "load_csv": lambda s: s.load_csv(text),
         "put": lambda s: s.put([(4, text, True, b"")]),
+        "put_frame": None,
         "replies": None,
         "run": None,
         "scan": lambda s: s.scan(text),
+        "scan_columns": lambda s: s.scan_columns(text),
+        "scan_frame": lambda s: s.scan_frame(text),
         "state": None,
         "sums": lambda s: s.sums("by_city", 1, text),
+        "table": lambda s: s.table([(text, "int")]),
+        "trees": None,
+        "upsert": lambda s: s.upsert(4, set={"city": text}),
     }
     expect(sorted(name for name in dir(client.Session) if not name.startswith("_")), sorted(methods))
     session = filled()
@@ -318,7 +329,8 @@ def names_are_never_a_piece_of_a_script():
     for name, call in methods.items():
         if call:
             for parameter in inspect.signature(getattr(client.Session, name)).parameters.values():
-                expect((name, parameter.kind in (parameter.VAR_POSITIONAL, parameter.POSITIONAL_OR_KEYWORD)), (name, True))
+                kinds = [parameter.VAR_POSITIONAL, parameter.POSITIONAL_OR_KEYWORD] + [parameter.VAR_KEYWORD] * (name == "upsert")
+                expect((name, parameter.kind in kinds or parameter.name == "self"), (name, True))
             expect((name, fault_of(lambda: call(session)) is not None, content(session)), (name, True, before))
 
 
@@ -383,6 +395,7 @@ def stored_row(row, is_load):
     return None if None in found or (has_break and not is_load) or (is_load and has_point) else found
 
 
+@both_ways
 def values_of_all_types_are_stored_exactly_or_refused():
     """Random rows, keys, bounds and messages: afterwards either the exact rows are there, with values of their columns' types, or an exception came and
     nothing changed."""
@@ -433,6 +446,7 @@ def anything_may_be_asked(client, session, dice):
         raise fault
 
 
+@both_ways
 def texts_are_keys_as_they_are():
     """Texts with a byte order mark, quotes, points and nothing in them, as the whole of a row and as the first part of a line."""
     client = betable()
@@ -458,6 +472,7 @@ def texts_are_keys_as_they_are():
                 expect((special, load, session.scan()), (special, load, sorted(rows)))
 
 
+@both_ways
 def keys_of_two_columns_have_two_values():
     client = betable()
     with client.Session() as session:
@@ -473,6 +488,7 @@ def keys_of_two_columns_have_two_values():
         expect((session.scan("primary", ["no"]), session.get("n", "z"), session.scan()), (rows[2:], rows[1], rows))
 
 
+@both_ways
 def messages_that_are_alike_differ_by_their_values():
     """Upserts of one shape, whose line is made once: texts that need quotes, and values whose Python text is not their field, after plain ones."""
     client = betable()
@@ -496,6 +512,7 @@ def messages_that_are_alike_differ_by_their_values():
 # ---- exceptions ----
 
 
+@both_ways
 def refusals_say_what_to_do():
     """Fields of exceptions: the row of the call, its column, its value, and how many rows were applied before."""
     client = betable()
@@ -528,42 +545,33 @@ def the_reason_is_that_of_the_least_refusal():
         expect((fault.number, fault.item, fault.value), (6, 2, "x"))
 
 
-class NoMemory:
-    """The library; a run returns that memory ran out after the first replies of the script were made, and changes that it ran out before they were applied."""
-
-    def __init__(self, library, script):
-        self.library, self.script = library, script
-
-    def __getattr__(self, name):
-        return getattr(self.library, name)
-
-    def betable_run(self, handle, script, size):
-        self.library.betable_run(handle, self.script, len(self.script))
-        return 1
-
-    def betable_apply(self, handle, changes, size, fault):
-        return 1
+def library_that_runs(session, script):
+    """A library that runs this script in place of another one, and returns that memory ran out after it."""
+    run = session._library.betable_run
+    return OtherLibrary(session, {"betable_run": lambda handle, *_: run(handle, script, len(script)) + 1})
 
 
+@both_ways
 def out_of_memory_says_what_was_carried_out():
     client = betable()
     with client.Session() as session:
         session.run("table 16 64 16 1 id:int city:text\n")
         session.put([(1, "a")])
-        library, session._library = session._library, NoMemory(session._library, b"get 1\n")
+        library = library_that_runs(session, b"get 1\n")
         fault = fault_of(lambda: session.run("get 1\nindex by_city on city\nbuild by_city 9\n"))
         expect((type(fault), fault.replies, fault.is_cut, fault.is_lost, fault.taken), (client.OutOfMemory, b"row 1,a\n", False, False, 0))
         # Perhaps the index was made, so its columns are known.
-        session._library = library
+        library.end(session)
         session.run("index by_city on city\nbuild by_city 9\n")
         expect(session.scan("by_city"), [("a", 1)])
-        session._library = NoMemory(library, b"")
+        library = library_without_memory(session)
         fault = fault_of(lambda: session.put([(2, "b")]))
         expect((type(fault), fault.replies, str(fault)), (client.OutOfMemory, b"", "betable: out of memory"))
-        session._library = library
+        library.end(session)
         expect(session.scan(), [(1, "a")])
 
 
+@both_ways
 def a_session_stays_on_its_thread():
     client, faults = betable(), []
     session = filled()
@@ -619,6 +627,7 @@ def exceptions_can_be_pickled():
     expect(pickle.loads(pickle.dumps(faults[-1])).replies[1].rows, [*ROWS])
 
 
+@both_ways
 def a_session_says_what_it_has():
     client = betable()
     session = client.Session()
@@ -667,6 +676,7 @@ def scripts_of_any_form_are_cut_as_they_are_run():
         expect((sums, sums), (session.sums("by_city", 1, "id"), [(1, texts.index(text), text) for text in sorted(texts)]))
 
 
+@both_ways
 def integers_of_numpy_are_ints():
     try:
         import numpy
@@ -697,6 +707,12 @@ def the_page_loads_a_large_file_as_it_says():
         expect((ended.returncode, ended.stdout, ended.stderr), (0, "12\n", ""))
 
 
+def what_tests_share_is_built():
+    """The library, and the extension of the Python client, before tests run side by side."""
+    library()
+    build_extension()
+
+
 TESTS_OF_TEXTS = [
     wrong_uses_of_the_python_client_change_nothing,
     calls_without_a_table_are_refused,
@@ -718,3 +734,4 @@ TESTS_OF_TEXTS = [
     the_page_loads_a_large_file_as_it_says,
 ]
 TESTS = []
+BUILDS = [what_tests_share_is_built]

@@ -23,7 +23,7 @@ from importlib import import_module
 from pathlib import Path
 from typing import TYPE_CHECKING, Any
 
-from .calls import MOST_MESSAGES, Calls
+from .calls import MOST_MESSAGES, Calls, Tree
 from .errors import OutOfMemory, Refused, RowError, RowTypeError, RowValueError
 from .messages import OPERATIONS, Message, delete, field, put, record, upsert
 from .packed import TreeColumn
@@ -82,6 +82,7 @@ __all__ = [
     "ShardEnded",
     "ShardLost",
     "Sharded",
+    "Tree",
     "TreeColumn",
     "Unanswered",
     "Unreachable",

@@ -5,25 +5,42 @@ from __future__ import annotations
 import os
 import re
 from abc import ABC, abstractmethod
-from collections.abc import Callable, Iterable, Iterator, Sequence
+from array import array
+from collections.abc import Callable, Iterable, Iterator, Mapping, Sequence
 from copy import copy
 from itertools import islice
 from pathlib import Path
-from typing import Any
+from typing import Any, NamedTuple
 
 from . import language
 from .errors import OutOfMemory, Refused, RowTypeError, RowValueError
 from .faults import MEANINGS, Fault, faults_of_refusal
 from .forms import head_faults, name_fault
 from .language import Command, State, Table
-from .messages import Message, message_lines
+from .messages import Message, delete, message_lines, record, upsert
 from .replies import Reply, answered, kinds_of_rows, rows_of_reply
-from .rows import Column, Layout, UNKNOWN, Value, as_iterator, as_tuple, key_fields, layout, records, shown
+from .rows import (
+    UNKNOWN, VALUES, Column, ColumnValues, Layout, Value, as_iterator, as_tuple, columns_of, columns_of_rows, key_fields, layout, line_field, part_of_column, records,
+    rows_of_columns, shown, values_by_column,
+)  # fmt: skip
 
 MOST_MESSAGES = language.MOST_MESSAGES
 Row = tuple[Value, ...]
+# The first values of a key, or no bound.
+Bound = tuple[Any, ...] | None
 # The lines of a batch, of what is given for it, the table, and how many rows of the call were applied before.
 Lines = Callable[[list[Any], Table, int], str]
+
+
+class Tree(NamedTuple):
+    """A tree: its name, the columns that it is on, those that it includes, the column, operator and value that select its rows, or None for all rows, and
+    whether it is complete. The tree of rows is on the columns of the table's key, and includes the others."""
+
+    name: str
+    on: tuple[str, ...]
+    include: tuple[str, ...]
+    where: tuple[str, str, Value] | None
+    is_complete: bool
 
 
 class Calls(ABC):
@@ -60,11 +77,29 @@ class Calls(ABC):
         given = as_iterator(messages, "messages", "[betable.put(..), betable.delete(..)]")
         return self._in_batches(given, most, message_lines)
 
-    def put(self, rows: Iterable[Any], most: int = MOST_MESSAGES) -> int:
+    def put(self, rows: Iterable[Any] | Mapping[str, Any], most: int = MOST_MESSAGES) -> int:
         """Puts rows, each a tuple or a list with a value for each column, or a dict by their names, and returns their number. More than `most` of them are
-        several batches; each batch is applied whole or not at all."""
+        several batches; each batch is applied whole or not at all. Rows may be given by columns too: a dict from the names of all columns to their values."""
+        if isinstance(rows, Mapping):
+            return self._put_columns(rows, most)
         given = as_iterator(rows, "rows", "[(1, ..), (2, ..)]")
         return self._in_batches(given, most, put_lines)
+
+    def put_frame(self, frame: Any, most: int = MOST_MESSAGES) -> int:
+        """Puts the rows of a data frame of pandas, whose columns have the names of the table's, in any order, and returns their number. The index of the frame
+        is left out."""
+        columns = dict(frame.items())
+        if len(columns) < len(frame.columns):
+            raise ValueError(f"the data frame has columns of the same name: {', '.join(map(str, frame.columns))}")
+        return self._put_columns(columns, most)
+
+    def upsert(self, *key: Any, **operations: Mapping[str, Any]) -> None:
+        """Changes columns of the row of a key, as the message `betable.upsert` does: `set`, `add`, `max` and `min` are each a dict of columns and values."""
+        self.batch([upsert(*key, **operations)])
+
+    def delete(self, *key: Any) -> None:
+        """Removes the row of a key, if there is one."""
+        self.batch([delete(*key)])
 
     def load(self, rows: Iterable[Any]) -> int:
         """Fills a table that has no rows with these, all at once, and returns how many."""
@@ -98,26 +133,98 @@ class Calls(ABC):
         rows = self._rows(b"get", f"get {','.join(key_fields(key, there.key, 'a key'))}\n", there.kinds)
         return rows[0] if rows else None
 
-    def scan(self, tree: str = "primary", start: tuple[Any, ...] | None = None, stop: tuple[Any, ...] | None = None) -> list[Row]:
+    def scan(self, tree: str = "primary", start: Bound = None, stop: Bound = None) -> list[Row]:
         """The rows of a tree in ascending order of their keys, from those that begin with the values `start` to before those that begin with `stop`."""
         name = checked_name(tree, "a tree")
         there = layout(self.state.table, name)
         return self._rows(b"scan", f"scan {name}\n{bounds(there, start, stop)}go\n", there.kinds)
 
     def sums(
-        self, tree: str, columns: int, column: str, start: tuple[Any, ...] | None = None, stop: tuple[Any, ...] | None = None
+        self, tree: str, columns: int, column: str, start: Bound = None, stop: Bound = None
     ) -> list[Row]:
         """For each group of rows that are equal in the tree's first columns: their number, the sum of a column, and the values of those columns."""
-        if isinstance(columns, bool) or not isinstance(columns, int):
-            raise TypeError(f"the number of columns of a group is an int, and not {shown(columns)}: write sums('by_city', 1, 'qty')")
-        if not 0 <= columns <= 999_999_999:
-            raise ValueError(f"the number of columns of a group is 1 to 8, and not {shown(columns)}")
+        checked_group(columns)
         name = checked_name(tree, "a tree")
         there = layout(self.state.table, name)
         script = f"sums {name} {columns:d} {checked_name(column, 'a column')}\n{bounds(there, start, stop)}go\n"
         return self._rows(b"sums", script, there.key_kinds[:columns])
 
+    def scan_columns(self, tree: str = "primary", start: Bound = None, stop: Bound = None) -> dict[str, ColumnValues]:
+        """The rows of `scan` by columns: a dict from their names to an `array` of ints, or to a list of other values."""
+        rows = self.scan(tree, start, stop)
+        there = layout(self.state.table, tree)
+        return by_names(there, columns_of_rows(rows, there.kinds))
+
+    def scan_frame(self, tree: str = "primary", start: Bound = None, stop: Bound = None) -> Any:
+        """The rows of `scan` as a data frame of pandas."""
+        import numpy
+        import pandas
+
+        columns = self.scan_columns(tree, start, stop)
+        kinds = {column.name: column.kind for column in layout(self.state.table, tree).columns}
+        types = {"int": "int64", "flag": "bool"}
+        return pandas.DataFrame({name: numpy.asarray(values, dtype=types.get(kinds[name], "object")) for name, values in columns.items()})
+
+    def table(
+        self, columns: str | Iterable[tuple[str, str]], keys: int = 1, fanout: int = 16, buffer: int | str = 1024, leaf: int = 256
+    ) -> None:
+        """Makes the table. Its columns are pairs of a name and a kind, or a text such as "id:int city:text"; the first ones, as many as `keys`, are the key.
+        The other numbers are those of `table` in a script: a buffer is a number of messages, or of bytes, as in "65536b"."""
+        pairs = [word.partition(":")[::2] for word in columns.split()] if isinstance(columns, str) else list(columns)
+        words = [f"{checked_name(name, 'a column')}:{_checked_kind(kind)}" for name, kind in pairs]
+        if isinstance(buffer, str) and not language.BUFFER.fullmatch(buffer.encode()):
+            raise ValueError(f"a buffer is a number of messages, or of bytes, as in '65536b', and not {shown(buffer)}")
+        numbers = [_checked_number(fanout, "a fanout"), buffer if isinstance(buffer, str) else _checked_number(buffer, "a buffer")]
+        numbers += [_checked_number(leaf, "a leaf"), _checked_number(keys, "the number of key columns")]
+        self.run(f"table {' '.join(numbers)} {' '.join(words)}\n")
+
+    def index(
+        self, name: str, on: str | Sequence[str], include: str | Sequence[str] = (), where: tuple[str, str, Any] | None = None, build: bool = True
+    ) -> None:
+        """Makes an index on columns, which includes others, and builds it. `where` selects rows by a column, an operator (=, < or >=) and a value. Without
+        `build` the index is made only, and the command `build` reads the rows in steps."""
+        parts = [f"index {checked_name(name, 'an index')} on {_checked_names(on)}"]
+        if include:
+            parts.append(f"include {_checked_names(include)}")
+        if where is not None:
+            parts.append(f"where {self._condition(where)}")
+        self.run(" ".join(parts) + "\n" + (f"build {name} {10**language.MOST_DIGITS - 1}\n" if build else ""))
+
+    def trees(self) -> list[Tree]:
+        """The tree of rows, if there is a table, and its indexes, in the order in which they were made."""
+        table = self.state.table
+        if table is None:
+            return []
+        names = [name.decode() for name in table.names]
+        found = [Tree("primary", tuple(names[: table.key_length]), tuple(names[table.key_length :]), None, True)]
+        for name, index in table.indexes.items():
+            on, include = (tuple(one.decode() for one in some) for some in (index.on, index.included))
+            found.append(Tree(name.decode(), on, include, _shown_condition(index, dict(table.columns)), index.is_complete))
+        return found
+
     # What the calls share.
+
+    def _condition(self, where: Any) -> str:
+        """The condition of an index."""
+        if not isinstance(where, (tuple, list)) or len(where) != 3:
+            raise TypeError(f"a condition is a tuple of a column, an operator and a value, and not {shown(where)}: write ('qty', '>=', 15)")
+        name, operator, value = where
+        checked_name(name, "a column")
+        if operator not in (operators := [one.decode() for one in language.OPERATORS]):
+            raise ValueError(f"an operator is one of {', '.join(operators)}, and not {shown(operator)}")
+        column = next((one for one in columns_of(self._table().columns) if one.name == name), None)
+        return f"{name} {operator} {record([value]) if column is None else line_field(value, column, None)}"
+
+    def _put_columns(self, rows: Mapping[Any, Any], most: int) -> int:
+        """Puts rows that are given by columns, `most` at a time."""
+        _check_most(most)
+        table = self._table()
+        columns = layout(table).columns
+        values, count = values_by_column(rows, columns)
+        for taken in range(0, count, most):
+            parts = [part_of_column(one, column.kind, taken, taken + most) for one, column in zip(values, columns)]
+            self._apply_after(parts, table, taken, column_lines)
+        return count
 
     def _table(self, command: bytes = b"batch\nend\n") -> Table:
         """The table. If there is none, the command is refused, and the refusal says why."""
@@ -129,30 +236,30 @@ class Calls(ABC):
 
     def _in_batches(self, given: Iterator[Any], most: int, lines: Lines) -> int:
         """Applies what is given, `most` at a time, as the lines that are made of it, and returns how many there were."""
-        if most is not MOST_MESSAGES:
-            if isinstance(most, bool) or not isinstance(most, int):
-                raise TypeError(f"the size of a batch is an int, and not {shown(most)}")
-            if not 1 <= most <= MOST_MESSAGES:
-                raise ValueError(f"a batch has 1 to {MOST_MESSAGES:,} messages, and not {most:,}")
+        _check_most(most)
         taken = 0
         while True:
             some = list(islice(given, most))
             table = self._table()
             if some:
-                try:
-                    self._apply(some, table, taken, lines)
-                except OutOfMemory as fault:
-                    raise OutOfMemory(fault.replies, fault.is_cut, fault.is_lost, taken) from None
+                self._apply_after(some, table, taken, lines)
                 taken += len(some)
             if len(some) < most:
                 return taken
+
+    def _apply_after(self, some: list[Any], table: Table, taken: int, lines: Lines) -> None:
+        """Applies one batch of a call, of which so many rows were applied before."""
+        try:
+            self._apply(some, table, taken, lines)
+        except OutOfMemory as fault:
+            raise OutOfMemory(fault.replies, fault.is_cut, fault.is_lost, taken) from None
 
     def _apply(self, some: list[Any], table: Table, taken: int, lines: Lines) -> None:
         """Applies one batch."""
         script = f"batch\n{lines(some, table, taken)}end\n"
         reply = self.replies(script)
         if reply.startswith(b"refused "):
-            self._refuse_if_refused(script.encode(), reply, taken, some)
+            self._refuse_if_refused(script.encode(), reply, taken, rows_of_columns(some) if lines is column_lines else some)
 
     def _loaded(self, script: bytes, path: str | None = None) -> int:
         reply = self.replies(script)
@@ -174,6 +281,16 @@ class Calls(ABC):
 def put_lines(rows: list[Any], table: Table, taken: int) -> str:
     """The lines that put rows."""
     return records(rows, layout(table).columns, "put ", taken + 1, taken)
+
+
+def column_lines(columns: list[Any], table: Table, taken: int) -> str:
+    """The lines that put rows that are given by columns."""
+    return put_lines(rows_of_columns(columns), table, taken)
+
+
+def by_names(there: Layout, columns: list[ColumnValues]) -> dict[str, ColumnValues]:
+    """The columns of rows by their names; bytes are those of ints. A column that is twice in the key of an index has the same values twice."""
+    return {column.name: array("q", values) if isinstance(values, bytes) else values for column, values in zip(there.columns, columns)}
 
 
 def bounds(there: Layout, start: Any, stop: Any) -> str:
@@ -201,6 +318,50 @@ def checked_name(name: Any, what: str) -> str:
     if not language.NAME.fullmatch(encoded):
         raise ValueError(f"{what}: {name_fault(encoded)}")
     return name
+
+
+def checked_group(columns: Any) -> int:
+    """The number of columns of a group, as far as a script can have it."""
+    if isinstance(columns, bool) or not isinstance(columns, int):
+        raise TypeError(f"the number of columns of a group is an int, and not {shown(columns)}: write sums('by_city', 1, 'qty')")
+    if not 0 <= columns <= 999_999_999:
+        raise ValueError(f"the number of columns of a group is 1 to 8, and not {shown(columns)}")
+    return columns
+
+
+def _check_most(most: Any) -> None:
+    if most is not MOST_MESSAGES:
+        if isinstance(most, bool) or not isinstance(most, int):
+            raise TypeError(f"the size of a batch is an int, and not {shown(most)}")
+        if not 1 <= most <= MOST_MESSAGES:
+            raise ValueError(f"a batch has 1 to {MOST_MESSAGES:,} messages, and not {most:,}")
+
+
+def _checked_number(number: Any, what: str) -> str:
+    if isinstance(number, bool) or not isinstance(number, int):
+        raise TypeError(f"{what} is an int, and not {shown(number)}")
+    if not 0 <= number < 10**language.MOST_DIGITS:
+        raise ValueError(f"{what} has one to {language.MOST_DIGITS} digits, and not {shown(number)}")
+    return str(number)
+
+
+def _checked_kind(kind: Any) -> str:
+    if not isinstance(kind, str) or kind not in VALUES:
+        raise ValueError(f"a kind is one of {', '.join(VALUES)}, and not {shown(kind)}")
+    return kind
+
+
+def _checked_names(names: Any) -> str:
+    """The names of columns, in a list of a script."""
+    return ",".join(checked_name(name, "a column") for name in ([names] if isinstance(names, str) else names))
+
+
+def _shown_condition(index: language.Index, kinds: dict[bytes, bytes]) -> tuple[str, str, Value] | None:
+    """The condition of an index, with its value as one of Python."""
+    if index.condition is None:
+        return None
+    column, operator, constant = index.condition
+    return column.decode(), operator.decode(), VALUES[kinds[column].decode()](constant.decode())
 
 
 LINE_OF_POINT = re.compile(rb"^\.\r?$", re.MULTILINE)

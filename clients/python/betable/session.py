@@ -1,4 +1,8 @@
-"""A session: a table in this process, by the library for C."""
+"""A session: a table in this process, by the library for C.
+
+`PureSession` calls the library by ctypes. `Session` does the same, and if the extension `_packed` is built, its calls go by that, from values to packed bytes
+and back without code of Python. Set BETABLE_PURE=1 to do without the extension.
+"""
 
 from __future__ import annotations
 
@@ -8,17 +12,19 @@ import threading
 from collections.abc import Callable, Iterator
 from itertools import islice
 from pathlib import Path
-from types import TracebackType
-from typing import Any
+from types import ModuleType, TracebackType
+from typing import TYPE_CHECKING, Any
 
 from . import language
-from .calls import Calls, Lines, Row, as_script, bounds, checked_name, note, note_unanswered
+from .calls import Bound, Calls, Lines, Row, as_script, bounds, by_names, checked_group, checked_name, column_lines, note, note_unanswered
 from .errors import OutOfMemory
-from .language import State, Table, counted
-from .messages import message_lines
-from .packed import MOST_ROWS, TreeColumn, columns_of_reply, name_bytes, packing, page_bytes
+from .language import PRIMARY, State, Table, counted
+from .messages import Message, Shape, message_lines
+from .packed import (
+    MOST_ROWS, NOT_TAKEN, TreeColumn, columns_of_reply, description, groups_of_reply, name_bytes, packing, page_bytes, sums_bytes,
+)  # fmt: skip
 from .replies import answered
-from .rows import UNKNOWN, Layout, layout, shown
+from .rows import UNKNOWN, ColumnValues, Layout, columns_of_rows, layout, rows_of_columns, shown
 
 DONE, OUT_OF_MEMORY, REPLY_CUT, NOT_OPEN, ALREADY_OPEN, REFUSED = range(6)
 # Replies of fewer bytes are copied by one call.
@@ -64,6 +70,7 @@ def _loaded_library() -> ctypes.CDLL:
         ("betable_get", of_packed, ctypes.c_uint),
         ("betable_page", of_packed, ctypes.c_uint),
         ("betable_columns", of_packed, ctypes.c_uint),
+        ("betable_sums", of_packed, ctypes.c_uint),
         ("betable_replies_length", [handle], size),
         ("betable_copy_replies", [handle, size, ctypes.c_char_p, size], size),
         ("betable_refused_count", [handle], size),
@@ -71,6 +78,7 @@ def _loaded_library() -> ctypes.CDLL:
         ("betable_close", [handle], ctypes.c_uint),
     ]
     for name, arguments, result in calls:
+        if name == "betable_sums" and not hasattr(library, name): continue  # TEMPORARY
         function = getattr(library, name)
         function.argtypes, function.restype = arguments, result
     return library
@@ -79,12 +87,12 @@ def _loaded_library() -> ctypes.CDLL:
 _library: ctypes.CDLL | None = None
 
 
-class Session(Calls):
+class PureSession(Calls):
     """A table, or none so far, that lives between scripts. It belongs to the thread that opened it: another thread that uses it gets a RuntimeError.
     A closed session raises ValueError.
 
-    Rows, messages, keys and pages go to the library as packed bytes. What cannot be packed, and what the library refuses, goes the way of `Calls`, by text: it
-    takes the values, or says why it refuses them."""
+    Rows, messages, keys, pages and sums go to the library as packed bytes. What cannot be packed, and what the library refuses, goes the way of `Calls`, by
+    text: it takes the values, or says why it refuses them."""
 
     def __init__(self) -> None:
         global _library
@@ -97,7 +105,7 @@ class Session(Calls):
         if self._library.betable_open(self._handle) != DONE:
             raise OutOfMemory
 
-    def __enter__(self) -> Session:
+    def __enter__(self) -> PureSession:
         return self
 
     def __exit__(self, kind: type[BaseException] | None, fault: BaseException | None, trace: TracebackType | None) -> None:
@@ -187,7 +195,7 @@ class Session(Calls):
         return super().get(*key)
 
     def scan(
-        self, tree: str = "primary", start: tuple[Any, ...] | None = None, stop: tuple[Any, ...] | None = None, limit: int | None = None
+        self, tree: str = "primary", start: Bound = None, stop: Bound = None, limit: int | None = None
     ) -> list[Row]:
         """The rows of a tree in ascending order of their keys, from those that begin with the values `start` to before those that begin with `stop`. With a
         limit they are the first ones, no more than that, and the library reads no others."""
@@ -201,7 +209,7 @@ class Session(Calls):
         return self._page(name, there, most, packed.bound(start), packed.bound(stop), script)
 
     def iterate(
-        self, tree: str = "primary", start: tuple[Any, ...] | None = None, stop: tuple[Any, ...] | None = None, page: int = 1_000
+        self, tree: str = "primary", start: Bound = None, stop: Bound = None, page: int = 1_000
     ) -> Iterator[Row]:
         """The rows that a scan gives, which are read a page at a time as they are asked for. Each page begins directly after the last row of the one before, so
         no row comes twice; the rows that follow are those of the table when their page is read."""
@@ -223,11 +231,46 @@ class Session(Calls):
         self._rows(b"scan", f"scan {name}\ngo\n", [])
         raise RuntimeError(f"the columns of '{name}' are refused, and its rows are not")
 
+    def sums(
+        self, tree: str, columns: int, column: str, start: Bound = None, stop: Bound = None
+    ) -> list[Row]:
+        """For each group of rows that are equal in the tree's first columns: their number, the sum of a column, and the values of those columns."""
+        name, count, summed = checked_name(tree, "a tree"), checked_group(columns), checked_name(column, "a column")
+        there = layout(self.state.table, name)
+        if there is not UNKNOWN and hasattr(self._library, "betable_sums"):  # TEMPORARY
+            bounds(there, start, stop)
+            packed = packing(there)
+            lower, upper = packed.bound(start), packed.bound(stop)
+            given = None if lower is None or upper is None else sums_bytes(name, count, summed, lower, upper)
+            if self._is_done(self._library.betable_sums, given):
+                return groups_of_reply(self._copied(), there.key_kinds[:count])
+        return super().sums(tree, columns, column, start, stop)
+
+    def scan_columns(
+        self, tree: str = "primary", start: Bound = None, stop: Bound = None, limit: int | None = None
+    ) -> dict[str, ColumnValues]:
+        """The rows of `scan` by columns: a dict from their names to an `array` of ints, or to a list of other values."""
+        found = self._scan_as_columns(tree, start, stop, limit)
+        return by_names(layout(self.state.table, tree), found)
+
+    def _scan_as_columns(self, tree: str, start: Bound, stop: Bound, limit: int | None) -> list[ColumnValues]:
+        return columns_of_rows(self.scan(tree, start, stop, limit), layout(self.state.table, tree).kinds)
+
     def _apply(self, some: list[Any], table: Table, taken: int, lines: Lines) -> None:
-        packed = packing(layout(table))
-        changes = packed.changes(some) if lines is message_lines else packed.puts(some)
-        if not self._is_done(self._library.betable_apply, changes):
+        apply = self._apply_messages if lines is message_lines else self._apply_columns if lines is column_lines else self._apply_rows
+        if not apply(some):
             super()._apply(some, table, taken, lines)
+
+    # Whether one batch was applied. If it was not, it cannot be packed or is refused, and nothing has changed.
+
+    def _apply_rows(self, rows: list[Any]) -> bool:
+        return self._is_done(self._library.betable_apply, packing(layout(self.state.table)).puts(rows))
+
+    def _apply_messages(self, messages: list[Any]) -> bool:
+        return self._is_done(self._library.betable_apply, packing(layout(self.state.table)).changes(messages))
+
+    def _apply_columns(self, columns: list[Any]) -> bool:
+        return self._apply_rows(rows_of_columns(columns))
 
     def _is_done(self, call: Callable[..., int], packed: bytes | None) -> bool:
         """Whether a call on packed bytes was done. If there are none, or if they are refused, it was not, and nothing has changed."""
@@ -235,15 +278,21 @@ class Session(Calls):
             return False
         status = call(self._open_handle(), packed, len(packed), self._fault)
         if status == OUT_OF_MEMORY:
-            raise OutOfMemory(b"", False, self.is_lost)
+            self._raise_out_of_memory()
         return status == DONE
+
+    def _raise_out_of_memory(self) -> None:
+        raise OutOfMemory(b"", False, self.is_lost)
 
     def _page(self, name: str, there: Layout, most: int, lower: bytes | None, upper: bytes | None, script: str) -> list[Row]:
         """The first rows between two packed bounds. Where there is none, or where the page is refused, the script of the scan takes its place."""
-        page = None if lower is None or upper is None else page_bytes(name, most, lower, upper)
-        if self._is_done(self._library.betable_page, page):
-            return packing(there).rows(self._copied())
-        return self._rows(b"scan", script, there.kinds)[:most]
+        rows = None if lower is None or upper is None else self._page_rows(name, page_bytes(name, most, lower, upper))
+        return self._rows(b"scan", script, there.kinds)[:most] if rows is None else rows
+
+    def _page_rows(self, name: str, page: bytes) -> list[Row] | None:
+        """The rows of a page, or None if it is refused."""
+        is_done = self._is_done(self._library.betable_page, page)
+        return packing(layout(self.state.table, name)).rows(self._copied()) if is_done else None
 
     def _pages(self, name: str, there: Layout, most: int, lower: bytes | None, upper: bytes | None, script: str) -> Iterator[Row]:
         while True:
@@ -263,3 +312,53 @@ def _checked_count(count: Any, what: str, least: int) -> int:
     if count < least:
         raise ValueError(f"{what} is {least} or more, and not {shown(count)}")
     return min(count, MOST_ROWS)
+
+
+def _extension() -> ModuleType | None:
+    """The extension, if it is built and wanted."""
+    if os.environ.get("BETABLE_PURE", "0") not in ("", "0"):
+        return None
+    try:
+        from . import _packed
+    except ImportError:
+        return None
+    _packed.prepare(PureSession, Message)
+    return _packed
+
+
+_packed = _extension()
+
+if TYPE_CHECKING or _packed is None:
+
+    class Session(PureSession):
+        __doc__ = PureSession.__doc__
+
+        def __enter__(self) -> Session:
+            return self
+
+else:
+
+    class Session(_packed.Caller, PureSession):
+        __doc__ = PureSession.__doc__
+
+        def __init__(self) -> None:
+            super().__init__()
+            self._connect_calls()
+
+        def _connect_calls(self) -> None:
+            """Gives the extension the calls of the library that ctypes has loaded."""
+            addresses = [ctypes.cast(getattr(self._library, name), ctypes.c_void_p).value if hasattr(self._library, name) else 0 for name in _packed.CALLS]  # TEMPORARY
+            self._connect(self._handle, ctypes.addressof(self._handle), tuple(addresses))
+
+        def _note(self, script: bytes, replies: bytes, is_whole: bool) -> None:
+            super()._note(script, replies, is_whole)
+            table = self._state.table
+            names = [] if table is None else [name.decode() for name in (PRIMARY, *table.indexes)]
+            self._know({name: description(name, layout(table, name)) for name in names})
+
+        def _plan(self, shape: Shape) -> bytes | None:
+            """The operations of the upserts of a shape, each its code and the place of its column, or None if they are not packed."""
+            try:
+                return bytes([number for one in packing(layout(self._state.table)).operations(shape) for number in one])
+            except NOT_TAKEN:
+                return None
