@@ -10,7 +10,7 @@ import os
 from pathlib import Path
 from typing import Any
 
-from setuptools import Distribution, Extension, setup
+from setuptools import Distribution, Extension, setup  # type: ignore
 
 HERE = Path(__file__).resolve().parent
 os.chdir(HERE)
@@ -29,7 +29,7 @@ EXTENSION = Extension(
 COMMANDS: dict[str, Any] = {}
 
 try:
-    from wheel.bdist_wheel import bdist_wheel
+    from wheel.bdist_wheel import bdist_wheel  # type: ignore
 except ImportError:
     pass  # only the wheel needs it
 else:

@@ -20,8 +20,8 @@ from .language import Command, State, Table
 from .messages import Message, delete, message_lines, record, upsert
 from .replies import Reply, answered, kinds_of_rows, rows_of_reply
 from .rows import (
-    UNKNOWN, VALUES, Column, ColumnValues, Layout, Value, as_iterator, as_tuple, columns_of, columns_of_rows, key_fields, layout, line_field, part_of_column, records,
-    rows_of_columns, shown, values_by_column,
+    UNKNOWN, VALUES, Column, ColumnValues, Layout, Value, as_iterator, as_tuple, columns_of, columns_of_rows, key_fields, layout, line_field,
+    part_of_column, records, rows_of_columns, shown, values_by_column,
 )  # fmt: skip
 
 MOST_MESSAGES = language.MOST_MESSAGES
@@ -158,7 +158,7 @@ class Calls(ABC):
     def scan_frame(self, tree: str = "primary", start: Bound = None, stop: Bound = None) -> Any:
         """The rows of `scan` as a data frame of pandas."""
         import numpy
-        import pandas
+        import pandas  # type: ignore
 
         columns = self.scan_columns(tree, start, stop)
         kinds = {column.name: column.kind for column in layout(self.state.table, tree).columns}
