@@ -136,7 +136,7 @@ def main():
             sys.exit("python_calls: the engines answer differently")
         own.append(found[Betable][0])
         ratios.append([theirs / ours for ours, theirs in zip(*(found[engine][0] for engine in ENGINES))])
-    by = "ctypes" if betable.Session.__mro__[1].__name__ == "PureSession" else "the extension"
+    by = "ctypes" if betable.session._packed is None else "the extension"
     print(f"{count} rows, the middle of {words.rounds} rounds, calls by {by}\n\n| Call | betable | sqlite3 |\n|---|---|---|")
     for step, times, shares in zip(STEPS, zip(*own), zip(*ratios)):
         print(f"| {step} | {1e6 * median(times):.2f} µs | {median(shares):.2f} |")
