@@ -311,6 +311,7 @@ def names_are_never_a_piece_of_a_script():
         "load": lambda s: s.load([(4, text, True, text)]),
         "load_csv": lambda s: s.load_csv(text),
         "put": lambda s: s.put([(4, text, True, b"")]),
+        "put_csv": lambda s: s.put_csv(text),
         "put_frame": None,
         "replies": None,
         "run": None,
@@ -612,6 +613,62 @@ def a_load_names_the_line_of_its_file():
         expect((session.load_csv(str(path)), session.scan()), (2, [(1, "Oslo"), (2, "a\nb")]))
 
 
+@both_ways
+def a_csv_file_of_any_size_is_put_in_batches():
+    """With records at every place of the blocks in which it is read, beside a load of the same file."""
+    client, calls = betable(), []
+    module = sys.modules["betable.csv_input"]
+    block = module.BLOCK
+    texts = ["Oslo", '"Bergen, west"', '"a ""b"""', '5" wide', "", "æ", ".", "end"]
+    text = "\ufeffid,city\n" + "".join(f"{number},{texts[number % 8]}" + ("\r\n", "\n", "\n\n", "\r")[number // 8 % 4] for number in range(300)) + "300,last"
+    with tempfile.TemporaryDirectory() as folder, client.Session() as loaded:
+        path = Path(folder) / "cities.csv"
+        path.write_text(text, newline="")
+        size = path.stat().st_size
+        loaded.table("id:int city:text")
+        expect(loaded.load_csv(path), 301)
+        try:
+            for module.BLOCK in (1, 7, 50, 51, 52, 53, 1_000, block):
+                for most in (1, 7, 301, client.MOST_MESSAGES):
+                    with client.Session() as session:
+                        session.table("id:int city:text")
+                        calls.clear()
+                        expect(session.put_csv(str(path), lambda *call: calls.append(call), most), 301)
+                        expect((module.BLOCK, most, session.scan() == loaded.scan()), (module.BLOCK, most, True))
+                        expect((calls[-1], {total for _, total in calls}, calls), ((size, size), {size}, sorted(calls)))
+                        expect(len(calls) >= 301 // most, True)
+        finally:
+            module.BLOCK = block
+        with client.Session() as session:
+            session.table("id:int city:text")
+            session.put([(1, "old"), (900, "old")])
+            expect((session.put_csv(path), session.get(1), session.get(900)), (301, (1, "Bergen, west"), (900, "old")))
+            before = session.scan()
+            cases = [
+                ("id,city\n1,a\n\n2,b,x\n", client.Refused, f"{path}, line 4: 3 fields, and a put has 2 (id, city)"),
+                ('id,city\n1,a\nx,"b"\n', client.Refused, f"{path}, line 3: column 1 'id' (int): 'x' is no"),
+                ('id,city\n1,a\n3,"b\nc"\n', client.RowValueError, f"{path}, line 3: a field has a line break, which only load_csv takes"),
+                ('id,city\n1,a\n3,"b\n', client.RowValueError, f"{path}, line 3: a field has a line break"),
+                ("id,town\n1,a\n", client.RowValueError, f"{path}, line 1: the header is 'id,town', and the columns are id,city"),
+                ("\n\n1,a\n", client.RowValueError, f"{path}, line 3: the header is '1,a', and the columns are id,city"),
+                ("", client.RowValueError, f"{path}: the header is '', and the columns are id,city"),
+            ]
+            for given, kind, said in cases:
+                path.write_text(given, newline="")
+                fault = fault_of(lambda: session.put_csv(path))
+                expect((given, type(fault)), (given, kind))
+                expect_within(said, str(fault))
+                expect((given, session.scan()), (given, before))
+            path.write_text("id,city\n" + "".join(f"{number},a\n" for number in range(2_000, 2_025)) + "x,b\n")
+            fault = fault_of(lambda: session.put_csv(path, most=10))
+            expect((type(fault), fault.taken, fault.column), (client.Refused, 19, "id"))
+            expect_within(f"{path}, line 27: column 1 'id' (int): 'x' is no", str(fault))
+            expect(len(session.scan("primary", (2_000,))), 19)
+            path.write_bytes(b"\x1f\x8b\x08\0")
+            expect_within("is compressed by gzip", str(fault_of(lambda: session.put_csv(path))))
+            expect([type(fault_of(lambda: session.put_csv(path, None, most))) for most in (0, "1")], [ValueError, TypeError])
+
+
 def exceptions_can_be_pickled():
     client = betable()
     faults = [
@@ -726,6 +783,7 @@ TESTS_OF_TEXTS = [
     a_session_stays_on_its_thread,
     refusals_say_what_to_do,
     a_load_names_the_line_of_its_file,
+    a_csv_file_of_any_size_is_put_in_batches,
     exceptions_can_be_pickled,
     a_session_says_what_it_has,
     a_missing_library_is_named,

@@ -13,6 +13,7 @@ from pathlib import Path
 from typing import Any, NamedTuple
 
 from . import language
+from .csv_input import Part, parts
 from .errors import OutOfMemory, Refused, RowTypeError, RowValueError
 from .faults import MEANINGS, Fault, faults_of_refusal
 from .forms import head_faults, name_fault
@@ -119,11 +120,29 @@ class Calls(ABC):
         bytes of the file are handed over as they are, so a file of any size goes in as far as memory goes."""
         self._table()
         text = Path(path).read_bytes()
-        if text.startswith(b"\x1f\x8b"):
-            raise ValueError(f"{os.fspath(path)} is compressed by gzip: unpack it first, as by gunzip")
+        _refuse_gzip(text, path)
         if line := ends_load(text):
             raise ValueError(f"{os.fspath(path)}, line {line}: a line that is a point alone would end the load")
         return self._loaded(b"".join([b"load\n", text, b"\n.\n"]), os.fspath(path))
+
+    def put_csv(self, path: str | os.PathLike[str], progress: Callable[[int, int], object] | None = None, most: int = MOST_MESSAGES) -> int:
+        """Puts the records of a CSV file of any size, which is UTF-8 and has a header of the table's columns, in batches as `put` does, and returns their
+        number. No more than a few batches of them are in memory. After each batch `progress` is called with the bytes that were read, and those of the file."""
+        _check_most(most)
+        table, taken, is_first = self._table(), 0, True
+        with open(path, "rb") as file:
+            size = os.fstat(file.fileno()).st_size
+            _refuse_gzip(file.read(2), path)
+            file.seek(0)
+            for part in parts(file, most):
+                if is_first:
+                    _check_header(part, table, path)
+                    part, is_first = Part(part.records[1:], part.lines[1:], part.end), False
+                self._put_part(part, taken, path)
+                taken += len(part.records)
+                if progress is not None:
+                    progress(part.end, size)
+        return taken
 
     def get(self, *key: Any) -> Row | None:
         """The row of a key, or None."""
@@ -215,6 +234,18 @@ class Calls(ABC):
         column = next((one for one in columns_of(self._table().columns) if one.name == name), None)
         return f"{name} {operator} {record([value]) if column is None else line_field(value, column, None)}"
 
+    def _put_part(self, part: Part, taken: int, path: str | os.PathLike[str]) -> None:
+        """Puts the records of a part of a CSV file."""
+        for line, record in zip(part.lines, part.records):
+            if b"\n" in record or b"\r" in record:
+                raise RowValueError(f"{os.fspath(path)}, line {line}: a field has a line break, which only load_csv takes", value=record, taken=taken)
+        script = b"batch\n%bend\n" % b"".join([b"put %b\n" % record for record in part.records])
+        try:
+            reply = self.replies(script)
+        except OutOfMemory as fault:
+            raise OutOfMemory(fault.replies, fault.is_cut, fault.is_lost, taken) from None
+        self._refuse_if_refused(script, reply, taken, None, os.fspath(path), part.lines)
+
     def _put_columns(self, rows: Mapping[Any, Any], most: int) -> int:
         """Puts rows that are given by columns, `most` at a time."""
         _check_most(most)
@@ -272,10 +303,12 @@ class Calls(ABC):
             self._refuse_if_refused(script.encode(), reply, 0, None)
         return rows_of_reply(word, reply.decode(), kinds)
 
-    def _refuse_if_refused(self, script: bytes, reply: bytes, taken: int, rows: list[Any] | None, path: str | None = None) -> None:
+    def _refuse_if_refused(
+        self, script: bytes, reply: bytes, taken: int, rows: list[Any] | None, path: str | None = None, lines: Sequence[int] = ()
+    ) -> None:
         if reply.startswith(b"refused "):
             command = next(language.commands(script))
-            raise refusal(command, reply, self.state, [Reply(reply.decode(), command.head.word)], taken, rows, path)
+            raise refusal(command, reply, self.state, [Reply(reply.decode(), command.head.word)], taken, rows, path, lines)
 
 
 def put_lines(rows: list[Any], table: Table, taken: int) -> str:
@@ -364,6 +397,20 @@ def _shown_condition(index: language.Index, kinds: dict[bytes, bytes]) -> tuple[
     return column.decode(), operator.decode(), VALUES[kinds[column].decode()](constant.decode())
 
 
+def _refuse_gzip(start: bytes, path: str | os.PathLike[str]) -> None:
+    if start.startswith(b"\x1f\x8b"):
+        raise ValueError(f"{os.fspath(path)} is compressed by gzip: unpack it first, as by gunzip")
+
+
+def _check_header(part: Part, table: Table, path: str | os.PathLike[str]) -> None:
+    """The first record names the columns of the table in order."""
+    found = language.fields(part.records[0]) if part.records else []
+    if found != table.names:
+        names, given = (b",".join(some).decode(errors="replace") for some in (table.names, found))
+        where = f"{os.fspath(path)}, line {part.lines[0]}" if part.records else os.fspath(path)
+        raise RowValueError(f"{where}: the header is {shown(given)}, and the columns are {names}", value=given)
+
+
 LINE_OF_POINT = re.compile(rb"^\.\r?$", re.MULTILINE)
 
 
@@ -434,9 +481,10 @@ def _given_value(row: Any, column: str, columns: list[Column], otherwise: Any) -
 
 
 def refusal(
-    command: Command, reply: bytes, state: State, replies: list[Reply], taken: int = 0, rows: list[Any] | None = None, path: str | None = None
-) -> Refused:
-    """The exception of a command that was refused, with the reason."""
+    command: Command, reply: bytes, state: State, replies: list[Reply], taken: int = 0, rows: list[Any] | None = None, path: str | None = None,
+    lines: Sequence[int] = (),
+) -> Refused:  # fmt: skip
+    """The exception of a command that was refused, with the reason. Of a batch of records of a file, `lines` are theirs in the file."""
     number, name, *rest = reply.decode().split()[1:]
     item = int(rest[0]) if rest else None
     fault = fault_of(command, int(number), item, state)
@@ -450,5 +498,7 @@ def refusal(
         value = _given_value(rows[item - 1], column, layout(state.table).columns, value)
     if path is not None:
         line = fault.line - 1 if fault is not None and fault.line is not None else None
+        if lines and line is not None:
+            line = lines[line - 1]
         reason = f"{path}{'' if line is None else f', line {line}'}: {reason}"
     return Refused(command.head.number, int(number), name, item, replies, reason=reason, column=column, value=value, row=row, taken=taken)
