@@ -46,7 +46,7 @@ class Layout:
         self.columns, self.key = columns, key
         # The lines of messages that are alike, which `messages` keeps here.
         self.forms: dict[tuple[Any, ...], Any] = {}
-        self.kinds, self.key_kinds = [column.kind for column in columns], [column.kind for column in key]
+        self.names, self.kinds, self.key_kinds = [column.name for column in columns], [column.kind for column in columns], [column.kind for column in key]
 
 
 UNKNOWN = Layout([], [])
@@ -209,6 +209,16 @@ def as_tuple(row: Any, columns: Sequence[Column], number: int, taken: int) -> Se
         reason = f"{counted(len(row), 'value')}, and a row has {len(names)} ({', '.join(names)}): {shown(row)}"
         raise RowValueError(reason, row=number, value=row, taken=taken)
     return row
+
+
+def tuples_of_dicts(rows: list[Any], names: Sequence[str]) -> list[Any]:
+    """Rows as tuples, if all of them are dicts with these names; others as they are."""
+    if type(rows[0]) is not dict or set(map(type, rows)) != {dict} or set(map(len, rows)) != {len(names)}:
+        return rows
+    try:
+        return list(zip(*[[row[name] for row in rows] for name in names]))
+    except KeyError:
+        return rows
 
 
 def names_fault(given: Mapping[Any, Any], names: list[str]) -> str | None:

@@ -16,7 +16,7 @@ from types import ModuleType, TracebackType
 from typing import TYPE_CHECKING, Any
 
 from . import language
-from .calls import Bound, Calls, Lines, Row, as_script, bounds, by_names, checked_group, checked_name, column_lines, note, note_unanswered
+from .calls import Bound, Calls, Lines, Row, as_script, bounds, by_names, checked_group, checked_name, column_lines, note, note_unanswered, put_lines
 from .errors import OutOfMemory
 from .language import PRIMARY, State, Table, counted
 from .messages import Message, Shape, message_lines
@@ -24,7 +24,7 @@ from .packed import (
     MOST_ROWS, NOT_TAKEN, TreeColumn, columns_of_reply, description, groups_of_reply, name_bytes, packing, page_bytes, sums_bytes,
 )  # fmt: skip
 from .replies import answered
-from .rows import UNKNOWN, ColumnValues, Layout, columns_of_rows, layout, rows_of_columns, shown
+from .rows import UNKNOWN, ColumnValues, Layout, columns_of_rows, layout, rows_of_columns, shown, tuples_of_dicts
 
 DONE, OUT_OF_MEMORY, REPLY_CUT, NOT_OPEN, ALREADY_OPEN, REFUSED = range(6)
 # Replies of fewer bytes are copied by one call.
@@ -258,7 +258,8 @@ class PureSession(Calls):
 
     def _apply(self, some: list[Any], table: Table, taken: int, lines: Lines) -> None:
         apply = self._apply_messages if lines is message_lines else self._apply_columns if lines is column_lines else self._apply_rows
-        if not apply(some):
+        packed = tuples_of_dicts(some, layout(table).names) if lines is put_lines else some
+        if not apply(packed):
             super()._apply(some, table, taken, lines)
 
     # Whether one batch was applied. If it was not, it cannot be packed or is refused, and nothing has changed.
