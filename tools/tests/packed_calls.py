@@ -13,7 +13,7 @@ from clients import OtherLibrary, betable, both_ways, build_extension, c_program
 
 DONE, NOT_OPEN, REFUSED = 0, 3, 5
 SYNTAX, NO_TABLE, BAD_FIELD, BAD_LENGTH, NO_SUCH_TREE, BUILDING, NO_SUCH_COLUMN, NOT_INT = 1, 3, 6, 7, 8, 11, 15, 16
-CALLS = ("betable_apply", "betable_get", "betable_page", "betable_columns")
+CALLS = ("betable_apply", "betable_get", "betable_page", "betable_columns", "betable_sums")
 UNWRITTEN = (99, 98, 97)
 PUT, DEL, UPS = range(3)
 WORDS = ("set", "add", "max", "min")
@@ -409,6 +409,38 @@ MALFORMED = [
 ]
 
 
+@both_ways
+def sums_are_those_of_scripts():
+    """Of each tree, by groups of each number of columns, of each column, between bounds of each length, beside those of text; also sums over 64 bits."""
+    client = betable()
+    for seed in range(4):
+        dice = random.Random(seed)
+        session = filled(dice, dice.choice([0, 1, 40, 400])).session
+        for tree, most, columns in (("primary", 1, ["id", "qty"]), ("by_city", 2, ["id", "qty"]), ("large", 2, ["qty", "id"])):
+            there = session.columns(tree)
+            for _ in range(30):
+                row = dict(zip(["id", "city", "ok", "raw", "qty"], random_row(dice)))
+                bounds = [dice.choice([None, tuple(row[column.name] for column in there[: dice.randrange(1, most + 1)])]) for _ in range(2)]
+                given = tree, dice.randrange(1, most + 1), dice.choice(columns), *bounds
+                found = session.sums(*given)
+                expect((given, found), (given, client.Calls.sums(session, *given)))
+                expect({tuple(map(type, group[:2])) for group in found} <= {(int, int)}, True)
+        for call in (
+            lambda: session.sums("primary", 2, "qty"), lambda: session.sums("by_city", 1, "city"), lambda: session.sums("by_city", 1, "raw"), lambda: session.sums("by_city", 1, "x"),
+            lambda: session.sums("nothing", 1, "qty"), lambda: session.sums("large", 1, "qty", (2**63,)), lambda: session.sums("primary", 0, "qty"),
+        ):  # fmt: skip
+            faults = [fault_of(call), fault_of(lambda: client.Calls.sums(session, "by_city", 1, "qty"))]
+            expect((type(faults[0]), faults[1]), (client.Refused, None))
+    session = client.Session()
+    session.table("side:int id:int qty:int", keys=2)
+    numbers = [2**63 - 1, -(2**63), 2**62, -1, 0]
+    rows = [(side, number, numbers[side]) for side in range(5) for number in range(side * 700 + 3)]
+    session.put(rows)
+    expect(session.sums("primary", 1, "qty"), [(side * 700 + 3, numbers[side] * (side * 700 + 3), side) for side in range(5)])
+    expect(session.sums("primary", 1, "qty", stop=(2,), start=(1,)), [(703, -(2**63) * 703, 1)])
+    expect(session.sums(tree="primary", columns=2, column="id", start=(4, 2_801)), [(1, number, 4, number) for number in (2_801, 2_802)])
+
+
 def malformed_bytes_are_refused_at_their_place_and_change_nothing():
     raw = filled(random.Random(4))
     raw.session.run("index begun on qty\n")
@@ -642,7 +674,10 @@ def rows_that_change_while_they_are_read_come_once():
 def out_of_memory_is_an_exception_of_each_call():
     client, session = betable(), filled(random.Random(7)).session
     before, library = session.scan(), library_without_memory(session)
-    for call in (lambda: session.put([ROW]), lambda: session.batch([client.delete(1)]), lambda: session.get(1), lambda: session.scan(limit=1), session.columns):
+    for call in (
+        lambda: session.put([ROW]), lambda: session.batch([client.delete(1)]), lambda: session.get(1), lambda: session.scan(limit=1), session.columns,
+        lambda: session.sums("by_city", 1, "qty"), lambda: session.scan_columns(), lambda: list(session.iterate()),
+    ):  # fmt: skip
         fault = fault_of(call)
         expect((type(fault), fault.replies, fault.is_lost, str(fault)), (client.OutOfMemory, b"", False, "betable: out of memory"))
     library.end(session)
@@ -703,6 +738,7 @@ TESTS_OF_TEXTS = [
     a_page_after_a_row_repeats_and_loses_no_row,
     keys_that_begin_alike_are_in_one_page_each,
     columns_are_those_of_the_tables_and_indexes,
+    sums_are_those_of_scripts,
     malformed_bytes_are_refused_at_their_place_and_change_nothing,
     bytes_that_are_cut_are_refused_where_they_end,
     calls_without_a_table_or_on_a_closed_session_are_refused,

@@ -974,7 +974,7 @@ static PyObject *call_sums(PyObject *object, PyObject *const *args, Py_ssize_t c
     reader reply;
     outcome found = OTHER;
     int overflow;
-    if (self->sums != NULL && is_ready(self) && are_placed(args, count, names, names_of_sums, 5, given) && given[0] != NULL)
+    if (is_ready(self) && are_placed(args, count, names, names_of_sums, 5, given) && given[0] != NULL)
         description = description_of(self, given[0]);
     const int are_there = described(description, &there) && given[1] != NULL && given[2] != NULL;
     if (are_there && PyLong_CheckExact(given[1]) && PyUnicode_CheckExact(given[2])) {

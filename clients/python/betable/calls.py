@@ -21,8 +21,8 @@ from .language import Command, State, Table
 from .messages import Message, delete, message_lines, record, upsert
 from .replies import Reply, answered, kinds_of_rows, rows_of_reply
 from .rows import (
-    UNKNOWN, VALUES, Column, ColumnValues, Layout, Value, as_iterator, as_tuple, columns_of, columns_of_rows, key_fields, layout, line_field,
-    part_of_column, records, rows_of_columns, shown, values_by_column,
+    ARRAY_TYPES, UNKNOWN, VALUES, Column, ColumnValues, Layout, Value, as_iterator, as_tuple, columns_of, columns_of_rows, key_fields, layout,
+    line_field, part_of_column, records, rows_of_columns, shown, values_by_column,
 )  # fmt: skip
 
 MOST_MESSAGES = language.MOST_MESSAGES
@@ -181,8 +181,7 @@ class Calls(ABC):
 
         columns = self.scan_columns(tree, start, stop)
         kinds = {column.name: column.kind for column in layout(self.state.table, tree).columns}
-        types = {"int": "int64", "flag": "bool"}
-        return pandas.DataFrame({name: numpy.asarray(values, dtype=types.get(kinds[name], "object")) for name, values in columns.items()})
+        return pandas.DataFrame({name: numpy.asarray(values, dtype=ARRAY_TYPES[kinds[name]]) for name, values in columns.items()})
 
     def table(
         self, columns: str | Iterable[tuple[str, str]], keys: int = 1, fanout: int = 16, buffer: int | str = 1024, leaf: int = 256

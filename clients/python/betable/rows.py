@@ -68,6 +68,8 @@ def layout(table: Table | None, tree: str = "primary") -> Layout:
 
 # What a value of each kind is, as it is said to a user.
 TYPES = {"int": "an int", "text": "a str", "flag": "a bool", "bytes": "bytes"}
+# The types of arrays of NumPy that have the values of each kind.
+ARRAY_TYPES = {"int": "int64", "text": "object", "flag": "bool", "bytes": "object"}
 # What a text has that is written in quotes: also a byte order mark, which would be dropped at the start of a record, and what would be no record, or the end
 # of a load, if it were alone in its line.
 NEEDS_QUOTES = re.compile('[",\r\n\ufeff]|^[.]?$')

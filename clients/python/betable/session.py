@@ -78,7 +78,6 @@ def _loaded_library() -> ctypes.CDLL:
         ("betable_close", [handle], ctypes.c_uint),
     ]
     for name, arguments, result in calls:
-        if name == "betable_sums" and not hasattr(library, name): continue  # TEMPORARY
         function = getattr(library, name)
         function.argtypes, function.restype = arguments, result
     return library
@@ -237,7 +236,7 @@ class PureSession(Calls):
         """For each group of rows that are equal in the tree's first columns: their number, the sum of a column, and the values of those columns."""
         name, count, summed = checked_name(tree, "a tree"), checked_group(columns), checked_name(column, "a column")
         there = layout(self.state.table, name)
-        if there is not UNKNOWN and hasattr(self._library, "betable_sums"):  # TEMPORARY
+        if there is not UNKNOWN:
             bounds(there, start, stop)
             packed = packing(there)
             lower, upper = packed.bound(start), packed.bound(stop)
@@ -348,7 +347,7 @@ else:
 
         def _connect_calls(self) -> None:
             """Gives the extension the calls of the library that ctypes has loaded."""
-            addresses = [ctypes.cast(getattr(self._library, name), ctypes.c_void_p).value if hasattr(self._library, name) else 0 for name in _packed.CALLS]  # TEMPORARY
+            addresses = [ctypes.cast(getattr(self._library, name), ctypes.c_void_p).value for name in _packed.CALLS]
             self._connect(self._handle, ctypes.addressof(self._handle), tuple(addresses))
 
         def _note(self, script: bytes, replies: bytes, is_whole: bool) -> None:
