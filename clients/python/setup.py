@@ -21,8 +21,8 @@ EXTENSION = Extension(
     ["betable/_packed.c"],
     include_dirs=[str(INCLUDE)],
     depends=[str(INCLUDE / "betable.h")],
-    # Without lines for a debugger, which would have the paths of this folder.
-    extra_compile_args=["-std=c11", "-O2", "-g0"],
+    # Most of its time goes into calls of Python, which -fno-plt makes direct. Without what a debugger reads, which would have the paths of this folder.
+    extra_compile_args=["-std=c11", "-O3", "-fno-plt", "-g0"],
     py_limited_api=True,
     optional=True,
 )
