@@ -487,6 +487,8 @@ static PyObject *next_tuple(reader *reply, Py_ssize_t before, Py_ssize_t count, 
             return NULL;
         }
     }
+    /* It can be in no cycle, so the collector of garbage does not look at it. It would find that out itself, later. */
+    PyObject_GC_UnTrack(row);
     return row;
 }
 
