@@ -7,9 +7,9 @@
  * The module is not linked with the library. ctypes has loaded it, and `_connect` gets the addresses of its calls, so the process has one copy of the library:
  * the one that opened the session.
  *
- * Two things keep a call sound if code of Python runs while it is at work (the collector of garbage may run `__del__` whenever an object is made, and that may
- * call the session again): the bytes that it works on are its own (`taken` to `kept`), and the session is looked at directly before the library is called.
- * Values are borrowed from their rows only as long as nothing is made or called.
+ * Code of Python may run during a call: the collector of garbage runs `__del__` when an object is made, and that may call the session again. So the bytes of a
+ * call are its own (from `taken` to `kept`), `is_ready` is asked directly before the library is called, and a reply is read directly after. Values are borrowed
+ * from their rows only while no object is made and nothing of Python is called.
  */
 #define Py_LIMITED_API 0x030B0000
 #define PY_SSIZE_T_CLEAN
@@ -41,7 +41,7 @@ typedef betable_status packed_call(betable_session *, const unsigned char *, siz
 typedef size_t length_call(betable_session *);
 typedef size_t copy_call(betable_session *, size_t, unsigned char *, size_t);
 
-/* What became of something that was asked for: an exception is set, it is not for this module, or it is done. */
+/* The outcome of a step: an exception is set, the values are for the plain class, or it is done. */
 typedef enum { RAISED = -1, OTHER, DONE } outcome;
 
 typedef struct {
@@ -111,22 +111,17 @@ static void kept(caller *self, bytes_in_room *bytes)
         self->room = *bytes;
 }
 
-/* These have room: their callers see to it. */
+/* The next ones are called with enough room. */
 
 static void add_byte(bytes_in_room *bytes, unsigned number)
 {
     bytes->at[bytes->length++] = (unsigned char)number;
 }
 
-static void put_number(unsigned char *at, uint64_t number, int count)
-{
-    for (int place = 0; place < count; place++)
-        at[place] = (unsigned char)(number >> 8 * place);
-}
-
 static void add_number(bytes_in_room *bytes, uint64_t number, int count)
 {
-    put_number(bytes->at + bytes->length, number, count);
+    for (int place = 0; place < count; place++)
+        bytes->at[bytes->length + (size_t)place] = (unsigned char)(number >> 8 * place);
     bytes->length += (size_t)count;
 }
 
@@ -154,7 +149,7 @@ static int has_line_break(const char *text, size_t length)
     return found;
 }
 
-/* A value with room for MOST_VALUE_LENGTH bytes. Runs no code of Python, but if it is OTHER. */
+/* Adds a value, for which there is room. Runs no code of Python, except if it is OTHER. */
 static outcome add_value(bytes_in_room *bytes, PyObject *value, unsigned kind)
 {
     const char *text;
@@ -557,39 +552,44 @@ static Py_ssize_t counted(reader reply, const tree *there)
     return count;
 }
 
+/* Reads the values of a row into the columns at its place. Whether it could. A reply has as many bytes as `counted` found. */
+static int is_row_read(reader *reply, const tree *there, PyObject *const *columns, Py_ssize_t row)
+{
+    for (Py_ssize_t place = 0; place < there->columns; place++) {
+        if (there->kinds[place] == INT) {
+            const uint64_t number = number_at(next_bytes(reply, 8));
+            memcpy(PyBytes_AsString(columns[place]) + 8 * row, &number, sizeof number);
+        } else {
+            PyObject *value = next_value(reply, there->kinds[place]);
+            if (value == NULL || PyList_SetItem(columns[place], row, value) < 0)
+                return 0;
+        }
+    }
+    return 1;
+}
+
 /* The columns of all rows of a reply: of ints their bytes, in the order of this machine, and a list of other values. */
 static PyObject *as_columns(reader reply, const tree *there)
 {
-    char *numbers[MOST_COLUMNS] = {NULL};
+    PyObject *columns[MOST_COLUMNS], *found = NULL;
+    Py_ssize_t made = 0;
     const Py_ssize_t count = counted(reply, there);
-    PyObject *found = count < 0 ? not_of_layout() : PyList_New(there->columns);
-    for (Py_ssize_t place = 0; found != NULL && place < there->columns; place++) {
-        const int are_numbers = there->kinds[place] == INT;
-        PyObject *one = NULL;
-        if (!are_numbers)
-            one = PyList_New(count);
-        else if (count <= PY_SSIZE_T_MAX / 8)
-            one = PyBytes_FromStringAndSize(NULL, count * 8);
-        if (one == NULL || PyList_SetItem(found, place, one) < 0) {
-            Py_CLEAR(found);
-            break;
-        }
-        if (are_numbers)
-            numbers[place] = PyBytes_AsString(one);
+    int is_done = count >= 0;
+    if (!is_done)
+        not_of_layout();
+    for (; is_done && made < there->columns; made += is_done) {
+        /* A reply has eight bytes for each int, so as many are less than there can be. */
+        columns[made] = there->kinds[made] == INT ? PyBytes_FromStringAndSize(NULL, count * 8) : PyList_New(count);
+        is_done = columns[made] != NULL;
     }
-    for (Py_ssize_t row = 0; found != NULL && row < count; row++) {
-        for (Py_ssize_t place = 0; place < there->columns; place++) {
-            if (numbers[place] != NULL) {
-                const uint64_t number = number_at(next_bytes(&reply, 8));
-                memcpy(numbers[place] + 8 * row, &number, sizeof number);
-                continue;
-            }
-            PyObject *value = next_value(&reply, there->kinds[place]);
-            if (value == NULL || PyList_SetItem(PyList_GetItem(found, place), row, value) < 0) {
-                Py_CLEAR(found);
-                break;
-            }
-        }
+    for (Py_ssize_t row = 0; is_done && row < count; row++)
+        is_done = is_row_read(&reply, there, columns, row);
+    if (is_done)
+        found = PyList_New(0);
+    for (Py_ssize_t place = 0; place < made; place++) {
+        if (found != NULL && PyList_Append(found, columns[place]) < 0)
+            Py_CLEAR(found);
+        Py_DECREF(columns[place]);
     }
     return found;
 }
@@ -688,7 +688,7 @@ static int described(PyObject *description, tree *found)
     found->columns = at[1];
     found->kinds = at + 2;
     found->name = at + 2 + found->columns;
-    if (found->keys > found->columns || found->columns > MOST_COLUMNS || length <= 2 + found->columns)
+    if (found->columns < 1 || found->columns > MOST_COLUMNS || found->keys > found->columns || length <= 2 + found->columns)
         return 0;
     found->name_length = 1u + *found->name;
     return length == 2 + found->columns + (Py_ssize_t)found->name_length;
