@@ -5,11 +5,14 @@ import ctypes
 import gc
 import os
 import random
+import shutil
 import subprocess
 import sys
+import tempfile
 import threading
 import time
 from array import array
+from pathlib import Path
 
 from common import expect, expect_within, TOP
 from clients import OtherLibrary, betable, build_extension, library, say_once
@@ -291,6 +294,29 @@ def a_session_that_another_thread_drops_is_not_used_by_it():
     expect({type(fault) for fault in faults[2:]}, {RuntimeError})
 
 
+def a_package_without_the_extension_goes_by_ctypes():
+    """If a variable says so, and if the extension is missing or no library."""
+    if not is_there():
+        return
+    code = "import betable\nwith betable.Session() as session:\n    session.table('id:int')\n    session.put([(1,), (2,)])\n    print(betable.session._packed is None, session.scan())\n"
+
+    def printed(folder, **environment):
+        words = {**os.environ, "BETABLE_LIBRARY": library(), "PYTHONPATH": str(folder), **environment}
+        ended = subprocess.run([sys.executable, "-B", "-c", code], capture_output=True, text=True, env=words)
+        expect((ended.returncode, ended.stderr), (0, ""))
+        return ended.stdout
+
+    clients = TOP / "clients/python"
+    for variable, is_pure in (("1", True), ("yes", True), ("0", False), ("", False)):
+        expect((variable, printed(clients, BETABLE_PURE=variable)), (variable, f"{is_pure} [(1,), (2,)]\n"))
+    with tempfile.TemporaryDirectory() as folder:
+        shutil.copytree(clients / "betable", Path(folder) / "betable", ignore=shutil.ignore_patterns("*.so", "__pycache__"))
+        shutil.copy(TOP / "VERSION", Path(folder) / "betable/VERSION")
+        expect(printed(folder), "True [(1,), (2,)]\n")
+        (Path(folder) / "betable/_packed.abi3.so").write_bytes(b"no library")
+        expect(printed(folder), "True [(1,), (2,)]\n")
+
+
 def the_extension_by_itself_says_what_uses_it():
     if not is_there():
         return
@@ -321,6 +347,7 @@ TESTS_OF_TEXTS = [
     no_memory_is_kept_after_calls,
     other_threads_run_during_long_calls,
     a_session_that_another_thread_drops_is_not_used_by_it,
+    a_package_without_the_extension_goes_by_ctypes,
     the_extension_by_itself_says_what_uses_it,
 ]
 TESTS = []
