@@ -107,9 +107,12 @@ def measured(engine, rows):
     found = [engine.get(key) for key in keys]
     seconds.append((clock() - begin) / len(keys))
 
+    # Their rows are dropped as they come: to keep them all would measure how the system gives memory.
     begin = clock()
-    pages = [engine.page(key) for key in keys[: len(keys) // 20]]
-    seconds.append((clock() - begin) / len(pages))
+    for key in keys[: len(keys) // 20]:
+        engine.page(key)
+    seconds.append((clock() - begin) / (len(keys) // 20))
+    pages = [engine.page(key) for key in keys[:200]]
 
     engine.make_index()
     begin = clock()
