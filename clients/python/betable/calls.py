@@ -4,16 +4,18 @@ from __future__ import annotations
 
 import os
 import re
+import shutil
+import sys
 from abc import ABC, abstractmethod
 from array import array
 from collections.abc import Callable, Iterable, Iterator, Mapping, Sequence
 from copy import copy
+from io import BytesIO
 from itertools import islice
-from pathlib import Path
 from typing import Any, NamedTuple
 
 from . import language
-from .csv_input import Part, parts
+from .csv_input import BLOCK, Part, parts
 from .errors import OutOfMemory, Refused, RowTypeError, RowValueError
 from .faults import MEANINGS, Fault, faults_of_refusal
 from .forms import head_faults, name_fault
@@ -117,13 +119,20 @@ class Calls(ABC):
 
     def load_csv(self, path: str | os.PathLike[str]) -> int:
         """Fills a table that has no rows with the records of a CSV file, which is UTF-8 and has a header of the table's columns, and returns how many. The
-        bytes of the file are handed over as they are, so a file of any size goes in as far as memory goes."""
+        bytes of the file are in memory once, and are handed over as they are. `put_csv` takes a file that is larger than memory allows."""
         self._table()
-        text = Path(path).read_bytes()
-        _refuse_gzip(text, path)
-        if line := ends_load(text):
+        written = BytesIO()
+        written.write(b"load\n")
+        with open(path, "rb") as file:
+            _refuse_gzip(file.read(2), path)
+            file.seek(0)
+            shutil.copyfileobj(file, written, BLOCK)
+        end = written.tell()
+        written.write(b"\n.\n")
+        script = written.getvalue()
+        if line := ends_load(script, len(b"load\n"), end):
             raise ValueError(f"{os.fspath(path)}, line {line}: a line that is a point alone would end the load")
-        return self._loaded(b"".join([b"load\n", text, b"\n.\n"]), os.fspath(path))
+        return self._loaded(script, os.fspath(path))
 
     def put_csv(self, path: str | os.PathLike[str], progress: Callable[[int, int], object] | None = None, most: int = MOST_MESSAGES) -> int:
         """Puts the records of a CSV file of any size, which is UTF-8 and has a header of the table's columns, in batches as `put` does, and returns their
@@ -413,10 +422,11 @@ def _check_header(part: Part, table: Table, path: str | os.PathLike[str]) -> Non
 LINE_OF_POINT = re.compile(rb"^\.\r?$", re.MULTILINE)
 
 
-def ends_load(text: bytes) -> int:
-    """The number of the line of a CSV text that would end a load, or 0."""
-    found = LINE_OF_POINT.search(text) if b"\n." in text or text.startswith(b".") else None
-    return text.count(b"\n", 0, found.start()) + 1 if found else 0
+def ends_load(text: bytes, start: int = 0, end: int = sys.maxsize) -> int:
+    """The number of the line that would end a load, of the CSV text from one place of these bytes, where a line begins, to before another, or 0."""
+    has_point = text.find(b"\n.", start, end) >= 0 or text.startswith(b".", start, end)
+    found = LINE_OF_POINT.search(text, start, end) if has_point else None
+    return text.count(b"\n", start, found.start()) + 1 if found else 0
 
 
 def _with_point(rows: list[Any], columns: list[Column], row: int) -> RowValueError:
