@@ -1,15 +1,18 @@
-"""Tests of the calls on packed bytes, of the library for C and of the Python client: beside scripts, with bytes that are none of the layout, and at random.
+"""Tests of the calls on packed bytes, of the library for C and of the Python client: beside scripts, with bytes that are none of the layout, at random, with
+memory refused, and under valgrind.
 
-The bytes are those of an encoder of this file, and not of the client's. `BETABLE_FUZZ` is the number of random bytes that are tried, 20,000 unless it is set."""
+The bytes are those of an encoder of this file, and not of the client's. `BETABLE_FUZZ` is the number of random messages from Python and from C, 20,000 each
+unless it is set, and `BETABLE_SEED` the seed. Under valgrind are a hundredth of those from C."""
 
 import os
 import random
+import re
 import struct
 import subprocess
 from textwrap import dedent
 
 from common import expect, expect_within, SECONDS, TOP
-from clients import betable, c_program, library
+from clients import betable, c_program, is_installed, HERE, library
 
 DONE, OUT_OF_MEMORY, NOT_OPEN, REFUSED = 0, 1, 3, 5
 SYNTAX, NO_TABLE, BAD_FIELD, BAD_LENGTH, NO_SUCH_TREE, BUILDING, NO_SUCH_COLUMN, NOT_INT = 1, 3, 6, 7, 8, 11, 15, 16
@@ -18,6 +21,7 @@ UNWRITTEN = (99, 98, 97)
 PUT, DEL, UPS = range(3)
 WORDS = ("set", "add", "max", "min")
 FUZZ = int(os.environ.get("BETABLE_FUZZ", 20_000))
+SEED = os.environ.get("BETABLE_SEED", "8")
 
 
 # ---- the layout, as include/betable.h has it ----
@@ -503,7 +507,7 @@ def applied(rows, found):
 def random_bytes_are_refused_or_applied_as_they_say():
     """Random and mutated bytes of each call. The reader of this file says of changes what they are, or why and where they are refused; rows are those of a
     dict. A call that is refused changes no row, and one that only reads changes none."""
-    dice = random.Random(int(os.environ.get("BETABLE_SEED", 8)))
+    dice = random.Random(int(SEED))
     raw, rows, kinds, refused, done = Raw(SCHEMA), {}, ["int", "text", "flag", "bytes", "int"], 0, 0
     everything = page(2**32 - 1)
     shown = raw.reply("betable_page", everything)
@@ -677,8 +681,40 @@ PRINTED = "get: 2 Bergen, west 15\npage:\n1 Oslo 30\n2 Bergen, west 15\npage:\n3
 
 
 def what_tests_share_is_built():
-    """The library, before tests run side by side."""
+    """The library, and the programs that more than one test runs, before tests run side by side."""
     library()
+    random_packed(), refused_packed(), c_program(TOP / "clients/c/packed.c")
+
+
+def random_packed():
+    return c_program(HERE / "c/random_packed.c")
+
+
+def refused_packed():
+    return c_program(HERE / "c/refused_packed.c", "-Wl,--wrap=malloc,--wrap=realloc,--wrap=free")
+
+
+def random_bytes_in_c_are_read_within_their_ends():
+    """A call that reads bytes before or after its message ends the program. The images of all trees are compared after each call."""
+    ended = subprocess.run([random_packed(), SEED, str(FUZZ)], capture_output=True, text=True, timeout=SECONDS + FUZZ // 1_000)
+    expect((ended.returncode, ended.returncode and ended.stdout, ended.stderr), (0, 0, ""))
+    counts = list(map(int, re.findall(r"\d+", ended.stdout)))
+    expect((sum(counts), min(counts) > FUZZ // 100), (FUZZ, True))
+
+
+def refused_memory_is_answered_by_packed_calls():
+    """Each request of each call, alone and with those after it: what is returned, that the table is as before or lost, and that all memory is freed."""
+    ended = subprocess.run([refused_packed()], capture_output=True, text=True, timeout=SECONDS)
+    expect((ended.returncode, ended.returncode and ended.stdout, ended.stderr), (0, 0, ""))
+
+
+def valgrind_finds_nothing_in_packed_calls():
+    """In the example, in random messages, and with memory refused."""
+    if is_installed("valgrind", "what valgrind finds in packed calls is"):
+        words = ["valgrind", "-q", "--leak-check=full", "--errors-for-leak-kinds=all", "--error-exitcode=9"]
+        for program in ([c_program(TOP / "clients/c/packed.c")], [random_packed(), SEED, str(FUZZ // 100)], [refused_packed()]):
+            ended = subprocess.run([*words, *program], capture_output=True, text=True, timeout=SECONDS + FUZZ // 100)
+            expect((program, ended.returncode, ended.stderr), (program, 0, ""))
 
 
 def the_example_in_c_prints_its_rows():
@@ -709,6 +745,9 @@ TESTS_OF_TEXTS = [
     rows_that_change_while_they_are_read_come_once,
     out_of_memory_is_an_exception_of_each_call,
     messages_of_many_shapes_keep_their_encoders_apart,
+    random_bytes_in_c_are_read_within_their_ends,
+    refused_memory_is_answered_by_packed_calls,
+    valgrind_finds_nothing_in_packed_calls,
     the_example_in_c_prints_its_rows,
     the_page_has_a_part_of_the_example_in_c,
 ]
