@@ -1,5 +1,6 @@
 // c_calls [ROWS [ROUNDS]]: the cost of one call from C to betable through include/betable.h, and to SQLite and LMDB through their own interfaces: puts of
-// one row, batches of a hundred, gets of a row, pages of a hundred rows from a key on, and sums of the rows of a city. A row is an int, a city and a quantity.
+// one row, batches of a hundred, gets of a row, pages of a hundred rows from a key on, sums of the rows of a city, and one batch of 65,536. A row is an int, a
+// city and a quantity.
 // Rows are in C variables before and after a call. So a call of betable includes packing its bytes and unpacking its reply, a call of SQLite its bindings and
 // columns, and a call of LMDB the packing of key and value. The calls of betable are measured on packed bytes and as scripts; sums are always a script. Each
 // round gives each engine new, empty tables, and begins with a different engine. The results of all engines are compared. The program prints the processor
@@ -7,7 +8,8 @@
 //
 // betable is in memory, SQLite is ':memory:' without journal, and LMDB is on a file in memory, written in place and never synced. A put of one row is a
 // batch, a statement outside of a transaction, and a transaction; a batch of a hundred puts is a batch, and a transaction. Sums are over an index on the
-// city that includes the quantity. It is created when all rows are in the table, and its creation is not counted.
+// city that includes the quantity. It is created when all rows are in the table, and its creation is not counted. Batches of 65,536 puts, the most that a batch
+// has, go into a new table without index, as many as there are rows for.
 #define _GNU_SOURCE
 #include <lmdb.h>
 #include <sqlite3.h>
@@ -21,7 +23,7 @@
 
 #include "betable.h"
 
-enum { CITIES = 1000, BATCH = 100, ENGINES = 4, STEPS = 5, PAGE = 100, MOST_ROUNDS = 99 };
+enum { CITIES = 1000, BATCH = 100, LARGEST_BATCH = 65536, ENGINES = 4, STEPS = 6, PAGE = 100, MOST_ROUNDS = 99 };
 
 typedef struct {
   int64_t id;
@@ -48,7 +50,7 @@ static void fail(const char *why) {
 // ---- betable, as scripts ----
 
 static betable_session session = BETABLE_CLOSED;
-static char script[1 << 16], reply[1 << 13];
+static char script[48 * LARGEST_BATCH], reply[1 << 13];
 
 static size_t run(size_t length) {
   if (betable_run(&session, (const unsigned char *)script, length) != BETABLE_DONE || betable_refused_count(&session) > 0) fail("betable refused a script");
@@ -89,7 +91,7 @@ static void betable_end(void) { betable_close(&session); }
 
 // ---- betable, on packed bytes ----
 
-static unsigned char packed[1 << 13], answer[1 << 13];
+static unsigned char packed[32 * LARGEST_BATCH], answer[1 << 13];
 static betable_fault fault;
 
 // The machine is little endian, as packed bytes are.
@@ -354,7 +356,7 @@ static const Engine ENGINE[ENGINES] = {
     {"SQLite", sqlite_begin, sqlite_put, sqlite_index, sqlite_get, sqlite_page, sqlite_sum, sqlite_end},
     {"LMDB", lmdb_begin, lmdb_put, lmdb_index, lmdb_get, lmdb_page, lmdb_sum, lmdb_end},
 };
-static const char *const STEP[STEPS] = {"put of one row", "batch of a hundred puts", "get of a row", "page of a hundred rows", "sums of a city"};
+static const char *const STEP[STEPS] = {"put of one row", "batch of a hundred puts", "get of a row", "page of a hundred rows", "sums of a city", "batch of 65,536 puts"};
 
 static double processor_seconds(void) {
   struct timespec now;
@@ -404,6 +406,14 @@ static int64_t measure(const Engine *engine, const Row *rows, size_t count, doub
   }
   seconds[4] = (processor_seconds() - begin) / (double)sums;
   engine->close();
+
+  engine->open();
+  size_t batches = count / LARGEST_BATCH;
+  begin = processor_seconds();
+  for (size_t i = 0; i < batches; i++) engine->put(rows + i * LARGEST_BATCH, LARGEST_BATCH);
+  seconds[5] = (processor_seconds() - begin) / (double)batches;
+  for (size_t i = 0; i < batches * LARGEST_BATCH; i += BATCH) answers += engine->get(rows[i].id);
+  engine->close();
   return answers;
 }
 
@@ -419,7 +429,7 @@ static double middle(double *values, size_t count) {
 
 int main(int count, char **words) {
   size_t row_count = count > 1 ? strtoul(words[1], NULL, 10) : 200000, rounds = count > 2 ? strtoul(words[2], NULL, 10) : 7;
-  if (row_count < 10 * CITIES || rounds < 1 || rounds > MOST_ROUNDS) fail("from 10,000 rows on, and 1 to 99 rounds");
+  if (row_count < LARGEST_BATCH || rounds < 1 || rounds > MOST_ROUNDS) fail("from 65,536 rows on, and 1 to 99 rounds");
   row_count -= row_count % (2 * BATCH);
   Row *rows = malloc(row_count * sizeof *rows);
   if (rows == NULL) fail("out of memory");

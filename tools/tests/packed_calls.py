@@ -12,7 +12,9 @@ import subprocess
 from textwrap import dedent
 
 from common import expect, expect_within, SECONDS, TOP
-from clients import betable, c_program, is_installed, HERE, library
+from clients import betable, c_program, is_installed, HERE, library, worked_scripts
+
+from betable import language
 
 DONE, OUT_OF_MEMORY, NOT_OPEN, REFUSED = 0, 1, 3, 5
 SYNTAX, NO_TABLE, BAD_FIELD, BAD_LENGTH, NO_SUCH_TREE, BUILDING, NO_SUCH_COLUMN, NOT_INT = 1, 3, 6, 7, 8, 11, 15, 16
@@ -239,6 +241,116 @@ def changes_by_packed_bytes_and_by_script_leave_equal_trees():
             by_client.session.batch([message for message, _ in found])
             images = by_script.images()
             expect((seed, by_bytes.images(), by_client.images()), (seed, images, images))
+
+
+class NotInValues(Exception):
+    """What a command says is no value of its column, or has another number of them."""
+
+
+def fields_of_line(line):
+    """Those of the record that ends it."""
+    raw, fault = language.record_of_line(line.rest or b"")
+    if fault:
+        raise NotInValues
+    return language.fields(raw)
+
+
+def values_of_fields(found, columns):
+    """The values of fields of the first of these columns."""
+    if len(found) > len(columns):
+        raise NotInValues
+    return [value_of_field(field, kind) for field, (_, kind) in zip(found, columns)]
+
+
+def values_of_line(line, columns):
+    """The values of the record that ends a line, one of each of these columns."""
+    found = values_of_fields(fields_of_line(line), columns)
+    if len(found) < len(columns):
+        raise NotInValues
+    return found
+
+
+def value_of_field(field, kind):
+    faults = {b"int": language.fault_of_int, b"text": language.fault_of_text, b"flag": language.fault_of_flag, b"bytes": language.fault_of_bytes}
+    if faults[kind](field):
+        raise NotInValues
+    forms = {b"int": int, b"text": bytes.decode, b"flag": lambda flag: flag.lower() == b"true", b"bytes": lambda digits: bytes.fromhex(digits.decode())}
+    return forms[kind](field)
+
+
+def change_in_values(line, table):
+    """The bytes of a message of a batch."""
+    if line.word == b"put":
+        return put(*values_of_line(line, table.columns))
+    if line.word == b"del":
+        return delete(*values_of_line(line, table.key))
+    if line.word != b"ups":
+        raise NotInValues
+    count, found = len(table.key), fields_of_line(line)
+    operations = [operation_in_values(table, *found[at : at + 3]) for at in range(count, len(found) - 2, 3)]
+    if len(found) != count + 3 * len(operations):
+        raise NotInValues
+    return upsert(values_of_fields(found[:count], table.key), *operations)
+
+
+def operation_in_values(table, word, name, field):
+    if word.decode() not in WORDS or name not in table.names:
+        raise NotInValues
+    place = table.names.index(name)
+    return WORDS.index(word.decode()), place, value_of_field(field, table.kinds[place] if word == b"set" else b"int")
+
+
+def call_in_values(command, table):
+    """The call on packed bytes that does what a command does, and its bytes."""
+    words = command.head.text.split()
+    if command.head.word == b"get":
+        return "betable_get", header(1) + values_bytes(values_of_line(command.head, table.key))
+    if not command.is_closed or len(words) != {b"batch": 1, b"scan": 2}.get(words[0]):
+        raise NotInValues
+    if words[0] == b"batch":
+        return "betable_apply", changes(*(change_in_values(line, table) for line in command.messages()))
+    bounds = {b"from": b"\0", b"to": b"\0"}
+    if [line.word for line in command.messages()] not in ([], [b"from"], [b"to"], [b"from", b"to"]) or not table.has_tree(words[1]):
+        raise NotInValues
+    for line in command.messages():
+        bounds[line.word] = from_values(*values_of_fields(fields_of_line(line), table.key_of(words[1])))
+    return "betable_page", page(2**32 - 1, words[1], *bounds.values())
+
+
+def worked_scripts_in_values_leave_the_trees_that_they_leave():
+    """Each batch, get and scan of the worked scripts by packed bytes, if it can be said in values, beside the whole script: its rows, whether it is refused, and
+    the images of all trees after it. All other commands are run as they are."""
+    said, refused = dict.fromkeys(CALLS, 0), 0
+    for script, _, places in worked_scripts():
+        by_script, by_bytes, text = Raw(), Raw(), script.read_bytes()
+        for part in (text[start:end] for start, end in zip(places, places[1:])):
+            is_refused, rows = replied(by_script.session, part)
+            table = by_script.session.state.table
+            try:
+                if table is None:
+                    raise NotInValues
+                name, given = call_in_values(next(language.commands(part)), table)
+            except NotInValues:
+                by_bytes.session.replies(part)
+                continue
+            status, _, reply = by_bytes.call(name, given)
+            said[name] += 1
+            refused += is_refused
+            expect((script.name, part, status), (script.name, part, REFUSED if is_refused else DONE))
+            if status == DONE and name != "betable_apply":
+                tree = part.split()[1].decode() if name == "betable_page" else "primary"
+                expect((script.name, part, rows_of(reply, by_script.kinds(tree))[0]), (script.name, part, rows))
+            expect((script.name, part, by_bytes.images() == by_script.images()), (script.name, part, True))
+    expect((said["betable_apply"] > 140, said["betable_get"] > 30, said["betable_page"] > 50, refused > 10), (True, True, True, True))
+
+
+def replied(session, part):
+    """Whether a command is refused, and the rows of its reply."""
+    try:
+        replies = session.run(part)
+    except betable().Refused:
+        return True, []
+    return False, replies[0].rows if replies else []
 
 
 def rows_that_are_put_go_as_they_go_by_text():
@@ -731,6 +843,7 @@ def the_page_has_a_part_of_the_example_in_c():
 
 TESTS_OF_TEXTS = [
     changes_by_packed_bytes_and_by_script_leave_equal_trees,
+    worked_scripts_in_values_leave_the_trees_that_they_leave,
     rows_that_are_put_go_as_they_go_by_text,
     gets_and_pages_are_those_of_scans,
     a_page_after_a_row_repeats_and_loses_no_row,
