@@ -317,6 +317,16 @@ def typed_calls_in_rust_allocate_nothing_for_a_value():
     typed_calls_hold("allocations")
 
 
+def worked_scripts_by_typed_calls_in_rust_leave_the_trees_that_they_leave():
+    """Each batch, get and scan of the worked scripts that has plain values is a typed call; the program compares all else too, and prints how many there were."""
+    if is_installed("rustc", "clients/rust is"):
+        words = [word for script, _, places in worked_scripts() for word in ("--", script, *map(str, places))]
+        ended = subprocess.run([rust_program(HERE / "rust/scripts.rs"), *words[1:]], capture_output=True, text=True, timeout=SECONDS)
+        expect((ended.returncode, ended.stderr), (0, ""))
+        batches, gets, scans, refused = map(int, re.findall(r"\d+", ended.stdout))
+        expect((batches > 110, gets > 20, scans > 50, refused > 5), (True, True, True, True))
+
+
 def refused_memory_is_answered():
     """Each request, alone and with those after it: what is returned, what state is left, and that all memory is freed."""
     program = c_program(HERE / "c/refused_memory.c", "-Wl,--wrap=malloc,--wrap=realloc,--wrap=free")
@@ -361,6 +371,7 @@ TESTS_OF_TEXTS = [
     pages_in_rust_repeat_and_lose_no_row,
     wrong_typed_calls_in_rust_say_where_and_change_nothing,
     typed_calls_in_rust_allocate_nothing_for_a_value,
+    worked_scripts_by_typed_calls_in_rust_leave_the_trees_that_they_leave,
     refused_memory_is_answered,
     valgrind_finds_nothing,
 ]
