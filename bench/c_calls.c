@@ -165,6 +165,7 @@ static void sqlite_begin(void) {
   sql_put = prepared("INSERT OR REPLACE INTO t VALUES(?,?,?)");
   sql_get = prepared("SELECT city,qty FROM t WHERE id=?");
   sql_page = prepared("SELECT city,qty FROM t WHERE id>=? ORDER BY id LIMIT 100");
+  sql_sum = NULL;
 }
 
 static void sqlite_put(const Row *rows, size_t count) {
