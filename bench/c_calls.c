@@ -1,10 +1,9 @@
 // c_calls [ROWS [ROUNDS]]: the cost of one call from C to betable through include/betable.h, and to SQLite and LMDB through their own interfaces: puts of
-// one row, batches of a hundred, gets of a row, pages of a hundred rows from a key on, sums of the rows of a city, and one batch of 65,536. A row is an int, a
-// city and a quantity.
-// Rows are in C variables before and after a call. So a call of betable includes packing its bytes and unpacking its reply, a call of SQLite its bindings and
-// columns, and a call of LMDB the packing of key and value. The calls of betable are measured on packed bytes and as scripts; sums are always a script. Each
-// round gives each engine new, empty tables, and begins with a different engine. The results of all engines are compared. The program prints the processor
-// time of a call of betable on packed bytes, and the ratio of the others to it in the same round; both are medians of all rounds.
+// one row, batches of a hundred, gets of a row, pages of a hundred rows from a key on, sums of the rows of a city, and batches of 65,536 puts. A row is an
+// int, a city and a quantity. Rows are in C variables before and after a call. So a call of betable includes packing its bytes and unpacking its reply, a call
+// of SQLite its bindings and columns, and a call of LMDB the packing of key and value. The calls of betable are measured on packed bytes and as scripts; a page
+// is always packed. Each round gives each engine new, empty tables, and begins with a different engine. The results of all engines are compared. The program
+// prints the processor time of a call of betable on packed bytes, and the ratio of the others to it in the same round; both are medians of all rounds.
 //
 // betable is in memory, SQLite is ':memory:' without journal, and LMDB is on a file in memory, written in place and never synced. A put of one row is a
 // batch, a statement outside of a transaction, and a transaction; a batch of a hundred puts is a batch, and a transaction. Sums are over an index on the
@@ -80,7 +79,7 @@ static int64_t script_get(int64_t id) {
   return qty + (int64_t)strlen(city);
 }
 
-static int64_t betable_sum(const char *city, const char *next_city) {
+static int64_t script_sum(const char *city, const char *next_city) {
   long long count, total;
   run((size_t)sprintf(script, "sums by_city 1 qty\nfrom %s\nto %s\ngo\n", city, next_city));
   if (sscanf(reply, "sum %lld %lld ", &count, &total) != 2) fail("betable has not the sum");
@@ -142,6 +141,23 @@ static int64_t packed_page(int64_t id) {
   int64_t total = 0;
   for (const unsigned char *row = answer + 4; row < answer + count;) total += unpacked(&row);
   return total;
+}
+
+static unsigned char *add_city(unsigned char *at, const char *city) {
+  size_t length = strlen(city);
+  at = add(at, "\1\1", 2);
+  *at++ = (unsigned char)length;
+  return add(at, city, length);
+}
+
+static int64_t packed_sum(const char *city, const char *next_city) {
+  unsigned char *at = add_city(add_city(add(header(1), "\7by_city\3qty", 12), city), next_city);
+  size_t count = answered(betable_sums(&session, packed, (size_t)(at - packed), &fault));
+  if (count < 5 || count != 29 + (size_t)answer[4]) fail("betable has not the sum");
+  int64_t rows, total;
+  memcpy(&rows, answer + count - 24, 8);
+  memcpy(&total, answer + count - 16, 8);
+  return total + rows;
 }
 
 // ---- SQLite ----
@@ -352,8 +368,8 @@ static void lmdb_end(void) {
 // ---- the rounds ----
 
 static const Engine ENGINE[ENGINES] = {
-    {"betable", betable_begin, packed_put, betable_index, packed_get, packed_page, betable_sum, betable_end},
-    {"as scripts", betable_begin, script_put, betable_index, script_get, packed_page, betable_sum, betable_end},
+    {"betable", betable_begin, packed_put, betable_index, packed_get, packed_page, packed_sum, betable_end},
+    {"as scripts", betable_begin, script_put, betable_index, script_get, packed_page, script_sum, betable_end},
     {"SQLite", sqlite_begin, sqlite_put, sqlite_index, sqlite_get, sqlite_page, sqlite_sum, sqlite_end},
     {"LMDB", lmdb_begin, lmdb_put, lmdb_index, lmdb_get, lmdb_page, lmdb_sum, lmdb_end},
 };

@@ -18,7 +18,7 @@ from betable import language
 
 DONE, OUT_OF_MEMORY, NOT_OPEN, REFUSED = 0, 1, 3, 5
 SYNTAX, NO_TABLE, BAD_FIELD, BAD_LENGTH, NO_SUCH_TREE, BUILDING, NO_SUCH_COLUMN, NOT_INT = 1, 3, 6, 7, 8, 11, 15, 16
-CALLS = ("betable_apply", "betable_get", "betable_page", "betable_columns")
+CALLS = ("betable_apply", "betable_get", "betable_page", "betable_sums", "betable_columns")
 UNWRITTEN = (99, 98, 97)
 PUT, DEL, UPS = range(3)
 WORDS = ("set", "add", "max", "min")
@@ -77,6 +77,10 @@ def page(limit, tree="primary", lower=b"\0", upper=b"\0"):
     return header(limit) + value_bytes(tree) + lower + upper
 
 
+def sums(columns, tree="primary", column="qty", lower=b"\0", upper=b"\0"):
+    return header(columns) + value_bytes(tree) + value_bytes(column) + lower + upper
+
+
 class Bytes:
     """Bytes that are read from the front. What is not there raises the fault of their place."""
 
@@ -119,6 +123,17 @@ def rows_of(reply, kinds):
         places.append(len(reply) - len(bytes_left.rest))
         found.append(bytes_left.values(kinds, 0))
     return found, places
+
+
+def groups_of(reply, kinds):
+    """The groups of a reply: of each the number of rows, the sum, and its values."""
+    expect(reply[:4], b"BTV\x01")
+    found, bytes_left = [], Bytes(reply[4:])
+    while bytes_left.rest:
+        values = bytes_left.values(kinds, 0)
+        numbers = [int.from_bytes(bytes_left.take(size, (BAD_FIELD, 0, 0)), "little", signed=is_signed) for size, is_signed in ((8, False), (16, True))]
+        found.append((*numbers, *values))
+    return found
 
 
 def changes_of(given, kinds, keys):
@@ -305,21 +320,25 @@ def call_in_values(command, table):
     words = command.head.text.split()
     if command.head.word == b"get":
         return "betable_get", header(1) + values_bytes(values_of_line(command.head, table.key))
-    if not command.is_closed or len(words) != {b"batch": 1, b"scan": 2}.get(words[0]):
+    if not command.is_closed or len(words) != {b"batch": 1, b"scan": 2, b"sums": 4}.get(words[0]):
         raise NotInValues
     if words[0] == b"batch":
         return "betable_apply", changes(*(change_in_values(line, table) for line in command.messages()))
-    bounds = {b"from": b"\0", b"to": b"\0"}
+    tree, bounds = words[1].decode(), {b"from": b"\0", b"to": b"\0"}
     if [line.word for line in command.messages()] not in ([], [b"from"], [b"to"], [b"from", b"to"]) or not table.has_tree(words[1]):
         raise NotInValues
     for line in command.messages():
         bounds[line.word] = from_values(*values_of_fields(fields_of_line(line), table.key_of(words[1])))
-    return "betable_page", page(2**32 - 1, words[1], *bounds.values())
+    if words[0] == b"scan":
+        return "betable_page", page(2**32 - 1, tree, *bounds.values())
+    if not words[2].isdigit():
+        raise NotInValues
+    return "betable_sums", sums(int(words[2]), tree, words[3].decode(), *bounds.values())
 
 
 def worked_scripts_in_values_leave_the_trees_that_they_leave():
-    """Each batch, get and scan of the worked scripts by packed bytes, if it can be said in values, beside the whole script: its rows, whether it is refused, and
-    the images of all trees after it. All other commands are run as they are."""
+    """Each batch, get, scan and sums of the worked scripts by packed bytes, if it can be said in values, beside the whole script: its rows or groups, whether it
+    is refused, and the images of all trees after it. All other commands are run as they are."""
     said, refused = dict.fromkeys(CALLS, 0), 0
     for script, _, places in worked_scripts():
         by_script, by_bytes, text = Raw(), Raw(), script.read_bytes()
@@ -338,10 +357,12 @@ def worked_scripts_in_values_leave_the_trees_that_they_leave():
             refused += is_refused
             expect((script.name, part, status), (script.name, part, REFUSED if is_refused else DONE))
             if status == DONE and name != "betable_apply":
-                tree = part.split()[1].decode() if name == "betable_page" else "primary"
-                expect((script.name, part, rows_of(reply, by_script.kinds(tree))[0]), (script.name, part, rows))
+                words = part.decode().split()
+                kinds = by_script.kinds("primary" if name == "betable_get" else words[1])
+                found = groups_of(reply, kinds[: int(words[2])]) if name == "betable_sums" else rows_of(reply, kinds)[0]
+                expect((script.name, part, found), (script.name, part, rows))
             expect((script.name, part, by_bytes.images() == by_script.images()), (script.name, part, True))
-    expect((said["betable_apply"] > 140, said["betable_get"] > 30, said["betable_page"] > 50, refused > 10), (True, True, True, True))
+    expect([said[name] > least for name, least in zip(CALLS, (140, 30, 50, 20))] + [refused > 10], [True] * 5)
 
 
 def replied(session, part):
@@ -388,6 +409,37 @@ def gets_and_pages_are_those_of_scans():
                     expect((tree, bounds, limit, found), (tree, bounds, limit, wanted[:limit]))
                 expect(session.scan(tree, *(values or None for values in bounds)), wanted)
                 expect(list(session.iterate(tree, *(values or None for values in bounds), dice.randrange(1, 9))), wanted)
+
+
+def sums_are_those_of_scripts():
+    """Of random bounds, by each number of columns, in the rows and in the indexes: totals are those of ints of all sizes, and of so many that 64 bits are too few."""
+    largest = 0
+    for seed in range(6):
+        dice = random.Random(seed)
+        raw = filled(dice, 80)
+        session = raw.session
+        for tree, columns in (("primary", ("id", "qty")), ("by_city", ("id", "qty")), ("large", ("qty", "id"))):
+            whole, kinds = session.run(f"scan {tree}\ngo\n")[0].rows, raw.kinds(tree)
+            count = len(session.state.table.key_of(tree.encode()))
+            for _ in range(40):
+                bounds = [dice.choice(whole)[: dice.randrange(count + 1)] for _ in range(2)]
+                column, by = dice.choice(columns), dice.randrange(1, count + 1)
+                lines = "".join(f"{word} {betable().record(values)}\n" for word, values in zip(("from", "to"), bounds) if values)
+                wanted = session.run(f"sums {tree} {by} {column}\n{lines}go\n")[0].rows
+                found = groups_of(raw.reply("betable_sums", sums(by, tree, column, *(from_values(*values) for values in bounds))), kinds[:by])
+                expect((tree, by, column, bounds, found), (tree, by, column, bounds, wanted))
+                largest = max([largest, *(abs(group[1]) for group in found)])
+    expect(largest > 2**64, True)
+
+
+def sums_after_a_row_begin_with_the_next_one():
+    dice = random.Random(9)
+    raw = filled(dice)
+    for tree in ("primary", "by_city", "large"):
+        whole, keys = raw.session.scan(tree), len(raw.session.state.table.key_of(tree.encode()))
+        for place, row in enumerate(whole):
+            reply = raw.reply("betable_sums", sums(keys, tree, "qty", after_row(*row[:keys])))
+            expect((tree, row, [group[2:] for group in groups_of(reply, raw.kinds(tree)[:keys])]), (tree, row, [later[:keys] for later in whole[place + 1 :]]))
 
 
 def a_page_after_a_row_repeats_and_loses_no_row():
@@ -511,6 +563,25 @@ MALFORMED = [
     ("betable_page", page(1, "by_city", from_values(b"\xff")), (BAD_FIELD, 1, 1)),
     ("betable_page", page(1, "by_city", b"\0", from_values("Oslo", 1, True)), (BAD_LENGTH, 2, 0)),
     ("betable_page", page(1) + b"\0", (BAD_FIELD, 2, 0)),
+    ("betable_sums", b"", (SYNTAX, 0, 0)),
+    ("betable_sums", header(1), (BAD_FIELD, 0, 0)),
+    ("betable_sums", header(1) + value_bytes("primary"), (BAD_FIELD, 0, 0)),
+    ("betable_sums", sums(1, "nothing"), (NO_SUCH_TREE, 0, 0)),
+    ("betable_sums", sums(1, "begun"), (BUILDING, 0, 0)),
+    ("betable_sums", sums(1, column="nothing"), (NO_SUCH_COLUMN, 0, 0)),
+    ("betable_sums", sums(1, column=""), (NO_SUCH_COLUMN, 0, 0)),
+    ("betable_sums", sums(0), (NO_SUCH_COLUMN, 0, 0)),
+    ("betable_sums", sums(2), (NO_SUCH_COLUMN, 0, 0)),
+    ("betable_sums", sums(2**32 - 1), (NO_SUCH_COLUMN, 0, 0)),
+    ("betable_sums", sums(3, "by_city"), (NO_SUCH_COLUMN, 0, 0)),
+    ("betable_sums", sums(1, "large", "city"), (NO_SUCH_COLUMN, 0, 0)),
+    ("betable_sums", sums(1, column="city"), (NOT_INT, 0, 0)),
+    ("betable_sums", sums(1, "by_city", "ok"), (NOT_INT, 0, 0)),
+    ("betable_sums", sums(1, lower=b"\3"), (BAD_FIELD, 1, 0)),
+    ("betable_sums", sums(1, upper=b"\1\0"), (BAD_LENGTH, 2, 0)),
+    ("betable_sums", sums(1, upper=from_values(1)[:-1]), (BAD_FIELD, 2, 1)),
+    ("betable_sums", sums(1, "by_city", lower=after_row("Oslo")), (BAD_FIELD, 1, 2)),
+    ("betable_sums", sums(1) + b"\0", (BAD_FIELD, 2, 0)),
     ("betable_columns", b"", (SYNTAX, 0, 0)),
     ("betable_columns", header(0) + value_bytes("primary"), (SYNTAX, 0, 0)),
     ("betable_columns", header(1), (BAD_FIELD, 0, 0)),
@@ -550,15 +621,17 @@ def bytes_that_are_cut_are_refused_where_they_end():
         expect((at, raw.images()), (at, before))
     expect(raw.reply("betable_apply", whole), b"")
     expect([raw.session.get(key) for key in (1, 2, 3)], [(1, "Bergen, west", False, b"ab", 25), None, (3, "æ", False, b"", -1)])
-    # The same for a page of an index.
-    parts = [(header(5), (SYNTAX, 0, 0)), (value_bytes("by_city"), (BAD_FIELD, 0, 0)), (b"\1\2", (BAD_FIELD, 1, 0)), (value_bytes("a"), (BAD_FIELD, 1, 1))]
-    parts += [(value_bytes(7), (BAD_FIELD, 1, 2)), (b"\2", (BAD_FIELD, 2, 0)), (value_bytes("z"), (BAD_FIELD, 2, 1)), (value_bytes(9), (BAD_FIELD, 2, 2))]
-    whole, at = b"".join(part for part, _ in parts), 0
-    for part, fault in parts:
-        for end in range(at, at + len(part)):
-            expect((end, raw.call("betable_page", whole[:end])), (end, (REFUSED, fault, b"")))
-        at += len(part)
-    raw.reply("betable_page", whole)
+    # The same for a page of an index, and for sums of it.
+    bounds = [(b"\1\2", (BAD_FIELD, 1, 0)), (value_bytes("a"), (BAD_FIELD, 1, 1)), (value_bytes(7), (BAD_FIELD, 1, 2))]
+    bounds += [(b"\2", (BAD_FIELD, 2, 0)), (value_bytes("z"), (BAD_FIELD, 2, 1)), (value_bytes(9), (BAD_FIELD, 2, 2))]
+    for name, names in (("betable_page", ["by_city"]), ("betable_sums", ["by_city", "qty"])):
+        parts = [(header(2), (SYNTAX, 0, 0)), *((value_bytes(each), (BAD_FIELD, 0, 0)) for each in names), *bounds]
+        whole, at = b"".join(part for part, _ in parts), 0
+        for part, fault in parts:
+            for end in range(at, at + len(part)):
+                expect((name, end, raw.call(name, whole[:end])), (name, end, (REFUSED, fault, b"")))
+            at += len(part)
+        raw.reply(name, whole)
 
 
 def calls_without_a_table_or_on_a_closed_session_are_refused():
@@ -624,6 +697,7 @@ def random_bytes_are_refused_or_applied_as_they_say():
     everything = page(2**32 - 1)
     shown = raw.reply("betable_page", everything)
     others = [header(1) + value_bytes(3), page(3, "by_city", from_values("a"), after_row("b", 1)), page(2, lower=after_row(1)), header(1) + value_bytes("large")]
+    others += [sums(1, "by_city", lower=from_values("a")), sums(2, "large", "id", upper=after_row(7, 1))]
     for number in range(FUZZ):
         if dice.random() < 0.3:
             name, given = dice.choice(CALLS[1:]), mutated(dice, dice.choice(others))
@@ -789,7 +863,18 @@ def messages_of_many_shapes_keep_their_encoders_apart():
 # ---- C ----
 
 
-PRINTED = "get: 2 Bergen, west 15\npage:\n1 Oslo 30\n2 Bergen, west 15\npage:\n3 Tromsø 7\nrefused 6, item 2, column 2\n"
+PRINTED = """\
+get: 2 Bergen, west 15
+page:
+1 Oslo 30
+2 Bergen, west 15
+page:
+3 Oslo 7
+sums:
+Bergen, west: rows 1, sum 15
+Oslo: rows 2, sum 37
+refused 6, item 2, column 2
+"""
 
 
 def what_tests_share_is_built():
@@ -846,6 +931,8 @@ TESTS_OF_TEXTS = [
     worked_scripts_in_values_leave_the_trees_that_they_leave,
     rows_that_are_put_go_as_they_go_by_text,
     gets_and_pages_are_those_of_scans,
+    sums_are_those_of_scripts,
+    sums_after_a_row_begin_with_the_next_one,
     a_page_after_a_row_repeats_and_loses_no_row,
     keys_that_begin_alike_are_in_one_page_each,
     columns_are_those_of_the_tables_and_indexes,

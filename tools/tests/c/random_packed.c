@@ -11,12 +11,12 @@
 #include <sys/mman.h>
 #include <unistd.h>
 
-enum { CALLS = 4, UNWRITTEN = 99, MOST_ROWS = 60, ROOM = 1 << 16 };
+enum { CALLS = 5, UNWRITTEN = 99, MOST_ROWS = 60, ROOM = 1 << 16 };
 /* Syntax, BadField, BadLength, NoSuchTree, NoSuchColumn and NotInt: what these calls are refused as, while there is a table and its indexes are complete. */
 static const uint32_t REFUSALS = 1 << 1 | 1 << 6 | 1 << 7 | 1 << 8 | 1 << 15 | 1 << 16;
 
-static packed_call *const CALL[CALLS] = {betable_apply, betable_get, betable_page, betable_columns};
-static const char *const NAME[CALLS] = {"changes", "gets", "pages", "columns"};
+static packed_call *const CALL[CALLS] = {betable_apply, betable_get, betable_page, betable_sums, betable_columns};
+static const char *const NAME[CALLS] = {"changes", "gets", "pages", "sums", "columns"};
 static betable_session session = BETABLE_CLOSED;
 static unsigned char *room;
 static size_t page_size;
@@ -53,6 +53,7 @@ static void add_tree(message *to, const tree *of) { add_text(to, below(20) == 0 
 
 static void write_request(message *to, size_t call) {
     static const uint32_t LIMIT[] = {0, 1, 2, 5, UINT32_MAX};
+    static const char *const COLUMN[] = {"qty", "qty", "qty", "qty", "id", "id", "city", "nothing"};
     const tree *of = &TREE[below(TREES)];
     switch (call) {
     case 0:
@@ -65,6 +66,13 @@ static void write_request(message *to, size_t call) {
     case 2:
         begin(to, LIMIT[below(sizeof LIMIT / sizeof *LIMIT)]);
         add_tree(to, of);
+        add_bound(to, of);
+        add_bound(to, of);
+        break;
+    case 3:
+        begin(to, (uint32_t)(below(6) == 0 ? below(4) : 1 + below(of->keys)));
+        add_tree(to, of);
+        add_text(to, COLUMN[below(sizeof COLUMN / sizeof *COLUMN)]);
         add_bound(to, of);
         add_bound(to, of);
         break;
@@ -146,17 +154,23 @@ static size_t size_of_value(char kind, const unsigned char *at, size_t left) {
     return kind == 'f' && left > 0 && *at > 1 ? left + 1 : size;
 }
 
+/* The place after the first values of a row of the reply, which begins at a place. */
+static size_t end_of_values(size_t at, const char *kinds, size_t count) {
+    for (size_t place = 0; place < count; place++) {
+        size_t size = size_of_value(kinds[place], reply.at + at, reply.length - at);
+        if (size > reply.length - at) {
+            fail("a reply that ends within a value");
+        }
+        at += size;
+    }
+    return at;
+}
+
 /* The number of rows of the reply. */
 static size_t row_count(const char *kinds) {
     size_t count = 0;
     for (size_t at = 4; at < reply.length; count++) {
-        for (const char *kind = kinds; *kind != 0; kind++) {
-            size_t size = size_of_value(*kind, reply.at + at, reply.length - at);
-            if (size > reply.length - at) {
-                fail("a reply that ends within a value");
-            }
-            at += size;
-        }
+        at = end_of_values(at, kinds, strlen(kinds));
     }
     return count;
 }
@@ -199,6 +213,25 @@ static void check_columns(const tree *of) {
     }
 }
 
+/* The groups of the reply, each with a number of rows, and a sum of so many ints. */
+static void check_sums(const tree *of, size_t columns) {
+    if (columns < 1 || columns > of->keys) {
+        fail("another number of columns of a group");
+    }
+    for (size_t at = 4; at < reply.length; at += 24) {
+        at = end_of_values(at, of->kinds, columns);
+        if (reply.length - at < 24) {
+            fail("a group that is cut");
+        }
+        size_t count = number(reply.at + at, 8);
+        int64_t high;
+        memcpy(&high, reply.at + at + 16, sizeof high);
+        if (count < 1 || count > 4 * MOST_ROWS || high < -(int64_t)count || high >= (int64_t)count) {
+            fail("a number of rows, or a sum, that cannot be");
+        }
+    }
+}
+
 static void check_reply(size_t call) {
     if (call == 0) {
         if (reply.length != 0) {
@@ -217,6 +250,8 @@ static void check_reply(size_t call) {
         if (row_count(named()->kinds) > number(given.at + 4, 4)) {
             fail("more rows than the limit");
         }
+    } else if (call == 3) {
+        check_sums(named(), number(given.at + 4, 4));
     } else {
         check_columns(named());
     }
@@ -262,9 +297,7 @@ static int thin_out(void) {
         add_byte(&given, DEL);
         memcpy(given.at + given.length, reply.at + at, 8);
         given.length += 8;
-        for (const char *kind = TREE[0].kinds; *kind != 0; kind++) {
-            at += size_of_value(*kind, reply.at + at, reply.length - at);
-        }
+        at = end_of_values(at, TREE[0].kinds, strlen(TREE[0].kinds));
     }
     if (!is_done(0)) {
         fail("rows that cannot be deleted");

@@ -43,6 +43,19 @@ static void write_all(message *to) { write_page(to, UINT32_MAX, "primary"); }
 
 static void write_entries(message *to) { write_page(to, 30, "by_city"); }
 
+static void write_sums_of(message *to, uint32_t columns, const char *column) {
+    begin(to, columns);
+    add_text(to, "by_city");
+    add_text(to, column);
+    add_number(to, 0, 2);
+}
+
+static void write_sums(message *to) { write_sums_of(to, 1, "qty"); }
+
+static void write_many_sums(message *to) { write_sums_of(to, 2, "id"); }
+
+static void write_wrong_sums(message *to) { write_sums_of(to, 1, "city"); }
+
 static void write_wrong_page(message *to) { write_page(to, 30, "nothing"); }
 
 static void write_name(message *to) {
@@ -58,6 +71,9 @@ static const request REQUEST[] = {
     {"a page of all rows", betable_page, write_all, BETABLE_DONE},
     {"a page of an index", betable_page, write_entries, BETABLE_DONE},
     {"a page of no tree", betable_page, write_wrong_page, BETABLE_REFUSED},
+    {"sums of cities", betable_sums, write_sums, BETABLE_DONE},
+    {"sums of entries", betable_sums, write_many_sums, BETABLE_DONE},
+    {"sums of texts", betable_sums, write_wrong_sums, BETABLE_REFUSED},
     {"columns", betable_columns, write_name, BETABLE_DONE},
 };
 

@@ -2,11 +2,11 @@
 //!
 //!     scripts SCRIPT PLACE .. [-- SCRIPT PLACE ..] ..
 //!
-//! PLACE .. are the places at which the commands of a script begin, and its end. A batch, a get or a scan whose lines are plain, and say values of their columns,
-//! is a typed call in one session; every other command is run as it is. After each command both sessions have the same replies, and the same images of all
-//! trees. Prints the number of typed calls of each kind.
+//! PLACE .. are the places at which the commands of a script begin, and its end. A batch, a get, a scan or sums whose lines are plain, and say values of their
+//! columns, are a typed call in one session; every other command is run as it is. After each command both sessions have the same replies, and the same images of
+//! all trees. Prints the number of typed calls of each kind.
 
-use betable::{Fault, Op, Reply, Row, Session, Value};
+use betable::{Fault, Op, Reply, Row, Session, Sum, Value};
 use std::collections::BTreeSet;
 
 /// The columns of a table, as its line says.
@@ -19,7 +19,8 @@ struct Table<'t> {
 enum Call<'t> {
     Batch(Vec<Change<'t>>),
     Get(Vec<Owned>),
-    Scan(&'t str, Vec<Owned>, Vec<Owned>),
+    Scan(&'t str, [Vec<Owned>; 2]),
+    Sums(&'t str, u32, &'t str, [Vec<Owned>; 2]),
 }
 
 enum Change<'t> {
@@ -57,8 +58,12 @@ impl Owned {
 }
 
 fn bytes_of(digits: &str) -> Option<Vec<u8>> {
-    let pairs = digits.as_bytes().chunks(2).map(|pair| u8::from_str_radix(std::str::from_utf8(pair).ok()?, 16).ok());
-    (digits.len() % 2 == 0 && digits.len() <= 510 && digits.bytes().all(|digit| digit.is_ascii_hexdigit())).then(|| pairs.collect())?
+    let nibble = |digit: u8| char::from(digit).to_digit(16);
+    let byte = |pair: &[u8]| match pair {
+        [high, low] => Some((16 * nibble(*high)? + nibble(*low)?) as u8),
+        _ => None,
+    };
+    digits.as_bytes().chunks(2).map(byte).collect::<Option<Vec<u8>>>().filter(|bytes| bytes.len() <= 255)
 }
 
 fn hexadecimal(bytes: &[u8]) -> String {
@@ -93,8 +98,8 @@ impl<'t> Table<'t> {
         match word {
             "put" => self.values(&fields, self.columns.len()).map(Change::Put),
             "del" => self.values(&fields, self.keys).map(Change::Delete),
-            "ups" if fields.len() > self.keys && (fields.len() - self.keys) % 3 == 0 => {
-                let operations = fields[self.keys..].chunks(3).map(|each| self.operation(each)).collect::<Option<_>>()?;
+            "ups" => {
+                let operations = fields.get(self.keys..)?.chunks(3).map(|each| self.operation(each)).collect::<Option<_>>()?;
                 Some(Change::Upsert(self.values(&fields[..self.keys], self.keys)?, operations))
             }
             _ => None,
@@ -102,10 +107,14 @@ impl<'t> Table<'t> {
     }
 
     fn operation(&self, fields: &[&'t str]) -> Option<(&'t str, &'t str, Owned)> {
-        let (word, name) = (fields[0], fields[1]);
-        let (_, kind) = self.columns.iter().find(|(other, _)| *other == name)?;
-        let is_number = ["add", "max", "min"].contains(&word) && *kind == "int";
-        (is_number || word == "set").then_some((word, name, Owned::of(fields[2], kind)?))
+        match *fields {
+            [word, name, field] => {
+                let (_, kind) = self.columns.iter().find(|(other, _)| *other == name)?;
+                let is_number = ["add", "max", "min"].contains(&word) && *kind == "int";
+                (is_number || word == "set").then_some((word, name, Owned::of(field, kind)?))
+            }
+            _ => None,
+        }
     }
 
     /// The typed call that does what a command does. Bounds are only those of the rows.
@@ -115,21 +124,23 @@ impl<'t> Table<'t> {
         if let Some(record) = head.strip_prefix("get ") {
             return self.values(&plain_fields(record)?, self.keys).map(Call::Get);
         }
-        match (head.split_once(' '), lines.pop()) {
-            (None, Some("end")) if head == "batch" => lines.iter().map(|line| self.change(line)).collect::<Option<_>>().map(Call::Batch),
-            (Some(("scan", tree)), Some("go")) => {
-                let mut bounds = [Vec::new(), Vec::new()];
-                for line in lines {
-                    let (word, record) = line.split_once(' ').filter(|_| tree == "primary")?;
-                    let fields = plain_fields(record)?;
-                    let place = ["from", "to"].iter().position(|each| *each == word).filter(|place| bounds[*place].is_empty())?;
-                    bounds[place] = self.values(&fields, fields.len().min(self.keys))?;
-                }
-                let [from, to] = bounds;
-                Some(Call::Scan(tree, from, to))
-            }
+        match (head.split(' ').collect::<Vec<_>>().as_slice(), lines.pop()) {
+            (["batch"], Some("end")) => lines.iter().map(|line| self.change(line)).collect::<Option<_>>().map(Call::Batch),
+            (["scan", tree], Some("go")) => Some(Call::Scan(tree, self.bounds(tree, &lines)?)),
+            (["sums", tree, columns, column], Some("go")) => Some(Call::Sums(tree, columns.parse().ok()?, column, self.bounds(tree, &lines)?)),
             _ => None,
         }
+    }
+
+    fn bounds(&self, tree: &str, lines: &[&str]) -> Option<[Vec<Owned>; 2]> {
+        let mut bounds = [Vec::new(), Vec::new()];
+        for line in lines {
+            let (word, record) = line.split_once(' ').filter(|_| tree == "primary")?;
+            let fields = plain_fields(record)?;
+            let place = ["from", "to"].iter().position(|each| *each == word).filter(|place| bounds[*place].is_empty())?;
+            bounds[place] = self.values(&fields, fields.len().min(self.keys))?;
+        }
+        Some(bounds)
     }
 }
 
@@ -172,7 +183,11 @@ fn reply(session: &mut Session, call: &Call<'_>) -> Result<Reply, Fault> {
     match call {
         Call::Batch(changes) => apply(session, changes).map(|()| Reply::Line("batch".to_string())),
         Call::Get(key) => Ok(session.get(&values(key))?.map_or(Reply::None, |row| Reply::Row(record(row)))),
-        Call::Scan(tree, from, to) => {
+        Call::Sums(tree, columns, column, [from, to]) => {
+            let sums = session.sums(tree, *columns, column, &values(from), &values(to))?;
+            Ok(Reply::Sums(sums.map(|group| Sum { count: group.count, total: group.total.to_string(), group: record(group.values) }).collect()))
+        }
+        Call::Scan(tree, [from, to]) => {
             let (mut rows, mut found) = (session.scan(tree, &values(from), &values(to))?, Vec::new());
             while let Some(row) = rows.next()? {
                 found.push(record(row));
@@ -187,8 +202,8 @@ fn images(session: &mut Session, trees: &BTreeSet<&str>) -> Result<Vec<u8>, Faul
     Ok(session.run(script.as_bytes())?.as_bytes().to_vec())
 }
 
-/// Counts the typed calls: batches, gets, scans, and those of them that are refused.
-fn check(path: &str, places: &[String], counts: &mut [usize; 4]) -> Result<(), Fault> {
+/// Counts the typed calls: batches, gets, scans, sums, and those of them that are refused.
+fn check(path: &str, places: &[String], counts: &mut [usize; 5]) -> Result<(), Fault> {
     let script = std::fs::read(path).expect("a script");
     let places: Vec<usize> = places.iter().map(|place| place.parse().expect("a place")).collect();
     let (mut by_script, mut typed, mut table, mut trees) = (Session::new()?, Session::new()?, None, BTreeSet::from(["primary"]));
@@ -204,18 +219,22 @@ fn check(path: &str, places: &[String], counts: &mut [usize; 4]) -> Result<(), F
             }
             _ => {}
         }
-        let Some(call) = call else {
-            assert_eq!(typed.run(command)?.iter().next(), wanted, "{path}: {text}");
-            continue;
+        let found = match &call {
+            Some(call) => reply(&mut typed, call),
+            None => {
+                assert_eq!(typed.run(command)?.iter().next(), wanted, "{path}: {text}");
+                continue;
+            }
         };
         counts[match call {
-            Call::Batch(_) => 0,
-            Call::Get(_) => 1,
-            Call::Scan(..) => 2,
+            Some(Call::Batch(_)) => 0,
+            Some(Call::Get(_)) => 1,
+            Some(Call::Scan(..)) => 2,
+            _ => 3,
         }] += 1;
-        match (reply(&mut typed, &call), wanted) {
+        match (found, wanted) {
             // The refusal of a call is the first one, and that of a script the one with the smallest number.
-            (Err(Fault::Refused { .. }), Some(Reply::Refused(_))) => counts[3] += 1,
+            (Err(Fault::Refused { .. }), Some(Reply::Refused(_))) => counts[4] += 1,
             (Ok(Reply::Line(word)), Some(Reply::Line(line))) => assert_eq!(line.split(' ').next(), Some(word.as_str()), "{path}: {text}"),
             (found, wanted) => assert_eq!(Some(found?), wanted, "{path}: {text}"),
         }
@@ -226,10 +245,10 @@ fn check(path: &str, places: &[String], counts: &mut [usize; 4]) -> Result<(), F
 
 fn main() -> Result<(), Fault> {
     let words: Vec<String> = std::env::args().skip(1).collect();
-    let mut counts = [0; 4];
+    let mut counts = [0; 5];
     for script in words.split(|word| word == "--") {
         check(&script[0], &script[1..], &mut counts)?;
     }
-    println!("{} batches, {} gets, {} scans, {} refused", counts[0], counts[1], counts[2], counts[3]);
+    println!("{} batches, {} gets, {} scans, {} sums, {} refused", counts[0], counts[1], counts[2], counts[3], counts[4]);
     Ok(())
 }
