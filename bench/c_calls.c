@@ -373,7 +373,8 @@ static const Engine ENGINE[ENGINES] = {
     {"SQLite", sqlite_begin, sqlite_put, sqlite_index, sqlite_get, sqlite_page, sqlite_sum, sqlite_end},
     {"LMDB", lmdb_begin, lmdb_put, lmdb_index, lmdb_get, lmdb_page, lmdb_sum, lmdb_end},
 };
-static const char *const STEP[STEPS] = {"put of one row", "batch of a hundred puts", "get of a row", "page of a hundred rows", "sums of a city", "batch of 65,536 puts"};
+static const char *const STEP[STEPS] = {"put of one row",         "batch of a hundred puts", "get of a row",
+                                        "page of a hundred rows", "sums of a city",          "batch of 65,536 puts"};
 
 static double processor_seconds(void) {
   struct timespec now;

@@ -337,8 +337,8 @@ def call_in_values(command, table):
 
 
 def worked_scripts_in_values_leave_the_trees_that_they_leave():
-    """Each batch, get, scan and sums of the worked scripts by packed bytes, if it can be said in values, beside the whole script: its rows or groups, whether it
-    is refused, and the images of all trees after it. All other commands are run as they are."""
+    """Each batch, get, scan and sums of the worked scripts by packed bytes, if it can be said in values, beside the script: its rows or groups, whether it is
+    refused, and the images of all trees after it. All other commands are run as they are."""
     said, refused = dict.fromkeys(CALLS, 0), 0
     for script, _, places in worked_scripts():
         by_script, by_bytes, text = Raw(), Raw(), script.read_bytes()
@@ -412,7 +412,7 @@ def gets_and_pages_are_those_of_scans():
 
 
 def sums_are_those_of_scripts():
-    """Of random bounds, by each number of columns, in the rows and in the indexes: totals are those of ints of all sizes, and of so many that 64 bits are too few."""
+    """Of random bounds and numbers of columns, in the rows and in the indexes. Some totals need more than 64 bits."""
     largest = 0
     for seed in range(6):
         dice = random.Random(seed)

@@ -3,8 +3,8 @@
 //!     scripts SCRIPT PLACE .. [-- SCRIPT PLACE ..] ..
 //!
 //! PLACE .. are the places at which the commands of a script begin, and its end. A batch, a get, a scan or sums whose lines are plain, and say values of their
-//! columns, are a typed call in one session; every other command is run as it is. After each command both sessions have the same replies, and the same images of
-//! all trees. Prints the number of typed calls of each kind.
+//! columns, are a typed call in one session; every other command is run as it is. After each command both sessions have the same replies, and the same images
+//! of all trees. Prints the number of typed calls of each kind.
 
 use betable::{Fault, Op, Reply, Row, Session, Sum, Value};
 use std::collections::BTreeSet;
