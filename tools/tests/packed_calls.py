@@ -689,21 +689,142 @@ def applied(rows, found):
             rows[values[0]] = tuple(row)
 
 
-def random_bytes_are_refused_or_applied_as_they_say():
-    """Random and mutated bytes of each call. The reader of this file says of changes what they are, or why and where they are refused; rows are those of a
-    dict. A call that is refused changes no row, and one that only reads changes none."""
+# Of the trees of SCHEMA: the kinds of a row, the number of its key columns, the columns by name, and the rows, of those of the table.
+TREES = {
+    "primary": (["int", "text", "flag", "bytes", "int"], 1, ["id", "city", "ok", "raw", "qty"], lambda rows: rows),
+    "by_city": (["text", "int", "flag", "int"], 2, ["city", "id", "ok", "qty"], lambda rows: [(row[1], row[0], row[2], row[4]) for row in rows]),
+    "large": (["int", "int"], 2, ["qty", "id"], lambda rows: [(row[4], row[0]) for row in rows if row[4] >= 6]),
+}
+
+
+def order(values):
+    """What the values of keys are compared by."""
+    return tuple([value.encode() if isinstance(value, str) else value for value in values])
+
+
+def bound_of(read, kinds, item):
+    """The first values of a key, and whether the bound is after the row with them. None if there is no bound."""
+    code = read.take(1, (BAD_FIELD, item, 0))[0]
+    if code > 2:
+        raise Fault(BAD_FIELD, item, 0)
+    if code == 0:
+        return None
+    count = read.take(1, (BAD_FIELD, item, 0))[0] if code == 1 else len(kinds)
+    if not 1 <= count <= len(kinds):
+        raise Fault(BAD_LENGTH, item, 0)
+    return order(read.values(kinds[:count], item)), code == 2
+
+
+def is_before(row, bound):
+    values, is_after = bound
+    first = order(row[: len(values)])
+    return first < values or is_after and first == values
+
+
+def rows_between(read, tree, rows):
+    """The rows of a tree between the two bounds that end the bytes, in order."""
+    kinds, keys, _, of_tree = TREES[tree]
+    lower, upper = bound_of(read, kinds[:keys], 1), bound_of(read, kinds[:keys], 2)
+    if read.rest:
+        raise Fault(BAD_FIELD, 2, 0)
+    found = sorted(of_tree(rows.values()), key=order)
+    return [row for row in found if not (lower and is_before(row, lower)) and (upper is None or is_before(row, upper))]
+
+
+def grouped(found, columns, place):
+    """Of each group of rows the number of rows, the sum, and the first values."""
+    groups = {}
+    for row in found:
+        count, total = groups.get(row[:columns], (0, 0))
+        groups[row[:columns]] = (count + 1, total + row[place])
+    return [(*numbers, *first) for first, numbers in groups.items()]
+
+
+def found_by(name, given, rows):
+    """What a call that only reads finds among rows: rows, groups, or the number of key columns and the names of all."""
+    read = Bytes(given)
+    if read.take(4, (SYNTAX, 0, 0)) != b"BTV\x01":
+        raise Fault(SYNTAX, 0, 0)
+    number = struct.unpack("<I", read.take(4, (SYNTAX, 0, 0)))[0]
+    if name in ("betable_page", "betable_sums"):
+        names = [read.value("text", (BAD_FIELD, 0, 0)) for _ in range(1 if name == "betable_page" else 2)]
+        found = rows_between(read, tree_of(names[0]), rows)
+        return found[:number] if name == "betable_page" else grouped(found, number, place_to_sum(*names, number))
+    if number != 1:
+        raise Fault(SYNTAX, 0, 0)
+    wanted = read.value("int", (BAD_FIELD, 1, 1)) if name == "betable_get" else read.value("text", (BAD_FIELD, 0, 0))
+    if read.rest:
+        raise Fault(BAD_FIELD, 1, 0)
+    if name == "betable_columns":
+        return TREES[tree_of(wanted)][1:3]
+    return [rows[wanted]] if wanted in rows else []
+
+
+def tree_of(name):
+    if name not in TREES:
+        raise Fault(NO_SUCH_TREE, 0, 0)
+    return name
+
+
+def place_to_sum(tree, column, number):
+    """The place of the column to sum by groups of that many columns."""
+    kinds, keys, names, _ = TREES[tree]
+    if column not in names or not 1 <= number <= keys:
+        raise Fault(NO_SUCH_COLUMN, 0, 0)
+    if kinds[names.index(column)] != "int":
+        raise Fault(NOT_INT, 0, 0)
+    return names.index(column)
+
+
+def read_reply(name, given, reply):
+    """What a reply has: rows, groups, or the number of key columns and the names of all."""
+    if name == "betable_get":
+        return rows_of(reply, TREES["primary"][0])[0]
+    kinds, keys, names, _ = TREES[given[9 : 9 + given[8]].decode()]
+    if name == "betable_page":
+        return rows_of(reply, kinds)[0]
+    if name == "betable_sums":
+        return groups_of(reply, kinds[: struct.unpack("<I", given[4:8])[0]])
+    codes = {"int": 0, "text": 1, "flag": 2, "bytes": 4}
+    expect(reply, b"BTV\x01" + struct.pack("<q", keys) + b"".join(bytes([codes[kind]]) + value_bytes(each) for kind, each in zip(kinds, names)))
+    return keys, names
+
+
+def random_request(dice, name):
+    """The bytes of a call that only reads."""
+    if name == "betable_get":
+        return header(1) + value_bytes(dice.randrange(-12, 33))
+    tree = dice.choice([*TREES, "nothing"] if dice.random() < 0.2 else [*TREES])
+    if name == "betable_columns":
+        return header(1) + value_bytes(tree)
+    row = random_row(dice)
+    keys = {"by_city": (row[1], row[0]), "large": (row[4], row[0])}.get(tree, row[:1])
+    bounds = [dice.choice([b"\0", from_values(*keys[: dice.randrange(1, len(keys) + 1)]), after_row(*keys)]) for _ in range(2)]
+    if name == "betable_page":
+        return page(dice.choice([0, 1, 2, 5, 2**32 - 1]), tree, *bounds)
+    return sums(dice.randrange(4), tree, dice.choice(["qty", "qty", "qty", "id", "city", "ok", "nothing"]), *bounds)
+
+
+def random_bytes_are_refused_or_answered_as_they_say():
+    """Random and mutated bytes of each call. The reader of this file says of changes what they are, and of requests what they find, or why and where they are
+    refused; rows are those of a dict. A call that is refused changes no row, and one that only reads changes none."""
     dice = random.Random(int(SEED))
-    raw, rows, kinds, refused, done = Raw(SCHEMA), {}, ["int", "text", "flag", "bytes", "int"], 0, 0
+    raw, rows, kinds, refused, done, read = Raw(SCHEMA), {}, TREES["primary"][0], 0, 0, 0
     everything = page(2**32 - 1)
     shown = raw.reply("betable_page", everything)
-    others = [header(1) + value_bytes(3), page(3, "by_city", from_values("a"), after_row("b", 1)), page(2, lower=after_row(1)), header(1) + value_bytes("large")]
-    others += [sums(1, "by_city", lower=from_values("a")), sums(2, "large", "id", upper=after_row(7, 1))]
     for number in range(FUZZ):
         if dice.random() < 0.3:
-            name, given = dice.choice(CALLS[1:]), mutated(dice, dice.choice(others))
+            name = dice.choice(CALLS[1:])
+            given = random_request(dice, name if dice.random() < 0.9 else dice.choice(CALLS[1:]))
+            given = mutated(dice, given) if dice.random() < 0.7 else given
             status, fault, reply = raw.call(name, given)
-            expect((given, status in (DONE, REFUSED), (fault == UNWRITTEN) == (status == DONE)), (given, True, True))
-            expect((given, reply[:4]), (given, b"BTV\x01" if status == DONE else b""))
+            try:
+                found = found_by(name, given, rows)
+                expect((name, given, status, fault), (name, given, DONE, UNWRITTEN))
+                expect((name, given, read_reply(name, given, reply)), (name, given, found))
+                read += 1
+            except Fault as wanted:
+                expect((name, given, status, fault, reply), (name, given, REFUSED, wanted.args, b""))
         else:
             given = changes(*(random_change(dice)[1] for _ in range(dice.choice([1, 1, 2, 4]))))
             given = mutated(dice, given) if dice.random() < 0.95 else dice.randbytes(dice.randrange(40))
@@ -723,7 +844,7 @@ def random_bytes_are_refused_or_applied_as_they_say():
                     shown = raw.reply("betable_page", everything)
                 expect((given, rows_of(shown, kinds)[0]), (given, [rows[key] for key in sorted(rows)]))
         expect((given, raw.reply("betable_page", everything) == shown), (given, True))
-    expect((refused > FUZZ // 5, done > FUZZ // 10), (True, True))
+    expect((refused > FUZZ // 5, done > FUZZ // 10, read > FUZZ // 10), (True, True, True))
     by_city = sorted((row[1].encode(), row[0], row[2], row[4]) for row in rows.values())
     expect([(row[0].encode(), *row[1:]) for row in raw.session.scan("by_city")], by_city)
 
@@ -939,7 +1060,7 @@ TESTS_OF_TEXTS = [
     malformed_bytes_are_refused_at_their_place_and_change_nothing,
     bytes_that_are_cut_are_refused_where_they_end,
     calls_without_a_table_or_on_a_closed_session_are_refused,
-    random_bytes_are_refused_or_applied_as_they_say,
+    random_bytes_are_refused_or_answered_as_they_say,
     refusals_of_packed_bytes_are_those_of_text,
     limits_and_pages_are_checked,
     rows_that_change_while_they_are_read_come_once,
