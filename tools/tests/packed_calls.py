@@ -18,7 +18,7 @@ from betable import language
 
 DONE, OUT_OF_MEMORY, NOT_OPEN, REFUSED = 0, 1, 3, 5
 SYNTAX, NO_TABLE, BAD_FIELD, BAD_LENGTH, NO_SUCH_TREE, BUILDING, NO_SUCH_COLUMN, NOT_INT = 1, 3, 6, 7, 8, 11, 15, 16
-CALLS = ("betable_apply", "betable_get", "betable_page", "betable_sums", "betable_columns")
+CALLS = ("betable_apply", "betable_get", "betable_page", "betable_sums", "betable_columns", "betable_usage")
 UNWRITTEN = (99, 98, 97)
 PUT, DEL, UPS = range(3)
 WORDS = ("set", "add", "max", "min")
@@ -182,6 +182,11 @@ class Raw:
 
     def __init__(self, script=""):
         self.session = betable().Session()
+        # Those that the client does not make are of the types of the others.
+        library = self.session._library
+        for name in CALLS:
+            function = getattr(library, name)
+            function.argtypes, function.restype = library.betable_apply.argtypes, library.betable_apply.restype
         if script:
             self.session.run(script)
 
@@ -497,6 +502,24 @@ def columns_are_those_of_the_tables_and_indexes():
     expect((found, found[3].name, found[3].kind, found[3].is_key), ([("qty", "int", True), ("land", "text", True), ("id", "int", True), ("ok", "flag", False)], "ok", "flag", False))
 
 
+def usage_is_that_of_the_image():
+    """The rows of the leaves, the messages of the inner nodes, and the height, of trees that are empty, of one leaf, and of some levels."""
+    seen = set()
+    for seed in range(4):
+        dice = random.Random(seed)
+        raw = Raw(SCHEMA + "index begun on ok\n")
+        for count in (0, 1, 2, 5, 40, 100):
+            raw.apply(*(random_change(dice)[1] for _ in range(count)))
+            for tree in (*TREES, "begun"):
+                lines = raw.session.replies(f"image {tree}\n").decode().splitlines()
+                counts = {word: sum(int(line.split()[-1]) for line in lines if line.split()[0] == word) for word in ("leaf", "inner")}
+                height = int(lines[0].split()[-1])
+                reply = raw.reply("betable_usage", header(1) + value_bytes(tree))
+                expect((seed, count, tree, reply), (seed, count, tree, b"BTV\x01" + struct.pack("<QQQ", counts["leaf"], counts["inner"], height)))
+                seen.add((min(height, 3), counts["inner"] > 0))
+    expect(seen >= {(1, False), (2, True), (3, True)}, True)
+
+
 # ---- bytes that are none of the layout ----
 
 ROW = (1, "Oslo", True, b"\0\xff", 30)
@@ -588,6 +611,12 @@ MALFORMED = [
     ("betable_columns", header(1) + b"\x08primary", (BAD_FIELD, 0, 0)),
     ("betable_columns", header(1) + value_bytes("primary") + b"\0", (BAD_FIELD, 1, 0)),
     ("betable_columns", header(1) + value_bytes("nothing"), (NO_SUCH_TREE, 0, 0)),
+    ("betable_usage", b"", (SYNTAX, 0, 0)),
+    ("betable_usage", header(2) + value_bytes("primary"), (SYNTAX, 0, 0)),
+    ("betable_usage", header(1), (BAD_FIELD, 0, 0)),
+    ("betable_usage", header(1) + b"\x08primary", (BAD_FIELD, 0, 0)),
+    ("betable_usage", header(1) + value_bytes("primary") + b"\0", (BAD_FIELD, 1, 0)),
+    ("betable_usage", header(1) + value_bytes("nothing"), (NO_SUCH_TREE, 0, 0)),
 ]
 
 
@@ -688,6 +717,9 @@ def applied(rows, found):
                     row[place] = value if operation == 0 else max(row[place], value) if operation == 2 else min(row[place], value)
             rows[values[0]] = tuple(row)
 
+
+# The calls whose replies follow from the rows.
+READS = ("betable_get", "betable_page", "betable_sums", "betable_columns")
 
 # Of the trees of SCHEMA: the kinds of a row, the number of its key columns, the columns by name, and the rows, of those of the table.
 TREES = {
@@ -814,8 +846,8 @@ def random_bytes_are_refused_or_answered_as_they_say():
     shown = raw.reply("betable_page", everything)
     for number in range(FUZZ):
         if dice.random() < 0.3:
-            name = dice.choice(CALLS[1:])
-            given = random_request(dice, name if dice.random() < 0.9 else dice.choice(CALLS[1:]))
+            name = dice.choice(READS)
+            given = random_request(dice, name if dice.random() < 0.9 else dice.choice(READS))
             given = mutated(dice, given) if dice.random() < 0.7 else given
             status, fault, reply = raw.call(name, given)
             try:
@@ -1057,6 +1089,7 @@ TESTS_OF_TEXTS = [
     a_page_after_a_row_repeats_and_loses_no_row,
     keys_that_begin_alike_are_in_one_page_each,
     columns_are_those_of_the_tables_and_indexes,
+    usage_is_that_of_the_image,
     malformed_bytes_are_refused_at_their_place_and_change_nothing,
     bytes_that_are_cut_are_refused_where_they_end,
     calls_without_a_table_or_on_a_closed_session_are_refused,

@@ -11,12 +11,12 @@
 #include <sys/mman.h>
 #include <unistd.h>
 
-enum { CALLS = 5, UNWRITTEN = 99, MOST_ROWS = 60, ROOM = 1 << 16 };
+enum { CALLS = 6, UNWRITTEN = 99, MOST_ROWS = 60, ROOM = 1 << 16 };
 /* Syntax, BadField, BadLength, NoSuchTree, NoSuchColumn and NotInt: what these calls are refused as, while there is a table and its indexes are complete. */
 static const uint32_t REFUSALS = 1 << 1 | 1 << 6 | 1 << 7 | 1 << 8 | 1 << 15 | 1 << 16;
 
-static packed_call *const CALL[CALLS] = {betable_apply, betable_get, betable_page, betable_sums, betable_columns};
-static const char *const NAME[CALLS] = {"changes", "gets", "pages", "sums", "columns"};
+static packed_call *const CALL[CALLS] = {betable_apply, betable_get, betable_page, betable_sums, betable_columns, betable_usage};
+static const char *const NAME[CALLS] = {"changes", "gets", "pages", "sums", "columns", "usage"};
 static betable_session session = BETABLE_CLOSED;
 static unsigned char *room;
 static size_t page_size;
@@ -252,8 +252,10 @@ static void check_reply(size_t call) {
         }
     } else if (call == 3) {
         check_sums(named(), number(given.at + 4, 4));
-    } else {
+    } else if (call == 4) {
         check_columns(named());
+    } else if (reply.length != 28 || number(reply.at + 20, 8) < 1) {
+        fail("another length, or no height");
     }
 }
 

@@ -75,6 +75,7 @@ static const request REQUEST[] = {
     {"sums of entries", betable_sums, write_many_sums, BETABLE_DONE},
     {"sums of texts", betable_sums, write_wrong_sums, BETABLE_REFUSED},
     {"columns", betable_columns, write_name, BETABLE_DONE},
+    {"usage", betable_usage, write_name, BETABLE_DONE},
 };
 
 /* What a call gives, and the images after it. */
