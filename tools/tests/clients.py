@@ -313,6 +313,10 @@ def typed_sums_in_rust_are_those_of_replies():
     typed_calls_hold("sums")
 
 
+def typed_usage_in_rust_is_that_of_the_image():
+    typed_calls_hold("usage")
+
+
 def wrong_typed_calls_in_rust_say_where_and_change_nothing():
     typed_calls_hold("wrong")
 
@@ -374,6 +378,7 @@ TESTS_OF_TEXTS = [
     typed_reads_in_rust_give_the_rows_of_replies,
     pages_in_rust_repeat_and_lose_no_row,
     typed_sums_in_rust_are_those_of_replies,
+    typed_usage_in_rust_is_that_of_the_image,
     wrong_typed_calls_in_rust_say_where_and_change_nothing,
     typed_calls_in_rust_allocate_nothing_for_a_value,
     worked_scripts_by_typed_calls_in_rust_leave_the_trees_that_they_leave,

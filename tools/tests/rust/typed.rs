@@ -1,10 +1,10 @@
 //! Typed calls beside scripts that do the same, and wrong typed calls.
 //!
-//!     typed changes | reads | pages | sums | wrong | allocations
+//!     typed changes | reads | pages | sums | usage | wrong | allocations
 //!
 //! The status is not 0 if what the word names does not hold, and a line says where.
 
-use betable::{Fault, FromValue, Group, Kind, Op, Packer, Refusal, Reply, Row, Session, Sum, Value, Values, quoted};
+use betable::{Fault, FromValue, Group, Kind, Op, Packer, Refusal, Reply, Row, Session, Sum, Usage, Value, Values, quoted};
 use std::alloc::{GlobalAlloc, Layout, System};
 use std::sync::atomic::{AtomicUsize, Ordering};
 
@@ -284,6 +284,35 @@ fn sum_of_reply(group: Group<'_>) -> Sum {
     Sum { count: group.count, total: group.total.to_string(), group: group.values.values().map(field).collect() }
 }
 
+/// The use of a tree, as its image has it: the rows of the leaves, the messages of the inner nodes, and the height.
+fn usage_of_image(session: &mut Session, tree: &str) -> Result<Usage, Fault> {
+    let text = String::from_utf8_lossy(session.run(format!("image {tree}\n").as_bytes())?.as_bytes()).into_owned();
+    let mut usage = Usage { rows: 0, messages: 0, height: 0 };
+    for line in text.lines() {
+        let words: Vec<&str> = line.split_whitespace().collect();
+        match *words.as_slice() {
+            ["image", _, "height", height] => usage.height = height.parse().expect("a height"),
+            ["leaf", rows] => usage.rows += rows.parse::<u64>().expect("a number of rows"),
+            ["inner", _, messages] => usage.messages += messages.parse::<u64>().expect("a number of messages"),
+            _ => {}
+        }
+    }
+    Ok(usage)
+}
+
+fn check_usage() -> Result<(), Fault> {
+    for rounds in [0, 1, 3, 10, 40] {
+        let (_, mut typed) = sessions(rounds)?;
+        for tree in ["primary", "by_city"] {
+            let expected = usage_of_image(&mut typed, tree)?;
+            assert_eq!(typed.usage(tree)?, expected);
+            assert!(rounds < 40 || (expected.height > 2 && expected.messages > 0), "{expected:?}");
+        }
+        assert_eq!(typed.usage("none"), Err(refused(8, "NoSuchTree", None)));
+    }
+    Ok(())
+}
+
 /// Each pair of bounds, with each number of columns of a group. Totals exceed 64 bits, and are negative.
 fn check_sums() -> Result<(), Fault> {
     let (mut by_script, mut typed) = sessions(40)?;
@@ -549,12 +578,13 @@ fn main() -> Result<(), Fault> {
         Some("reads") => check_reads(),
         Some("pages") => check_pages(),
         Some("sums") => check_sums(),
+        Some("usage") => check_usage(),
         Some("wrong") => {
             check_texts_of_faults();
             check_columns()?;
             check_wrong_calls()
         }
         Some("allocations") => check_allocations(),
-        _ => panic!("changes, reads, pages, sums, wrong or allocations"),
+        _ => panic!("changes, reads, pages, sums, usage, wrong or allocations"),
     }
 }
