@@ -38,7 +38,7 @@ static uint64_t below(uint64_t limit) {
 /* ---- the layout, as include/betable.h has it ---- */
 
 typedef struct {
-    unsigned char at[1 << 15];
+    unsigned char at[1 << 17];
     size_t length;
 } message;
 
@@ -154,6 +154,9 @@ static message *replies(betable_session *session, const char *script) {
         exit(4);
     }
     found->length = betable_copy_replies(session, 0, found->at, sizeof found->at);
+    if (found->length != betable_replies_length(session)) {
+        exit(5);
+    }
     return found;
 }
 

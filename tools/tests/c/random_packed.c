@@ -11,7 +11,8 @@
 #include <sys/mman.h>
 #include <unistd.h>
 
-enum { CALLS = 6, UNWRITTEN = 99, MOST_ROWS = 60, ROOM = 1 << 16 };
+enum { APPLY, GET, PAGE, SUMS, COLUMNS, USAGE, CALLS };
+enum { UNWRITTEN = 99, MOST_ROWS = 40, ROOM = sizeof(((message *)0)->at) };
 /* Syntax, BadField, BadLength, NoSuchTree, NoSuchColumn and NotInt: what these calls are refused as, while there is a table and its indexes are complete. */
 static const uint32_t REFUSALS = 1 << 1 | 1 << 6 | 1 << 7 | 1 << 8 | 1 << 15 | 1 << 16;
 
@@ -56,20 +57,20 @@ static void write_request(message *to, size_t call) {
     static const char *const COLUMN[] = {"qty", "qty", "qty", "qty", "id", "id", "city", "nothing"};
     const tree *of = &TREE[below(TREES)];
     switch (call) {
-    case 0:
+    case APPLY:
         add_changes(to, (uint32_t)below(5));
         break;
-    case 1:
+    case GET:
         begin(to, 1);
         add_key(to);
         break;
-    case 2:
+    case PAGE:
         begin(to, LIMIT[below(sizeof LIMIT / sizeof *LIMIT)]);
         add_tree(to, of);
         add_bound(to, of);
         add_bound(to, of);
         break;
-    case 3:
+    case SUMS:
         begin(to, (uint32_t)(below(6) == 0 ? below(4) : 1 + below(of->keys)));
         add_tree(to, of);
         add_text(to, COLUMN[below(sizeof COLUMN / sizeof *COLUMN)]);
@@ -233,7 +234,7 @@ static void check_sums(const tree *of, size_t columns) {
 }
 
 static void check_reply(size_t call) {
-    if (call == 0) {
+    if (call == APPLY) {
         if (reply.length != 0) {
             fail("a reply to changes");
         }
@@ -242,17 +243,17 @@ static void check_reply(size_t call) {
     if (reply.length < 4 || memcmp(reply.at, "BTV\1", 4) != 0) {
         fail("a reply without its header");
     }
-    if (call == 1) {
+    if (call == GET) {
         if (row_count(TREE[0].kinds) > 1 || (reply.length > 4 && memcmp(reply.at + 4, given.at + 8, 8) != 0)) {
             fail("another row than that of the key");
         }
-    } else if (call == 2) {
+    } else if (call == PAGE) {
         if (row_count(named()->kinds) > number(given.at + 4, 4)) {
             fail("more rows than the limit");
         }
-    } else if (call == 3) {
+    } else if (call == SUMS) {
         check_sums(named(), number(given.at + 4, 4));
-    } else if (call == 4) {
+    } else if (call == COLUMNS) {
         check_columns(named());
     } else if (reply.length != 28 || number(reply.at + 20, 8) < 1) {
         fail("another length, or no height");
@@ -301,7 +302,7 @@ static int thin_out(void) {
         given.length += 8;
         at = end_of_values(at, TREE[0].kinds, strlen(TREE[0].kinds));
     }
-    if (!is_done(0)) {
+    if (!is_done(APPLY)) {
         fail("rows that cannot be deleted");
     }
     return 1;
@@ -321,15 +322,15 @@ int main(int word_count, char **words) {
     free(replies(&session, SCHEMA));
     message *images = replies(&session, IMAGES);
     while (count-- > 0) {
-        size_t call = below(10) < 6 ? 0 : 1 + below(CALLS - 1);
+        size_t call = below(10) < 6 ? APPLY : GET + below(CALLS - 1);
         write_message(&given, call);
         int was_done = is_done(call);
         ++*(was_done ? &done[call] : &refused[call]);
         message *now = replies(&session, IMAGES);
-        if ((call != 0 || !was_done) && !is_same(now, images)) {
+        if ((call != APPLY || !was_done) && !is_same(now, images)) {
             fail("other images");
         }
-        if (call == 0 && was_done && thin_out()) {
+        if (call == APPLY && was_done && thin_out()) {
             free(now);
             now = replies(&session, IMAGES);
         }

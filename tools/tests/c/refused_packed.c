@@ -1,8 +1,8 @@
 /* Refuses each allocation of a call on packed bytes, one per session, alone and with all that follow it, and checks the reply and the state of the table.
  *
  * Linked with -Wl,--wrap=malloc,--wrap=realloc,--wrap=free. A call ends as it does with enough memory, or with OUT_OF_MEMORY and no reply. Then the table is as
- * it was, and the call, made again with enough memory, ends as it should; or it was changes that were applied, and the table is lost. After the session is
- * closed, all memory is freed. Prints the number of refused allocations of each call, and how the calls ended. */
+ * it was, and the call, made again with enough memory, ends as it should; or the table is lost, which only a call that applies changes may do. After the
+ * session is closed, all memory is freed. Prints the number of refused allocations of each call, and how the calls ended. */
 #include "packed.h"
 #include "refusals.h"
 
