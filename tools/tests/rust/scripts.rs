@@ -119,6 +119,9 @@ impl<'t> Table<'t> {
 
     /// The typed call that does what a command does. Bounds are only those of the rows.
     fn call(&self, command: &'t str) -> Option<Call<'t>> {
+        if command.contains('\r') {
+            return None;
+        }
         let mut lines: Vec<&str> = command.strip_suffix('\n')?.split('\n').filter(|line| !line.is_empty()).collect();
         let head = lines.remove(0);
         if let Some(record) = head.strip_prefix("get ") {
