@@ -520,7 +520,7 @@ def refusals_say_what_to_do():
 def reads_of_another_form_are_refused():
     """Their kinds of rows are asked for although they have none."""
     client = betable()
-    for text in ("sums", "sums primary", "sums primary 1", "sums primary x qty", "sums primary 1x qty", "sums primary -1 qty", "scan", "scan x", "sums x 1 qty"):
+    for text in ("sums", "sums primary", "sums primary 1", "sums primary x qty", "sums primary 1x qty", "sums primary -1 qty", "scan", "scan x"):
         with client.Session() as session:
             session.run(f"{TABLE}\n")
             fault = fault_of(lambda: session.run(f"{text}\ngo\nbatch\nput 1,a,2\nend\n"))
