@@ -370,12 +370,30 @@ def pages_in_rust_repeat_and_lose_no_row():
     typed_calls_hold("pages")
 
 
+def typed_sums_in_rust_are_those_of_replies():
+    typed_calls_hold("sums")
+
+
+def typed_usage_in_rust_is_that_of_the_image():
+    typed_calls_hold("usage")
+
+
 def wrong_typed_calls_in_rust_say_where_and_change_nothing():
     typed_calls_hold("wrong")
 
 
 def typed_calls_in_rust_allocate_nothing_for_a_value():
     typed_calls_hold("allocations")
+
+
+def worked_scripts_by_typed_calls_in_rust_leave_the_trees_that_they_leave():
+    """Each batch, get, scan and sums of the worked scripts that has plain values is a typed call. The program compares, and prints how many there were."""
+    if is_installed("rustc", "clients/rust is"):
+        words = [word for script, _, places in worked_scripts() for word in ("--", script, *map(str, places))]
+        ended = subprocess.run([rust_program(HERE / "rust/scripts.rs"), *words[1:]], capture_output=True, text=True, timeout=SECONDS)
+        expect((ended.returncode, ended.stderr), (0, ""))
+        batches, gets, scans, sums, refused = map(int, re.findall(r"\d+", ended.stdout))
+        expect((batches > 110, gets > 20, scans > 50, sums > 20, refused > 5), (True, True, True, True, True))
 
 
 def refused_memory_is_answered():
@@ -420,8 +438,11 @@ TESTS_OF_TEXTS = [
     typed_changes_in_rust_leave_the_images_of_scripts,
     typed_reads_in_rust_give_the_rows_of_replies,
     pages_in_rust_repeat_and_lose_no_row,
+    typed_sums_in_rust_are_those_of_replies,
+    typed_usage_in_rust_is_that_of_the_image,
     wrong_typed_calls_in_rust_say_where_and_change_nothing,
     typed_calls_in_rust_allocate_nothing_for_a_value,
+    worked_scripts_by_typed_calls_in_rust_leave_the_trees_that_they_leave,
     refused_memory_is_answered,
     valgrind_finds_nothing,
 ]

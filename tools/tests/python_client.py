@@ -18,7 +18,7 @@ import threading
 import uuid
 from pathlib import Path
 
-from common import expect, expect_within, TOP
+from common import expect, expect_within, TABLE, TOP
 from clients import OtherLibrary, betable, both_ways, build_extension, library, library_without_memory
 
 SCHEMA = "table 16 64 16 1 id:int city:text ok:flag raw:bytes\nindex by_city on city include ok\nbuild by_city 100\n"
@@ -535,6 +535,24 @@ def refusals_say_what_to_do():
         expect((fault.row, fault.column, fault.value), (1, "qty", 2**63))
 
 
+def reads_of_another_form_are_refused():
+    """Their kinds of rows are asked for although they have none."""
+    client = betable()
+    for text in ("sums", "sums primary", "sums primary 1", "sums primary x qty", "sums primary 1x qty", "sums primary -1 qty", "scan", "scan x"):
+        with client.Session() as session:
+            session.run(f"{TABLE}\n")
+            fault = fault_of(lambda: session.run(f"{text}\ngo\nbatch\nput 1,a,2\nend\n"))
+            expect((text, type(fault), fault.replies[1:], session.get(1)), (text, client.Refused, [["batch 1"]], (1, "a", 2)))
+
+
+def names_that_are_no_text_are_refused():
+    client = betable()
+    for text in (b"batch\nups 1,set,\xff,2\nend\n", b"sums primary 1 \xff\ngo\n", b"scan \xff\ngo\n", b"index \xff on qty\n", b"index a on \xff\n", b"\xff\n"):
+        with client.Session() as session:
+            session.run(f"{TABLE}\n")
+            expect((text, type(fault_of(lambda: session.run(text)))), (text, client.Refused))
+
+
 def the_reason_is_that_of_the_least_refusal():
     """Of a batch with a line of the wrong length and then a value that is none, the second one is what the refusal names."""
     client = betable()
@@ -782,6 +800,8 @@ TESTS_OF_TEXTS = [
     out_of_memory_says_what_was_carried_out,
     a_session_stays_on_its_thread,
     refusals_say_what_to_do,
+    reads_of_another_form_are_refused,
+    names_that_are_no_text_are_refused,
     a_load_names_the_line_of_its_file,
     a_csv_file_of_any_size_is_put_in_batches,
     exceptions_can_be_pickled,

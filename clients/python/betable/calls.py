@@ -497,7 +497,7 @@ def refusal(
     number, name, *rest = reply.decode().split()[1:]
     item = int(rest[0]) if rest else None
     fault = fault_of(command, int(number), item, state)
-    column = fault.column.decode() if fault is not None and fault.column is not None else None
+    column = fault.column.decode(errors="replace") if fault is not None and fault.column is not None else None
     value: Any = fault.value.decode(errors="replace") if fault is not None and fault.value is not None else None
     reason = MEANINGS.get(int(number), "") if fault is None else fault.what()
     if fault is not None and fault.place:

@@ -5,7 +5,7 @@ from __future__ import annotations
 from collections.abc import Iterable, Iterator, Sequence
 from typing import Any
 
-from .language import LAST_LINES, Command, State
+from .language import LAST_LINES, NUMBER, Command, State
 from .rows import Value, rows_of
 
 # The word of a line that has a row or a group, by the command.
@@ -112,7 +112,7 @@ def _rows(word: bytes, lines: list[str], kinds: Sequence[str]) -> list[tuple[Val
 
 
 def kinds_of_rows(state: State, command: Command) -> tuple[str, ...]:
-    """The kinds of the columns that the rows of a command's reply have. Empty where the tree is unknown."""
+    """The kinds of the columns that the rows of a command's reply have. Empty where the tree is unknown, or the command has another form."""
     words = command.head.text.split()
     table, word = state.table, command.head.word
     if table is None or word not in ROW_WORDS:
@@ -121,5 +121,10 @@ def kinds_of_rows(state: State, command: Command) -> tuple[str, ...]:
         return tuple(kind.decode() for kind in table.kinds)
     if len(words) < 2 or not table.has_tree(words[1]):
         return ()
-    columns = table.columns_of(words[1]) if word == b"scan" else table.key_of(words[1])[: int(words[2])]
+    if word == b"scan":
+        columns = table.columns_of(words[1])
+    elif len(words) > 2 and NUMBER.fullmatch(words[2]):
+        columns = table.key_of(words[1])[: int(words[2])]
+    else:
+        return ()
     return tuple(kind.decode() for _, kind in columns)
