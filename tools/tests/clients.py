@@ -222,6 +222,21 @@ def examples_run_files_on_one_table():
                 expect((script.name, ended.stdout, ended.returncode, ended.stderr), (script.name, wanted.read_bytes(), status, b""))
 
 
+@both_ways
+def replies_of_worked_scripts_are_cut_as_their_text_says():
+    """Where the library says that each reply is, beside a parser of their text, and by which commands are refused."""
+    client = betable()
+    for script, _, _ in worked_scripts():
+        given = script.read_bytes()
+        with client.Session() as session:
+            replies, places = session._replies_with_places(given)
+        commands = list(client.language.commands(given))
+        expect((script.name, len(places)), (script.name, len(commands)))
+        by_places, by_text = (list(client.replies.answered(commands, replies, some)) for some in (places, None))
+        expect((script.name, by_places), (script.name, by_text))
+        expect((script.name, b"".join(reply for _, reply, _ in by_places)), (script.name, replies))
+
+
 def sessions_of_two_threads_do_not_meet():
     """Each with its session and its scripts, at the same time: Python releases its lock during a call."""
     client, faults = betable(), []
@@ -333,11 +348,6 @@ def wrong_use_is_answered():
     ended = subprocess.run([c_program(HERE / "c/wrong_use.c")], capture_output=True)
     expect(ended.returncode, 0)
     session = betable().Session()
-    faults = []
-    other = threading.Thread(target=lambda: faults.append(fault_of(lambda: session.run("get 1\n"))))
-    other.start()
-    other.join()
-    expect(faults, [RuntimeError])
     session.close()
     session.close()
     expect([fault_of(lambda: session.run("get 1\n")), fault_of(lambda: session.is_lost)], [ValueError, ValueError])
@@ -427,6 +437,7 @@ TESTS_OF_TEXTS = [
     cut_scripts_answer_as_whole_ones_in_python,
     cut_scripts_answer_as_whole_ones_in_rust,
     examples_run_files_on_one_table,
+    replies_of_worked_scripts_are_cut_as_their_text_says,
     sessions_of_two_threads_do_not_meet,
     programs_of_the_document_print_what_they_say,
     examples_print_their_rows,

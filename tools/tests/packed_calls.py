@@ -521,6 +521,7 @@ def usage_is_that_of_the_image():
                 height = int(lines[0].split()[-1])
                 reply = raw.reply("betable_usage", header(1) + value_bytes(tree))
                 expect((seed, count, tree, reply), (seed, count, tree, b"BTV\x01" + struct.pack("<QQQ", counts["leaf"], counts["inner"], height)))
+                expect((seed, count, tree, raw.session.usage(tree)), (seed, count, tree, (counts["leaf"], counts["inner"], height)))
                 seen.add((min(height, 3), counts["inner"] > 0))
     expect(seen >= {(1, False), (2, True), (3, True)}, True)
 

@@ -1,7 +1,9 @@
 """Tests of the Python package on what nobody meant: each wrong use raises, says what to do, and leaves the table as it was; names are never a piece of a
 script; and values of all types of Python come back as they went in, or are refused."""
 
+import asyncio
 import copy
+import ctypes
 import datetime
 import decimal
 import enum
@@ -15,7 +17,9 @@ import subprocess
 import sys
 import tempfile
 import threading
+import time
 import uuid
+from concurrent.futures import ThreadPoolExecutor
 from pathlib import Path
 
 from common import expect, expect_within, TABLE, TOP
@@ -323,6 +327,7 @@ def names_are_never_a_piece_of_a_script():
         "table": lambda s: s.table([(text, "int")]),
         "trees": None,
         "upsert": lambda s: s.upsert(4, set={"city": text}),
+        "usage": lambda s: s.usage(text),
     }
     expect(sorted(name for name in dir(client.Session) if not name.startswith("_")), sorted(methods))
     session = filled()
@@ -590,20 +595,153 @@ def out_of_memory_says_what_was_carried_out():
         expect(session.scan(), [(1, "a")])
 
 
+# A call of each kind.
+CALLS = [
+    lambda s: s.put(ROWS), lambda s: s.put({"id": [1], "city": ["Oslo"], "ok": [True], "raw": [b"\0"]}), lambda s: s.batch([betable().delete(99)]), lambda s: s.get(1),
+    lambda s: s.scan(), lambda s: s.scan(limit=1), lambda s: s.scan_columns(), lambda s: list(s.iterate()), lambda s: s.sums("by_city", 1, "id"), lambda s: s.columns(),
+    lambda s: s.usage(), lambda s: s.run("get 1\n"), lambda s: s.replies("get 1\n"), lambda s: s.is_lost,
+]  # fmt: skip
+
+
 @both_ways
-def a_session_stays_on_its_thread():
-    client, faults = betable(), []
+def a_closed_session_raises():
     session = filled()
-    calls = [lambda: session.put(ROWS), lambda: session.get(1), session.scan, lambda: session.run("get 1\n"), session.close, lambda: session.is_lost]
-    thread = threading.Thread(target=lambda: faults.extend(fault_of(call) for call in calls))
+    for _ in range(2):
+        session.close()
+        expect({type(fault_of(lambda: call(session))) for call in CALLS}, {ValueError})
+    expect(betable().Session().__enter__().close(), None)
+
+
+@both_ways
+def a_session_goes_through_a_pool_of_threads():
+    """Each call is made by some thread of a pool, which holds a lock, and the last thread closes the session."""
+    client, lock, threads = betable(), threading.Lock(), set()
+    session = client.Session()
+
+    def made():
+        session.table("thread:int count:int", keys=1, fanout=4, buffer=8, leaf=4)
+        session.index("by_count", "count")
+
+    def counted(number):
+        with lock:
+            threads.add(threading.get_ident())
+            key, before = number % 7, session.get(number % 7) or (number % 7, 0)
+            session.upsert(key, add={"count": 1})
+            expect((session.get(key), session.run(f"get {key}\n")[0].rows), ((key, before[1] + 1), [(key, before[1] + 1)]))
+            session.put([(1_000 + number, number)])
+            expect(sum(count * total for total, count, _ in [(group[2], group[0], 0) for group in session.sums("by_count", 1, "count")]), sum(row[1] for row in session.scan()))
+        time.sleep(0.001)
+
+    with ThreadPoolExecutor(8) as pool:
+        pool.submit(made).result()
+        list(pool.map(counted, range(350)))
+        expect([row for row in session.scan(stop=(1_000,))], [(key, 50) for key in range(7)])
+        expect(len(session.scan("by_count")), 357)
+        pool.submit(session.close).result()
+    expect((len(threads) > 1, type(fault_of(session.scan))), (True, ValueError))
+
+
+@both_ways
+def a_session_works_in_the_threads_of_asyncio():
+    async def all_at_once():
+        session, lock = await asyncio.to_thread(betable().Session), asyncio.Lock()
+
+        async def called(function, *given):
+            async with lock:
+                return await asyncio.to_thread(function, *given)
+
+        await called(session.table, "id:int qty:int")
+        await asyncio.gather(*(called(session.put, [(number, number)]) for number in range(100)))
+        expect(await called(session.scan), [(number, number) for number in range(100)])
+        await called(session.close)
+
+    asyncio.run(all_at_once())
+
+
+@both_ways
+def a_call_during_another_one_is_refused():
+    """Of another thread, and of the same one, while the library carries out a script or sums. The call that was first ends as it should."""
+    for name, call in (("betable_run", lambda: session.run("get 1\n")[0].rows), ("betable_sums", lambda: session.sums("by_city", 1, "id"))):
+        session = filled()
+        wanted, begun, ended, found = call(), threading.Event(), threading.Event(), []
+
+        def waits(handle, given, length, *fault):
+            found.append(fault_of(lambda: session.get(1)))
+            begun.set()
+            expect(ended.wait(60), True)
+            return getattr(library.library, name)(handle, ctypes.string_at(given, length), length, *fault)
+
+        function = getattr(session._library, name)
+        data = [ctypes.c_void_p if kind is ctypes.c_char_p else kind for kind in function.argtypes]
+        library = OtherLibrary(session, {name: ctypes.CFUNCTYPE(function.restype, *data)(waits)})
+        thread = threading.Thread(target=lambda: found.append(call()))
+        thread.start()
+        expect(begun.wait(60), True)
+        faults = [fault_of(lambda: one(session)) for one in [*CALLS, lambda session: session.close()]]
+        ended.set()
+        thread.join()
+        library.end(session)
+        expect({type(fault) for fault in [*faults, found[0]]}, {RuntimeError})
+        expect_within("one call at a time", str(faults[0]))
+        expect((found[1:], session.scan()), ([wanted], ROWS))
+
+
+@both_ways
+def threads_without_a_lock_get_their_own_replies_or_a_fault():
+    session, wrong, refused, rows = betable().Session(), [], [], 2_000
+    session.table("id:int qty:int")
+    session.put([(number, number) for number in range(rows)])
+    is_over, interval = time.monotonic() + 0.7, sys.getswitchinterval()
+
+    def reads(first):
+        key = first
+        while time.monotonic() < is_over:
+            key = (key + 7) % rows
+            for call, wanted in (
+                (lambda: session.run(f"get {key}\nscan primary\nfrom {key}\nto {key + 1}\ngo\n")[1].rows, [(key, key)]), (lambda: session.get(key), (key, key)),
+                (lambda: session.scan("primary", (key,), (key + 1,)), [(key, key)]), (lambda: session.sums("primary", 1, "qty", (key,), (key + 1,)), [(1, key, key)]),
+            ):  # fmt: skip
+                try:
+                    found = call()
+                except RuntimeError as fault:
+                    refused.append(fault)
+                    continue
+                except Exception as fault:
+                    found = fault
+                if found != wanted:
+                    wrong.append((found, wanted))
+
+    threads = [threading.Thread(target=reads, args=[first]) for first in range(4)]
+    sys.setswitchinterval(1e-6)
+    try:
+        for thread in threads:
+            thread.start()
+    finally:
+        for thread in threads:
+            thread.join()
+        sys.setswitchinterval(interval)
+    expect((wrong[:3], len(refused) > 0, session.get(5)), ([], True, (5, 5)))
+
+
+@both_ways
+def a_session_that_another_thread_drops_is_closed():
+    sessions, closed = [filled()], []
+    close = sessions[0]._library.betable_close
+    OtherLibrary(sessions[0], {"betable_close": lambda handle: closed.append((threading.get_ident(), close(handle)))})
+    thread = threading.Thread(target=sessions.clear)
     thread.start()
+    number = thread.ident
     thread.join()
-    expect([type(fault) for fault in faults], [RuntimeError] * len(calls))
-    expect(session.scan(), ROWS)
-    session.close()
-    session.close()
-    expect({type(fault_of(call)) for call in (calls[0], calls[1], calls[2], calls[3], calls[5])}, {ValueError})
-    expect(client.Session().__enter__().close(), None)
+    expect(closed, [(number, 0)])
+
+
+def usage_has_names_and_is_refused_without_a_tree():
+    client = betable()
+    with filled() as session, client.Session() as other:
+        expect([(use.rows, use.messages, use.height) for use in (session.usage(), session.usage("by_city"))], [(3, 0, 1)] * 2)
+        faults = [fault_of(call) for call in (lambda: session.usage("nothing"), other.usage, lambda: session.usage(5), lambda: session.usage("a b"))]
+        expect([type(fault) for fault in faults], [client.Refused, client.Refused, TypeError, ValueError])
+        expect([fault.name for fault in faults[:2]], ["NoSuchTree", "NoTable"])
 
 
 def a_load_names_the_line_of_its_file():
@@ -728,6 +866,7 @@ def a_missing_library_is_named():
         expect_within(part, ended.stderr)
 
 
+@both_ways
 def scripts_of_any_form_are_cut_as_they_are_run():
     """Replies of `run`, beside those of a session that gets each command by itself: texts with line breaks and quotes, and words of replies inside of texts."""
     client = betable()
@@ -741,10 +880,11 @@ def scripts_of_any_form_are_cut_as_they_are_run():
         dice = random.Random(3)
         for _ in range(50):
             chosen = dice.choices(commands, k=dice.randrange(6))
-            replies = session.replies("\n".join(chosen))
-            alone = [other.replies(command) for command in chosen]
-            found = [reply for _, reply in client.replies.answered(client.language.commands("\n".join(chosen).encode()), replies)]
-            expect(found, alone)
+            script = "\n".join(chosen).encode()
+            replies, places = session._replies_with_places(script)
+            alone = [(reply, reply.startswith(b"refused ")) for reply in map(other.replies, chosen)]
+            for some in (places, None):
+                expect([found[1:] for found in client.replies.answered(client.language.commands(script), replies, some)], alone)
         rows = session.run("scan primary\ngo\n")[0].rows
         expect((rows, session.scan()), (list(enumerate(texts)), list(enumerate(texts))))
         sums = session.run("sums by_city 1 id\ngo\n")[0].rows
@@ -798,7 +938,13 @@ TESTS_OF_TEXTS = [
     messages_that_are_alike_differ_by_their_values,
     the_reason_is_that_of_the_least_refusal,
     out_of_memory_says_what_was_carried_out,
-    a_session_stays_on_its_thread,
+    a_closed_session_raises,
+    a_session_goes_through_a_pool_of_threads,
+    a_session_works_in_the_threads_of_asyncio,
+    a_call_during_another_one_is_refused,
+    threads_without_a_lock_get_their_own_replies_or_a_fault,
+    a_session_that_another_thread_drops_is_closed,
+    usage_has_names_and_is_refused_without_a_tree,
     refusals_say_what_to_do,
     reads_of_another_form_are_refused,
     names_that_are_no_text_are_refused,

@@ -181,9 +181,11 @@ message = betable.upsert(1, set={{"qty": -4}})
 many = [(number, "x" * 255) for number in range(6_000)]
 other = betable.Session()
 other.table("id:int text:text")
+refused = betable.Session()
+refused.replies("get 1\\n" * 20)
 calls = [
     lambda: session.put(rows), lambda: session._apply_rows([(4, "\\ud800", True, b"", 1)]), lambda: session._apply_columns(list(columns.values())),
-    lambda: session.batch([message]), lambda: session.get(99), lambda: other.put(many), lambda: other.get(1),
+    lambda: session.batch([message]), lambda: session.get(99), lambda: other.put(many), lambda: other.get(1), refused._places,
     lambda: session.get(5), lambda: session.scan("by_city"), lambda: session.scan_columns("primary", (3,), (9,)), lambda: session.sums("by_city", 1, "qty"),
 ]
 wanted = [call() for call in calls]
@@ -275,25 +277,6 @@ def other_threads_run_during_long_calls():
         thread.join()
 
 
-def a_session_that_another_thread_drops_is_not_used_by_it():
-    if not is_there():
-        return
-    sessions, faults = [filled()], []
-    thread = threading.Thread(target=lambda: faults.extend([fault_of(lambda: sessions[0].get(1)), sessions.clear()]))
-    thread.start()
-    thread.join()
-    expect((type(faults[0]), sessions), (RuntimeError, []))
-    # Threads that begin after another one ended may get its number from the system.
-    thread = threading.Thread(target=lambda: sessions.append(filled()))
-    thread.start()
-    thread.join()
-    for _ in range(50):
-        thread = threading.Thread(target=lambda: faults.append(fault_of(lambda: sessions[0].get(1))))
-        thread.start()
-        thread.join()
-    expect({type(fault) for fault in faults[2:]}, {RuntimeError})
-
-
 def a_package_without_the_extension_goes_by_ctypes():
     """If a variable says so, and if the extension is missing or no library."""
     if not is_there():
@@ -346,7 +329,6 @@ TESTS_OF_TEXTS = [
     memory_that_is_refused_is_an_exception,
     no_memory_is_kept_after_calls,
     other_threads_run_during_long_calls,
-    a_session_that_another_thread_drops_is_not_used_by_it,
     a_package_without_the_extension_goes_by_ctypes,
     the_extension_by_itself_says_what_uses_it,
 ]

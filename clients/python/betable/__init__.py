@@ -28,7 +28,7 @@ from typing import TYPE_CHECKING, Any
 from .calls import MOST_MESSAGES, Calls, Tree
 from .errors import OutOfMemory, Refused, RowError, RowTypeError, RowValueError
 from .messages import OPERATIONS, Message, delete, field, put, record, upsert
-from .packed import TreeColumn
+from .packed import TreeColumn, Usage
 from .replies import Reply
 from .session import Session
 
@@ -88,6 +88,7 @@ __all__ = [
     "TreeColumn",
     "Unanswered",
     "Unreachable",
+    "Usage",
     "__version__",
     "delete",
     "field",

@@ -10,6 +10,9 @@
  * Code of Python may run during a call: the collector of garbage runs `__del__` when an object is made, and that may call the session again. So the bytes of a
  * call are its own (from `taken` to `kept`), `is_ready` is asked directly before the library is called, and a reply is read directly after. Values are borrowed
  * from their rows only while no object is made and nothing of Python is called.
+ *
+ * One call at a time uses a session, of any thread. `is_in_call` is written while the interpreter lock is held. It is set while other threads run during a call
+ * of the library, and from `_take` to `_give`, between which the plain class calls it. A call that finds it set goes to the plain class, which raises the fault.
  */
 #define Py_LIMITED_API 0x030B0000
 #define PY_SSIZE_T_CLEAN
@@ -33,10 +36,13 @@ enum { MAGIC_LENGTH = 4, HEADER_LENGTH = 8, MOST_VALUE_LENGTH = 256 };
 /* Other threads run during a call of the library with this many bytes of changes, or with pages of this many rows, and during sums. */
 #define MUCH_CHANGED 8192
 #define MUCH_READ 512
+/* The calls of the library that `_connect` takes. */
+#define CALL_COUNT 8
 /* Room that is kept from call to call. */
 #define FIRST_ROOM 4096
 #define MOST_ROOM (1u << 20)
 
+typedef bool reply_call(betable_session *, size_t, betable_reply_place *);
 typedef betable_status packed_call(betable_session *, const unsigned char *, size_t, betable_fault *);
 typedef size_t length_call(betable_session *);
 typedef size_t copy_call(betable_session *, size_t, unsigned char *, size_t);
@@ -54,9 +60,10 @@ typedef struct {
     PyObject *owner; /* of the session's memory */
     betable_session *session;
     packed_call *apply, *get, *page, *sums;
-    length_call *length;
+    length_call *length, *reply_count;
     copy_call *copy;
-    uint64_t thread; /* the one that may call: no other thread of the process ever has this number */
+    reply_call *reply;
+    int is_in_call;
     PyObject *trees, *primary; /* the descriptions by their names, and that of the rows, or NULL */
     PyObject *shapes;          /* of upserts: the code and the column of each operation, as bytes */
     bytes_in_room room;
@@ -598,7 +605,7 @@ static PyObject *as_columns(reader reply, const tree *there)
 
 static int is_ready(const caller *self)
 {
-    return self->session != NULL && self->session->is_open && PyThreadState_GetID(PyThreadState_Get()) == self->thread;
+    return !self->is_in_call && self->session != NULL && self->session->is_open;
 }
 
 /* Calls the library. A call that is refused is for the plain class, which says why. */
@@ -609,9 +616,11 @@ static outcome called(caller *self, packed_call *call, const bytes_in_room *byte
     betable_fault fault;
     betable_status status;
     if (lets_others_run) {
+        self->is_in_call = 1;
         Py_BEGIN_ALLOW_THREADS
         status = call(self->session, bytes->at, bytes->length, &fault);
         Py_END_ALLOW_THREADS
+        self->is_in_call = 0;
     } else {
         status = call(self->session, bytes->at, bytes->length, &fault);
     }
@@ -780,7 +789,7 @@ static PyObject *call_batch(PyObject *self, PyObject *const *args, Py_ssize_t co
     return applied_count(self, of_messages, "batch", args, count, names);
 }
 
-/* Whether one batch, of what is in a list, was applied here. A session that is closed, or that another thread uses, is a fault that the plain class raises. */
+/* Whether one batch, of what is in a list, was applied here. A session that is closed, or in a call, is a fault that the plain class raises. */
 static PyObject *is_list_applied(PyObject *self, encoder *encode, PyObject *given, const char *name)
 {
     if (!PyList_CheckExact(given) || length_of(given) > MOST_MESSAGES || !is_ready((caller *)self))
@@ -1004,19 +1013,55 @@ static PyObject *call_sums(PyObject *object, PyObject *const *args, Py_ssize_t c
     return found == OTHER ? by_python(object, "sums", args, count, names) : groups;
 }
 
+/* ---- scripts ---- */
+
+static PyObject *take(PyObject *object, PyObject *none)
+{
+    (void)none;
+    caller *self = (caller *)object;
+    const int is_free = !self->is_in_call;
+    self->is_in_call = 1;
+    return PyBool_FromLong(is_free);
+}
+
+static PyObject *give(PyObject *object, PyObject *none)
+{
+    (void)none;
+    ((caller *)object)->is_in_call = 0;
+    Py_RETURN_NONE;
+}
+
+/* The places of the replies to the last script: of each its begin, its end, and whether its command was refused. */
+static PyObject *places_of_replies(PyObject *object, PyObject *none)
+{
+    (void)none;
+    caller *self = (caller *)object;
+    const size_t count = self->session == NULL ? 0 : self->reply_count(self->session);
+    PyObject *places = PyList_New((Py_ssize_t)count);
+    for (size_t number = 0; places != NULL && number < count; number++) {
+        betable_reply_place found = {0, 0, BETABLE_READ};
+        self->reply(self->session, number, &found);
+        PyObject *is_refused = found.kind == BETABLE_COMMAND_REFUSED ? Py_True : Py_False;
+        PyObject *place = Py_BuildValue("(KKO)", (unsigned long long)found.offset, (unsigned long long)(found.offset + found.length), is_refused);
+        if (place == NULL || PyList_SetItem(places, (Py_ssize_t)number, place) < 0)
+            Py_CLEAR(places);
+    }
+    return places;
+}
+
 /* ---- the type ---- */
 
-/* _connect(owner, address, addresses): the session, and the calls in the order of CALLS. The thread that calls is the one that may use the session. */
+/* _connect(owner, address, addresses): the session, and the calls in the order of CALLS. */
 static PyObject *connect(PyObject *object, PyObject *const *args, Py_ssize_t count)
 {
     caller *self = (caller *)object;
-    uintptr_t found[6];
-    if (count != 3 || !PyTuple_Check(args[2]) || PyTuple_Size(args[2]) != 6) {
+    uintptr_t found[CALL_COUNT];
+    if (count != 3 || !PyTuple_Check(args[2]) || PyTuple_Size(args[2]) != CALL_COUNT) {
         PyErr_SetString(PyExc_TypeError, "_connect takes the owner of a session, its address, and the addresses of CALLS");
         return NULL;
     }
     betable_session *session = PyLong_AsVoidPtr(args[1]);
-    for (int place = 0; place < 6; place++)
+    for (int place = 0; place < CALL_COUNT; place++)
         found[place] = (uintptr_t)PyLong_AsVoidPtr(PyTuple_GetItem(args[2], place));
     PyObject *shapes = PyErr_Occurred() ? NULL : PyDict_New();
     if (shapes == NULL)
@@ -1031,7 +1076,8 @@ static PyObject *connect(PyObject *object, PyObject *const *args, Py_ssize_t cou
     self->sums = (packed_call *)found[3];
     self->length = (length_call *)found[4];
     self->copy = (copy_call *)found[5];
-    self->thread = PyThreadState_GetID(PyThreadState_Get());
+    self->reply_count = (length_call *)found[6];
+    self->reply = (reply_call *)found[7];
     Py_XDECREF(owner);
     Py_XDECREF(earlier);
     Py_RETURN_NONE;
@@ -1093,6 +1139,9 @@ static PyMethodDef methods[] = {
     {"_apply_columns", apply_columns, METH_O, "Whether the rows of columns were put, as one batch."},
     {"_scan_as_columns", FAST(scan_as_columns), METH_FASTCALL, "The columns of the rows of a scan: of ints their bytes, and lists of other values."},
     {"_page_rows", FAST(page_rows), METH_FASTCALL, "The rows of a page, of the name of its tree and its bytes, or None if it is refused."},
+    {"_take", take, METH_NOARGS, "Takes the session for calls of the library. Whether it was in none."},
+    {"_give", give, METH_NOARGS, "Ends what _take has begun."},
+    {"_places", places_of_replies, METH_NOARGS, "The places of the replies to the last script."},
     {"_connect", FAST(connect), METH_FASTCALL, "Connects it with a session, by addresses."},
     {"_know", know, METH_O, "Takes the descriptions of all trees."},
     {NULL, NULL, 0, NULL},
@@ -1162,7 +1211,8 @@ PyMODINIT_FUNC PyInit__packed(void)
     out_of_memory_name = interned[7];
     PyObject *module = PyModule_Create(&definition), *type = PyType_FromSpec(&spec);
     PyObject *calls =
-        Py_BuildValue("(ssssss)", "betable_apply", "betable_get", "betable_page", "betable_sums", "betable_replies_length", "betable_copy_replies");
+        Py_BuildValue("(ssssssss)", "betable_apply", "betable_get", "betable_page", "betable_sums", "betable_replies_length", "betable_copy_replies",
+                      "betable_reply_count", "betable_reply");
     /* With no object to add, an exception is set, as is wanted. */
     if (module != NULL && (PyModule_AddObjectRef(module, "Caller", type) < 0 || PyModule_AddObjectRef(module, "CALLS", calls) < 0))
         Py_CLEAR(module);

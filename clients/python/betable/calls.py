@@ -21,7 +21,7 @@ from .faults import MEANINGS, Fault, faults_of_refusal
 from .forms import head_faults, name_fault
 from .language import Command, State, Table
 from .messages import Message, delete, message_lines, record, upsert
-from .replies import Reply, answered, kinds_of_rows, rows_of_reply
+from .replies import Place, Reply, answered, kinds_of_rows, rows_of_reply
 from .rows import (
     ARRAY_TYPES, UNKNOWN, VALUES, Column, ColumnValues, Layout, Value, as_iterator, as_tuple, columns_of, columns_of_rows, key_fields, layout,
     line_field, part_of_column, records, rows_of_columns, shown, values_by_column,
@@ -63,10 +63,10 @@ class Calls(ABC):
         raised for the first command that was refused."""
         script = as_script(script)
         state = copied(self.state)
-        text = self.replies(script)
+        text, places = self._replies_with_places(script)
         found, refused = [], None
-        for command, reply in answered(language.commands(script), text):
-            if refused is None and reply.startswith(b"refused "):
+        for command, reply, is_refused in answered(language.commands(script), text, places):
+            if refused is None and is_refused:
                 refused = command, reply, copied(state)
             found.append(Reply(reply.decode(), command.head.word, kinds_of_rows(state, command)))
             note(state, command, reply)
@@ -230,6 +230,10 @@ class Calls(ABC):
         return found
 
     # What the calls share.
+
+    def _replies_with_places(self, script: bytes) -> tuple[bytes, list[Place] | None]:
+        """The bytes of the replies to a script, and the place of each, or None where nothing but their text says that."""
+        return self.replies(script), None
 
     def _condition(self, where: Any) -> str:
         """The condition of an index."""

@@ -19,6 +19,7 @@ from .rows import Layout, Value
 
 MAGIC = b"BTV\x01"
 HEADER = struct.Struct("<4sI")
+USAGE = struct.Struct("<4s3Q")
 HEADER_OF_ONE = HEADER.pack(MAGIC, 1)
 PUT, DEL, UPS = range(3)
 OPERATIONS = {"set": 0, "add": 1, "max": 2, "min": 3}
@@ -43,6 +44,15 @@ class TreeColumn(NamedTuple):
     name: str
     kind: str
     is_key: bool
+
+
+class Usage(NamedTuple):
+    """How much a tree holds: the rows in its leaves, the messages in the buffers of its inner nodes, and its height. A message can add a row, or delete one of a
+    leaf, so `rows` is not the number of the tree's rows."""
+
+    rows: int
+    messages: int
+    height: int
 
 
 # ---- the code of encoders and decoders ----
@@ -297,6 +307,11 @@ def value_of(packed: bytes, kind: str) -> Value:
 def name_bytes(tree: str) -> bytes:
     """The name of a tree."""
     return HEADER_OF_ONE + value_bytes(tree, "text")
+
+
+def usage_of_reply(reply: bytes) -> Usage:
+    """How much a tree holds, by a reply."""
+    return Usage(*USAGE.unpack(reply)[1:])
 
 
 def columns_of_reply(reply: bytes) -> list[TreeColumn]:

@@ -11,6 +11,8 @@ from .rows import Value, rows_of
 # The word of a line that has a row or a group, by the command.
 ROW_WORDS = {b"get": "row ", b"scan": "row ", b"sums": "sum "}
 BLOCK_BYTES = 65_536  # of a reply that are taken at once
+# Where a reply begins and ends among those of its script, and whether its command was refused, as the library says.
+Place = tuple[int, int, bool]
 
 
 def reply_end(word: bytes, replies: bytes, at: int) -> int:
@@ -36,14 +38,19 @@ def _outside_quotes(replies: bytes, part: bytes, at: int) -> int:
     return -1
 
 
-def answered(commands: Iterable[Command], replies: bytes) -> Iterator[tuple[Command, bytes]]:
-    """Each command with its reply, up to the last one that has a whole reply."""
+def answered(commands: Iterable[Command], replies: bytes, places: Iterable[Place] | None = None) -> Iterator[tuple[Command, bytes, bool]]:
+    """Each command with its reply, and whether it was refused. Without places, where replies come from elsewhere than a session or memory ran out, their text
+    says where they end, up to the last one that is whole."""
+    if places is not None:
+        for command, (begin, end, is_refused) in zip(commands, places):
+            yield command, replies[begin:end], is_refused
+        return
     at = 0
     for command in commands:
         end = reply_end(command.head.word, replies, at)
         if end < 0:
             return
-        yield command, replies[at:end]
+        yield command, replies[at:end], replies.startswith(b"refused ", at)
         at = end
 
 

@@ -21,12 +21,14 @@ from .errors import OutOfMemory
 from .language import PRIMARY, State, Table, counted
 from .messages import Message, Shape, message_lines
 from .packed import (
-    MOST_ROWS, NOT_TAKEN, TreeColumn, columns_of_reply, description, groups_of_reply, name_bytes, packing, page_bytes, sums_bytes,
+    MOST_ROWS, NOT_TAKEN, TreeColumn, Usage, columns_of_reply, description, groups_of_reply, name_bytes, packing, page_bytes, sums_bytes, usage_of_reply,
 )  # fmt: skip
-from .replies import answered
+from .replies import Place, answered
 from .rows import UNKNOWN, ColumnValues, Layout, columns_of_rows, layout, rows_of_columns, shown, tuples_of_dicts
 
 DONE, OUT_OF_MEMORY, REPLY_CUT, NOT_OPEN, ALREADY_OPEN, REFUSED = range(6)
+# What became of a command.
+READ, CHANGED, COMMAND_REFUSED = range(3)
 # Replies of fewer bytes are copied by one call.
 SHORT_REPLIES = 4_096
 LIBRARY = "libbt_c.so"
@@ -40,6 +42,10 @@ class _Handle(ctypes.Structure):
 
 class _Fault(ctypes.Structure):
     _fields_ = [("refusal", ctypes.c_uint64), ("item", ctypes.c_uint64), ("column", ctypes.c_uint64)]
+
+
+class _ReplyPlace(ctypes.Structure):
+    _fields_ = [("offset", ctypes.c_uint64), ("length", ctypes.c_uint64), ("kind", ctypes.c_uint32)]
 
 
 def _library_path() -> Path:
@@ -71,9 +77,11 @@ def _loaded_library() -> ctypes.CDLL:
         ("betable_page", of_packed, ctypes.c_uint),
         ("betable_columns", of_packed, ctypes.c_uint),
         ("betable_sums", of_packed, ctypes.c_uint),
+        ("betable_usage", of_packed, ctypes.c_uint),
         ("betable_replies_length", [handle], size),
         ("betable_copy_replies", [handle, size, ctypes.c_char_p, size], size),
-        ("betable_refused_count", [handle], size),
+        ("betable_reply_count", [handle], size),
+        ("betable_reply", [handle, size, ctypes.POINTER(_ReplyPlace)], ctypes.c_bool),
         ("betable_is_lost", [handle], ctypes.c_bool),
         ("betable_close", [handle], ctypes.c_uint),
     ]
@@ -87,22 +95,24 @@ _library: ctypes.CDLL | None = None
 
 
 class PureSession(Calls):
-    """A table, or none so far, that lives between scripts. It belongs to the thread that opened it: another thread that uses it gets a RuntimeError.
-    A closed session raises ValueError.
+    """A table, or none so far, that lives between scripts. Any thread may use it, one call at a time: a call during another one raises RuntimeError. A closed
+    session raises ValueError.
 
     Rows, messages, keys, pages and sums go to the library as packed bytes. What cannot be packed, and what the library refuses, goes the way of `Calls`, by
     text: it takes the values, or says why it refuses them."""
 
     def __init__(self) -> None:
         global _library
-        self._handle, self._fault = _Handle(), _Fault()
-        self._thread = threading.current_thread()
+        self._handle, self._fault, self._place = _Handle(), _Fault(), _ReplyPlace()
+        # While the library is in a call, the handle is the library's alone.
+        self._lock, self._is_open = threading.Lock(), False
         self._state = State()
         self._room = ctypes.create_string_buffer(SHORT_REPLIES)
         _library = _library or _loaded_library()
         self._library = _library
         if self._library.betable_open(self._handle) != DONE:
             raise OutOfMemory
+        self._is_open = True
 
     def __enter__(self) -> PureSession:
         return self
@@ -111,15 +121,14 @@ class PureSession(Calls):
         self.close()
 
     def __del__(self) -> None:
-        # A session that another thread drops keeps its memory.
-        if self.__dict__.get("_thread") is threading.current_thread() and self._handle.is_open:
+        if self.__dict__.get("_is_open"):
             self.close()
 
     def __reduce__(self) -> tuple[Any, ...]:
         raise TypeError("a session cannot be copied or pickled: it is the owner of its table")
 
     def __repr__(self) -> str:
-        if not self._handle.is_open:
+        if not self._is_open:
             return "<betable.Session, closed>"
         table = self._state.table
         if table is None:
@@ -127,35 +136,71 @@ class PureSession(Calls):
         trees = [f"{name.decode()} ({'complete' if index.is_complete else 'building'})" for name, index in table.indexes.items()]
         return f"<betable.Session, open, {counted(len(table.columns), 'column')}{', indexes: ' + ', '.join(trees) if trees else ''}>"
 
-    def _open_handle(self) -> _Handle:
-        if threading.current_thread() is not self._thread:
-            raise RuntimeError("a session is used by the thread that opened it alone: open another one here, or hand the work to that thread")
-        if not self._handle.is_open:
+    def _begin(self) -> None:
+        """Begins calls of the library that belong together, up to `_give`: no other call may come in between."""
+        if not self._take():
+            raise RuntimeError("the session is in a call, of another thread or of this one: one call at a time may use it, so hold a lock during each")
+        if not self._is_open:
+            self._give()
             raise ValueError("the session is closed")
-        return self._handle
+
+    def _take(self) -> bool:
+        """Takes the session for a call, if it is in none."""
+        return self._lock.acquire(blocking=False)
+
+    def _give(self) -> None:
+        """Ends what `_take` has begun."""
+        self._lock.release()
 
     @property
     def state(self) -> State:
-        if not self._handle.is_open:
+        if not self._is_open:
             raise ValueError("the session is closed")
         return self._state
 
     def close(self) -> None:
         """Drops the table. A session that is closed stays closed."""
-        if self._handle.is_open:
-            self._library.betable_close(self._open_handle())
+        if self._is_open:
+            self._begin()
+            self._is_open = False
+            self._library.betable_close(self._handle)
+            self._give()
 
     def replies(self, script: str | bytes) -> bytes:
         """The bytes of the replies to a script, whether commands are refused or not."""
-        script = as_script(script)
-        handle = self._open_handle()
-        status = self._library.betable_run(handle, script, len(script))
-        replies = self._copied()
-        if b"table" in script or b"index" in script or b"build" in script or b"drop" in script:
-            self._note(script, replies, status == DONE)
+        return self._ran(as_script(script), False)[0]
+
+    def _replies_with_places(self, script: bytes) -> tuple[bytes, list[Place] | None]:
+        return self._ran(script, True)
+
+    def _ran(self, script: bytes, with_places: bool) -> tuple[bytes, list[Place] | None]:
+        """The bytes of the replies to a script, and their places if they are wanted."""
+        library, handle, places, is_lost = self._library, self._handle, None, False
+        defines = b"table" in script or b"index" in script or b"build" in script or b"drop" in script
+        self._begin()
+        try:
+            status = library.betable_run(handle, script, len(script))
+            replies = self._copied()
+            if status != DONE:
+                is_lost = library.betable_is_lost(handle)
+            elif with_places or defines:
+                places = self._places()
+            if defines:
+                self._note(script, replies, places)
+        finally:
+            self._give()
         if status != DONE:
-            raise OutOfMemory(replies, status == REPLY_CUT, self.is_lost)
-        return replies
+            raise OutOfMemory(replies, status == REPLY_CUT, is_lost)
+        return replies, places
+
+    def _places(self) -> list[Place]:
+        """The places of the replies to the last script, which was done."""
+        library, handle, place = self._library, self._handle, self._place
+        found = []
+        for number in range(library.betable_reply_count(handle)):
+            library.betable_reply(handle, number, place)
+            found.append((place.offset, place.offset + place.length, place.kind == COMMAND_REFUSED))
+        return found
 
     def _copied(self) -> bytes:
         """The replies of the last call."""
@@ -167,19 +212,23 @@ class PureSession(Calls):
             count = library.betable_copy_replies(handle, 0, room, length)
         return ctypes.string_at(room, count)
 
-    def _note(self, script: bytes, replies: bytes, is_whole: bool) -> None:
+    def _note(self, script: bytes, replies: bytes, places: list[Place] | None) -> None:
+        """Takes what a script defines into the state. Without places memory ran out."""
         count = 0
-        for command, reply in answered(language.commands(script), replies):
+        for command, reply, _ in answered(language.commands(script), replies, places):
             note(self._state, command, reply)
             count += 1
-        if not is_whole:
+        if places is None:
             for command in islice(language.commands(script), count, count + 1):
                 note_unanswered(self._state, command)
 
     @property
     def is_lost(self) -> bool:
         """Whether the table was lost as memory ran out."""
-        return bool(self._library.betable_is_lost(self._open_handle()))
+        self._begin()
+        is_lost = bool(self._library.betable_is_lost(self._handle))
+        self._give()
+        return is_lost
 
     # ---- packed bytes ----
 
@@ -188,8 +237,9 @@ class PureSession(Calls):
         table = self.state.table
         if table is not None:
             there = packing(layout(table))
-            if self._is_done(self._library.betable_get, there.key(key)):
-                rows = there.rows(self._copied())
+            reply = self._reply(self._library.betable_get, there.key(key))
+            if reply is not None:
+                rows = there.rows(reply)
                 return rows[0] if rows else None
         return super().get(*key)
 
@@ -224,11 +274,11 @@ class PureSession(Calls):
     def columns(self, tree: str = "primary") -> list[TreeColumn]:
         """The columns of the rows of a tree, each with its name, its kind, and whether it belongs to the key of the tree."""
         name = checked_name(tree, "a tree")
-        if self._is_done(self._library.betable_columns, name_bytes(name)):
-            return columns_of_reply(self._copied())
-        # The same refusal, in words.
-        self._rows(b"scan", f"scan {name}\ngo\n", [])
-        raise RuntimeError(f"the columns of '{name}' are refused, and its rows are not")
+        return columns_of_reply(self._reply_on_tree(self._library.betable_columns, name))
+
+    def usage(self, tree: str = "primary") -> Usage:
+        """How much a tree holds. All of its nodes are read."""
+        return usage_of_reply(self._reply_on_tree(self._library.betable_usage, checked_name(tree, "a tree")))
 
     def sums(
         self, tree: str, columns: int, column: str, start: Bound = None, stop: Bound = None
@@ -241,8 +291,9 @@ class PureSession(Calls):
             packed = packing(there)
             lower, upper = packed.bound(start), packed.bound(stop)
             given = None if lower is None or upper is None else sums_bytes(name, count, summed, lower, upper)
-            if self._is_done(self._library.betable_sums, given):
-                return groups_of_reply(self._copied(), there.key_kinds[:count])
+            reply = self._reply(self._library.betable_sums, given)
+            if reply is not None:
+                return groups_of_reply(reply, there.key_kinds[:count])
         return super().sums(tree, columns, column, start, stop)
 
     def scan_columns(
@@ -264,22 +315,36 @@ class PureSession(Calls):
     # Whether one batch was applied. If it was not, it cannot be packed or is refused, and nothing has changed.
 
     def _apply_rows(self, rows: list[Any]) -> bool:
-        return self._is_done(self._library.betable_apply, packing(layout(self.state.table)).puts(rows))
+        return self._reply(self._library.betable_apply, packing(layout(self.state.table)).puts(rows)) is not None
 
     def _apply_messages(self, messages: list[Any]) -> bool:
-        return self._is_done(self._library.betable_apply, packing(layout(self.state.table)).changes(messages))
+        return self._reply(self._library.betable_apply, packing(layout(self.state.table)).changes(messages)) is not None
 
     def _apply_columns(self, columns: list[Any]) -> bool:
         return self._apply_rows(rows_of_columns(columns))
 
-    def _is_done(self, call: Callable[..., int], packed: bytes | None) -> bool:
-        """Whether a call on packed bytes was done. If there are none, or if they are refused, it was not, and nothing has changed."""
+    def _reply(self, call: Callable[..., int], packed: bytes | None) -> bytes | None:
+        """The reply to a call on packed bytes. If there are none, or if they are refused, it is None, and nothing has changed."""
         if packed is None:
-            return False
-        status = call(self._open_handle(), packed, len(packed), self._fault)
+            return None
+        self._begin()
+        try:
+            status = call(self._handle, packed, len(packed), self._fault)
+            reply = self._copied() if status == DONE else None
+        finally:
+            self._give()
         if status == OUT_OF_MEMORY:
             self._raise_out_of_memory()
-        return status == DONE
+        return reply
+
+    def _reply_on_tree(self, call: Callable[..., int], name: str) -> bytes:
+        """The reply to a call on the name of a tree, which is refused only if there is no such tree."""
+        reply = self._reply(call, name_bytes(name))
+        if reply is None:
+            # The same refusal, in words.
+            self._rows(b"scan", f"scan {name}\ngo\n", [])
+            raise RuntimeError(f"a call on the tree '{name}' is refused, and its rows are not")
+        return reply
 
     def _raise_out_of_memory(self) -> None:
         raise OutOfMemory(b"", False, self.is_lost)
@@ -291,8 +356,8 @@ class PureSession(Calls):
 
     def _page_rows(self, name: str, page: bytes) -> list[Row] | None:
         """The rows of a page, or None if it is refused."""
-        is_done = self._is_done(self._library.betable_page, page)
-        return packing(layout(self.state.table, name)).rows(self._copied()) if is_done else None
+        reply = self._reply(self._library.betable_page, page)
+        return None if reply is None else packing(layout(self.state.table, name)).rows(reply)
 
     def _pages(self, name: str, there: Layout, most: int, lower: bytes | None, upper: bytes | None, script: str) -> Iterator[Row]:
         while True:
@@ -350,8 +415,8 @@ else:
             addresses = [ctypes.cast(getattr(self._library, name), ctypes.c_void_p).value for name in _packed.CALLS]
             self._connect(self._handle, ctypes.addressof(self._handle), tuple(addresses))
 
-        def _note(self, script: bytes, replies: bytes, is_whole: bool) -> None:
-            super()._note(script, replies, is_whole)
+        def _note(self, script: bytes, replies: bytes, places: list[Place] | None) -> None:
+            super()._note(script, replies, places)
             table = self._state.table
             names = [] if table is None else [name.decode() for name in (PRIMARY, *table.indexes)]
             self._know({name: description(name, layout(table, name)) for name in names})
