@@ -1,13 +1,14 @@
 // c_calls [ROWS [ROUNDS]]: the cost of one call from C to betable through include/betable.h, and to SQLite and LMDB through their own interfaces: puts of
-// one row, batches of a hundred, gets of a row, pages of a hundred rows from a key on, and sums of the rows of a city. A row is an int, a city and a quantity.
-// Rows are in C variables before and after a call. So a call of betable includes packing its bytes and unpacking its reply, a call of SQLite its bindings and
-// columns, and a call of LMDB the packing of key and value. The calls of betable are measured on packed bytes and as scripts; sums are always a script. Each
-// round gives each engine new, empty tables, and begins with a different engine. The results of all engines are compared. The program prints the processor
-// time of a call of betable on packed bytes, and the ratio of the others to it in the same round; both are medians of all rounds.
+// one row, batches of a hundred, gets of a row, pages of a hundred rows from a key on, sums of the rows of a city, and batches of 65,536 puts. A row is an
+// int, a city and a quantity. Rows are in C variables before and after a call. So a call of betable includes packing its bytes and unpacking its reply, a call
+// of SQLite its bindings and columns, and a call of LMDB the packing of key and value. The calls of betable are measured on packed bytes and as scripts; a page
+// is always packed. Each round gives each engine new, empty tables, and begins with a different engine. The results of all engines are compared. The program
+// prints the processor time of a call of betable on packed bytes, and the ratio of the others to it in the same round; both are medians of all rounds.
 //
 // betable is in memory, SQLite is ':memory:' without journal, and LMDB is on a file in memory, written in place and never synced. A put of one row is a
 // batch, a statement outside of a transaction, and a transaction; a batch of a hundred puts is a batch, and a transaction. Sums are over an index on the
-// city that includes the quantity. It is created when all rows are in the table, and its creation is not counted.
+// city that includes the quantity. It is created when all rows are in the table, and its creation is not counted. Batches of 65,536 puts, the most that a batch
+// has, go into a new table without index, as many as there are rows for.
 #define _GNU_SOURCE
 #include <lmdb.h>
 #include <sqlite3.h>
@@ -21,7 +22,7 @@
 
 #include "betable.h"
 
-enum { CITIES = 1000, BATCH = 100, ENGINES = 4, STEPS = 5, PAGE = 100, MOST_ROUNDS = 99 };
+enum { CITIES = 1000, BATCH = 100, LARGEST_BATCH = 65536, ENGINES = 4, STEPS = 6, PAGE = 100, MOST_ROUNDS = 99 };
 
 typedef struct {
   int64_t id;
@@ -48,7 +49,7 @@ static void fail(const char *why) {
 // ---- betable, as scripts ----
 
 static betable_session session = BETABLE_CLOSED;
-static char script[1 << 16], reply[1 << 13];
+static char script[48 * LARGEST_BATCH], reply[1 << 13];
 
 static size_t run(size_t length) {
   if (betable_run(&session, (const unsigned char *)script, length) != BETABLE_DONE || betable_refused_count(&session) > 0) fail("betable refused a script");
@@ -78,7 +79,7 @@ static int64_t script_get(int64_t id) {
   return qty + (int64_t)strlen(city);
 }
 
-static int64_t betable_sum(const char *city, const char *next_city) {
+static int64_t script_sum(const char *city, const char *next_city) {
   long long count, total;
   run((size_t)sprintf(script, "sums by_city 1 qty\nfrom %s\nto %s\ngo\n", city, next_city));
   if (sscanf(reply, "sum %lld %lld ", &count, &total) != 2) fail("betable has not the sum");
@@ -89,7 +90,7 @@ static void betable_end(void) { betable_close(&session); }
 
 // ---- betable, on packed bytes ----
 
-static unsigned char packed[1 << 13], answer[1 << 13];
+static unsigned char packed[32 * LARGEST_BATCH], answer[1 << 13];
 static betable_fault fault;
 
 // The machine is little endian, as packed bytes are.
@@ -142,6 +143,23 @@ static int64_t packed_page(int64_t id) {
   return total;
 }
 
+static unsigned char *add_city(unsigned char *at, const char *city) {
+  size_t length = strlen(city);
+  at = add(at, "\1\1", 2);
+  *at++ = (unsigned char)length;
+  return add(at, city, length);
+}
+
+static int64_t packed_sum(const char *city, const char *next_city) {
+  unsigned char *at = add_city(add_city(add(header(1), "\7by_city\3qty", 12), city), next_city);
+  size_t count = answered(betable_sums(&session, packed, (size_t)(at - packed), &fault));
+  if (count < 5 || count != 29 + (size_t)answer[4]) fail("betable has not the sum");
+  int64_t rows, total;
+  memcpy(&rows, answer + count - 24, 8);
+  memcpy(&total, answer + count - 16, 8);
+  return total + rows;
+}
+
 // ---- SQLite ----
 
 static sqlite3 *db;
@@ -163,6 +181,7 @@ static void sqlite_begin(void) {
   sql_put = prepared("INSERT OR REPLACE INTO t VALUES(?,?,?)");
   sql_get = prepared("SELECT city,qty FROM t WHERE id=?");
   sql_page = prepared("SELECT city,qty FROM t WHERE id>=? ORDER BY id LIMIT 100");
+  sql_sum = NULL;
 }
 
 static void sqlite_put(const Row *rows, size_t count) {
@@ -349,12 +368,13 @@ static void lmdb_end(void) {
 // ---- the rounds ----
 
 static const Engine ENGINE[ENGINES] = {
-    {"betable", betable_begin, packed_put, betable_index, packed_get, packed_page, betable_sum, betable_end},
-    {"as scripts", betable_begin, script_put, betable_index, script_get, packed_page, betable_sum, betable_end},
+    {"betable", betable_begin, packed_put, betable_index, packed_get, packed_page, packed_sum, betable_end},
+    {"as scripts", betable_begin, script_put, betable_index, script_get, packed_page, script_sum, betable_end},
     {"SQLite", sqlite_begin, sqlite_put, sqlite_index, sqlite_get, sqlite_page, sqlite_sum, sqlite_end},
     {"LMDB", lmdb_begin, lmdb_put, lmdb_index, lmdb_get, lmdb_page, lmdb_sum, lmdb_end},
 };
-static const char *const STEP[STEPS] = {"put of one row", "batch of a hundred puts", "get of a row", "page of a hundred rows", "sums of a city"};
+static const char *const STEP[STEPS] = {"put of one row",         "batch of a hundred puts", "get of a row",
+                                        "page of a hundred rows", "sums of a city",          "batch of 65,536 puts"};
 
 static double processor_seconds(void) {
   struct timespec now;
@@ -404,6 +424,14 @@ static int64_t measure(const Engine *engine, const Row *rows, size_t count, doub
   }
   seconds[4] = (processor_seconds() - begin) / (double)sums;
   engine->close();
+
+  engine->open();
+  size_t batches = count / LARGEST_BATCH;
+  begin = processor_seconds();
+  for (size_t i = 0; i < batches; i++) engine->put(rows + i * LARGEST_BATCH, LARGEST_BATCH);
+  seconds[5] = (processor_seconds() - begin) / (double)batches;
+  for (size_t i = 0; i < batches * LARGEST_BATCH; i += BATCH) answers += engine->get(rows[i].id);
+  engine->close();
   return answers;
 }
 
@@ -419,7 +447,7 @@ static double middle(double *values, size_t count) {
 
 int main(int count, char **words) {
   size_t row_count = count > 1 ? strtoul(words[1], NULL, 10) : 200000, rounds = count > 2 ? strtoul(words[2], NULL, 10) : 7;
-  if (row_count < 10 * CITIES || rounds < 1 || rounds > MOST_ROUNDS) fail("from 10,000 rows on, and 1 to 99 rounds");
+  if (row_count < LARGEST_BATCH || rounds < 1 || rounds > MOST_ROUNDS) fail("from 65,536 rows on, and 1 to 99 rounds");
   row_count -= row_count % (2 * BATCH);
   Row *rows = malloc(row_count * sizeof *rows);
   if (rows == NULL) fail("out of memory");

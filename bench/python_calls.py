@@ -3,10 +3,11 @@
 
     bench/python_calls.py [--rows N] [--rounds N]
 
-The calls are those of bench/c_calls.c: puts of one row, batches of a hundred, gets of a row, and sums of the rows of a city over an index that is made when
-all rows are there. Rows are tuples of an int, a str and an int, before a call and after it. Both are in memory, SQLite without journal; each round gives each
-of them new, empty tables, and begins with another one, and both are compared by what they answer. Printed is the processor time of a call of betable, and
-that of sqlite3 over it in the same round, the middle one of all rounds. The library is that of BETABLE_LIBRARY, or of out/ of this repository.
+The calls are those of bench/c_calls.c: puts of one row, batches of a hundred, gets of a row, scans of the hundred rows from a key on, and sums of the rows of
+a city over an index that is made when all rows are there. Rows are tuples of an int, a str and an int, before a call and after it. Both are in memory, SQLite
+without journal; each round gives each of them new, empty tables, and begins with another one, and both are compared by what they answer. Printed is the
+processor time of a call of betable, and that of sqlite3 over it in the same round, the middle one of all rounds. The library is that of BETABLE_LIBRARY, or of
+out/ of this repository; the first line says whether calls go by the extension or by ctypes (BETABLE_PURE=1).
 """
 
 import argparse
@@ -22,7 +23,7 @@ sys.path.insert(0, str(Path(__file__).resolve().parents[1] / "clients/python"))
 import betable
 
 CITIES, BATCH = 1000, 100
-STEPS = ("put of one row", "batch of a hundred puts", "get of a row", "sums of a city")
+STEPS = ("put of one row", "batch of a hundred puts", "get of a row", "scan of a hundred rows", "sums of a city")
 
 
 class Betable:
@@ -33,6 +34,9 @@ class Betable:
 
     def put_one(self, row):
         self.session.put((row,))
+
+    def page(self, key):
+        return self.session.scan("primary", (key,), None, BATCH)
 
     def make_index(self):
         self.session.run("index by_city on city include qty\nbuild by_city 100000000\n")
@@ -61,6 +65,9 @@ class Sqlite:
 
     def get(self, key):
         return self.db.execute("SELECT id,city,qty FROM t WHERE id=?", (key,)).fetchone()
+
+    def page(self, key):
+        return self.db.execute("SELECT id,city,qty FROM t WHERE id>=? ORDER BY id LIMIT ?", (key, BATCH)).fetchall()
 
     def make_index(self):
         self.db.execute("CREATE INDEX by_city ON t(city,qty)")
@@ -100,12 +107,19 @@ def measured(engine, rows):
     found = [engine.get(key) for key in keys]
     seconds.append((clock() - begin) / len(keys))
 
+    # Their rows are dropped as they come: to keep them all would measure how the system gives memory.
+    begin = clock()
+    for key in keys[: len(keys) // 20]:
+        engine.page(key)
+    seconds.append((clock() - begin) / (len(keys) // 20))
+    pages = [engine.page(key) for key in keys[:200]]
+
     engine.make_index()
     begin = clock()
     sums = [engine.sums(*bounds) for bounds in ranges]
     seconds.append((clock() - begin) / len(ranges))
     engine.close()
-    return seconds, (found, sums)
+    return seconds, (found, pages, sums)
 
 
 def main():
@@ -125,7 +139,8 @@ def main():
             sys.exit("python_calls: the engines answer differently")
         own.append(found[Betable][0])
         ratios.append([theirs / ours for ours, theirs in zip(*(found[engine][0] for engine in ENGINES))])
-    print(f"{count} rows, the middle of {words.rounds} rounds\n\n| Call | betable | sqlite3 |\n|---|---|---|")
+    by = "ctypes" if betable.session._packed is None else "the extension"
+    print(f"{count} rows, the middle of {words.rounds} rounds, calls by {by}\n\n| Call | betable | sqlite3 |\n|---|---|---|")
     for step, times, shares in zip(STEPS, zip(*own), zip(*ratios)):
         print(f"| {step} | {1e6 * median(times):.2f} µs | {median(shares):.2f} |")
 

@@ -1,5 +1,5 @@
-/* The calls on packed bytes from C: puts three rows and changes one, gets a row, reads the table in pages of two rows, and shows a refusal. No text is written
- * or read in between. Build it as example.c. */
+/* The calls on packed bytes from C: puts three rows and changes one, gets a row, reads the table in pages of two rows, sums the quantities of each city, and
+ * shows a refusal. No text is written or read in between. Build it as example.c. */
 #include "betable.h"
 
 #include <inttypes.h>
@@ -60,8 +60,22 @@ static int64_t print_rows(betable_session *session, int *count) {
     return id;
 }
 
+/* Prints the groups of the reply. A sum has sixteen bytes: the first eight are enough for these. */
+static void print_sums(betable_session *session) {
+    unsigned char reply[4096];
+    size_t length = betable_copy_replies(session, 0, reply, sizeof reply);
+    for (size_t at = 4; at < length;) {
+        int size = reply[at];
+        const unsigned char *numbers = reply + at + 1 + size;
+        printf("%.*s: rows %" PRId64 ", sum %" PRId64 "\n", size, (const char *)reply + at + 1, number_at(numbers), number_at(numbers + 8));
+        at += (size_t)size + 25;
+    }
+}
+
 int main(void) {
-    static const unsigned char script[] = "table 16 1024 256 1 id:int city:text qty:int\n";
+    static const unsigned char script[] =
+        "table 16 1024 256 1 id:int city:text qty:int\n"
+        "index by_city on city include qty\nbuild by_city 1\n";
     betable_session session = BETABLE_CLOSED;
     betable_fault fault;
     int count;
@@ -71,7 +85,7 @@ int main(void) {
     packed changes = begun(4);
     add_put(&changes, 1, "Oslo", 30);
     add_put(&changes, 2, "Bergen, west", 10);
-    add_put(&changes, 3, "Tromsø", 7);
+    add_put(&changes, 3, "Oslo", 7);
     add_byte(&changes, 2); /* an upsert of the row of 2: */
     add_number(&changes, 2, 8);
     add_byte(&changes, 1); /* one operation, */
@@ -101,6 +115,15 @@ int main(void) {
         puts("page:");
         last = print_rows(&session, &count);
     }
+
+    packed sums = begun(1); /* groups by one column */
+    add_text(&sums, "by_city");
+    add_text(&sums, "qty");
+    add_number(&sums, 0, 2); /* without bounds */
+    if (betable_sums(&session, sums.bytes, sums.length, &fault) != BETABLE_DONE)
+        return 1;
+    puts("sums:");
+    print_sums(&session);
 
     packed wrong = begun(2);
     add_put(&wrong, 4, "Bodø", 1);

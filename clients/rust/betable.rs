@@ -30,11 +30,15 @@ mod changes;
 mod fault;
 mod packed;
 mod rows;
+mod sums;
+mod usage;
 mod values;
 
 pub use changes::{Changes, Op};
 pub use fault::Fault;
 pub use rows::{Row, Rows};
+pub use sums::{Group, Sums};
+pub use usage::Usage;
 pub use values::{FromValue, Kind, Packer, ToValue, Value, Values};
 
 use packed::{CallFault, Tree};
@@ -55,7 +59,9 @@ extern "C" {
     fn betable_apply(session: *mut Handle, changes: *const u8, length: usize, fault: *mut CallFault) -> u32;
     fn betable_get(session: *mut Handle, key: *const u8, length: usize, fault: *mut CallFault) -> u32;
     fn betable_page(session: *mut Handle, page: *const u8, length: usize, fault: *mut CallFault) -> u32;
+    fn betable_sums(session: *mut Handle, sums: *const u8, length: usize, fault: *mut CallFault) -> u32;
     fn betable_columns(session: *mut Handle, name: *const u8, length: usize, fault: *mut CallFault) -> u32;
+    fn betable_usage(session: *mut Handle, name: *const u8, length: usize, fault: *mut CallFault) -> u32;
     fn betable_replies_length(session: *mut Handle) -> usize;
     fn betable_copy_replies(session: *mut Handle, from: usize, out: *mut u8, room: usize) -> usize;
     fn betable_refused_count(session: *mut Handle) -> usize;
@@ -95,7 +101,7 @@ pub struct Session {
     packed: Vec<u8>,
     /// The reply to a typed call.
     reply: Vec<u8>,
-    /// Where the values of a row of the reply end, from the start of the row.
+    /// Where the values of a row of the reply end, from the start of the row, or those of each group of sums.
     ends: Vec<usize>,
 }
 

@@ -44,9 +44,19 @@ impl Session {
 
     /// Adds the name of a tree to packed bytes.
     pub(crate) fn pack_name(&mut self, name: &str) -> Result<(), Fault> {
+        self.pack_name_or(name, NO_SUCH_TREE)
+    }
+
+    /// Adds the name of a column to packed bytes.
+    pub(crate) fn pack_column_name(&mut self, name: &str) -> Result<(), Fault> {
+        self.pack_name_or(name, NO_SUCH_COLUMN)
+    }
+
+    // A name that is too long for its length is refused as one that is not there.
+    fn pack_name_or(&mut self, name: &str, refusal: u64) -> Result<(), Fault> {
         match u8::try_from(name.len()) {
             Ok(length) => append(&mut self.packed, &[length]).and_then(|()| append(&mut self.packed, name.as_bytes())),
-            Err(_) => Err(Fault::refused(NO_SUCH_TREE, 0, 0)),
+            Err(_) => Err(Fault::refused(refusal, 0, 0)),
         }
     }
 
@@ -90,6 +100,7 @@ impl Session {
 }
 
 const NO_SUCH_TREE: u64 = 8;
+const NO_SUCH_COLUMN: u64 = 15;
 
 fn tree_of_reply(name: &str, reply: &[u8]) -> Option<Tree> {
     let keys = usize::try_from(u64::from_le_bytes(reply.get(..8)?.try_into().ok()?)).ok()?;

@@ -11,9 +11,10 @@ const ROWS_OF_PAGE: u32 = 1024;
 /// A row that was read. Its texts and bytes are borrowed from the reply.
 #[derive(Clone, Copy)]
 pub struct Row<'r> {
-    columns: &'r [Column],
-    bytes: &'r [u8],
-    ends: &'r [usize],
+    pub(crate) columns: &'r [Column],
+    pub(crate) bytes: &'r [u8],
+    // Where each value ends.
+    pub(crate) ends: &'r [usize],
 }
 
 impl<'r> Row<'r> {
@@ -173,7 +174,8 @@ const NO_BOUND: u8 = 0;
 const PREFIX: u8 = 1;
 const AFTER: u8 = 2;
 
-fn pack_bound<V: Values + ?Sized>(out: &mut Vec<u8>, item: u64, key: &[Column], values: &V) -> Result<(), Fault> {
+/// Packs the bound before the rows that begin with these values, or no bound.
+pub(crate) fn pack_bound<V: Values + ?Sized>(out: &mut Vec<u8>, item: u64, key: &[Column], values: &V) -> Result<(), Fault> {
     let start = out.len();
     append(out, &[PREFIX, 0])?;
     match pack_first(out, item, key, values)? {
@@ -188,8 +190,8 @@ fn pack_bound<V: Values + ?Sized>(out: &mut Vec<u8>, item: u64, key: &[Column], 
     }
 }
 
-// Where the value of a kind that starts at a place of a row ends. `None` if there is no such value.
-fn end_of_value(kind: Kind, row: &[u8], start: usize) -> Option<usize> {
+/// Where the value of a kind that starts at a place of a row ends. `None` if there is no such value.
+pub(crate) fn end_of_value(kind: Kind, row: &[u8], start: usize) -> Option<usize> {
     let rest = row.get(start..)?;
     let length = match kind {
         Kind::Int => 8,

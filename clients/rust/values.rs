@@ -276,8 +276,8 @@ pub(crate) fn append(out: &mut Vec<u8>, bytes: &[u8]) -> Result<(), Fault> {
     Ok(())
 }
 
-/// Makes room for this many more bytes in a buffer.
-pub(crate) fn reserve(out: &mut Vec<u8>, count: usize) -> Result<(), Fault> {
+/// Makes room for this many more items in a buffer.
+pub(crate) fn reserve<T>(out: &mut Vec<T>, count: usize) -> Result<(), Fault> {
     match out.len().checked_add(count) {
         Some(length) if length <= isize::MAX as usize => out.try_reserve(count).map_err(|_| Fault::OutOfMemory { is_lost: false }),
         _ => Err(Fault::TooLarge),

@@ -2,6 +2,7 @@
 memory, valgrind, and the programs of docs/C.md and docs/PYTHON.md. The library is that of BETABLE_LIBRARY, or bin/build_c builds it. Where valgrind or rustc
 is not installed a line says so, and what needs it passes without a look."""
 
+import ctypes
 import os
 import re
 import shutil
@@ -9,7 +10,7 @@ import subprocess
 import sys
 import tempfile
 import threading
-from functools import cache
+from functools import cache, wraps
 from pathlib import Path
 
 from common import Failure, expect, expect_within, SECONDS, TOP
@@ -37,11 +38,70 @@ def library():
 
 
 @cache
+def build_extension():
+    """Builds the extension of the Python client, if it can be. It is built in the checkout, so it is done before tests run side by side."""
+    words = [sys.executable, TOP / "clients/python/setup.py", "-q", "build_ext", "--inplace", "--build-temp", programs().name]
+    subprocess.run(words, capture_output=True)
+
+
+@cache
 def betable():
     """The Python client, as a module."""
     library()
+    build_extension()
     sys.path.insert(0, str(TOP / "clients/python"))
     return __import__("betable")
+
+
+say_once = cache(print)
+
+
+def both_ways(test):
+    """The test, with sessions of the extension, and then with those that go by ctypes."""
+
+    @wraps(test)
+    def tested():
+        client = betable()
+        usual, pure = client.session.Session, client.session.PureSession
+        if client.session._packed is None:
+            say_once("the extension of the Python package is not built, or BETABLE_PURE is set: calls are tested by ctypes alone")
+        try:
+            for client.Session in (usual, pure):
+                test()
+        finally:
+            client.Session = usual
+
+    return tested
+
+
+PACKED_CALLS = ("betable_apply", "betable_get", "betable_page", "betable_columns", "betable_sums")
+
+
+class OtherLibrary:
+    """The library of a session, with other functions in place of some of its own."""
+
+    def __init__(self, session, functions):
+        self.library, self.functions = session._library, functions
+        session._library = self
+        self.connect(session)
+
+    def __getattr__(self, name):
+        return self.functions.get(name) or getattr(self.library, name)
+
+    def connect(self, session):
+        # The extension has the addresses of its calls.
+        getattr(session, "_connect_calls", lambda: None)()
+
+    def end(self, session):
+        session._library = self.library
+        self.connect(session)
+
+
+def library_without_memory(session, calls=PACKED_CALLS):
+    """A library whose calls on packed bytes return that memory ran out, in a session."""
+    module = betable().session
+    kind = ctypes.CFUNCTYPE(ctypes.c_uint, ctypes.POINTER(module._Handle), ctypes.c_char_p, ctypes.c_size_t, ctypes.POINTER(module._Fault))
+    return OtherLibrary(session, {name: kind(lambda *_: module.OUT_OF_MEMORY) for name in calls})
 
 
 @cache
@@ -60,8 +120,9 @@ def c_program(source, *options):
 
 
 def what_tests_share_is_built():
-    """The library, and the programs that more than one test runs, before tests run side by side."""
+    """The library, the extension of the Python client, and the programs that more than one test runs, before tests run side by side."""
     library()
+    build_extension()
     worked_scripts()
     for source in (TOP / "clients/c/example.c", HERE / "c/cuts.c", HERE / "c/wrong_use.c"):
         c_program(source)
@@ -159,6 +220,21 @@ def examples_run_files_on_one_table():
                 ended = subprocess.run([program, *paths], capture_output=True, timeout=SECONDS)
                 status = 2 if re.search(rb"^refused ", ended.stdout, re.MULTILINE) else 0
                 expect((script.name, ended.stdout, ended.returncode, ended.stderr), (script.name, wanted.read_bytes(), status, b""))
+
+
+@both_ways
+def replies_of_worked_scripts_are_cut_as_their_text_says():
+    """Where the library says that each reply is, beside a parser of their text, and by which commands are refused."""
+    client = betable()
+    for script, _, _ in worked_scripts():
+        given = script.read_bytes()
+        with client.Session() as session:
+            replies, places = session._replies_with_places(given)
+        commands = list(client.language.commands(given))
+        expect((script.name, len(places)), (script.name, len(commands)))
+        by_places, by_text = (list(client.replies.answered(commands, replies, some)) for some in (places, None))
+        expect((script.name, by_places), (script.name, by_text))
+        expect((script.name, b"".join(reply for _, reply, _ in by_places)), (script.name, replies))
 
 
 def sessions_of_two_threads_do_not_meet():
@@ -272,11 +348,6 @@ def wrong_use_is_answered():
     ended = subprocess.run([c_program(HERE / "c/wrong_use.c")], capture_output=True)
     expect(ended.returncode, 0)
     session = betable().Session()
-    faults = []
-    other = threading.Thread(target=lambda: faults.append(fault_of(lambda: session.run("get 1\n"))))
-    other.start()
-    other.join()
-    expect(faults, [RuntimeError])
     session.close()
     session.close()
     expect([fault_of(lambda: session.run("get 1\n")), fault_of(lambda: session.is_lost)], [ValueError, ValueError])
@@ -309,12 +380,30 @@ def pages_in_rust_repeat_and_lose_no_row():
     typed_calls_hold("pages")
 
 
+def typed_sums_in_rust_are_those_of_replies():
+    typed_calls_hold("sums")
+
+
+def typed_usage_in_rust_is_that_of_the_image():
+    typed_calls_hold("usage")
+
+
 def wrong_typed_calls_in_rust_say_where_and_change_nothing():
     typed_calls_hold("wrong")
 
 
 def typed_calls_in_rust_allocate_nothing_for_a_value():
     typed_calls_hold("allocations")
+
+
+def worked_scripts_by_typed_calls_in_rust_leave_the_trees_that_they_leave():
+    """Each batch, get, scan and sums of the worked scripts that has plain values is a typed call. The program compares, and prints how many there were."""
+    if is_installed("rustc", "clients/rust is"):
+        words = [word for script, _, places in worked_scripts() for word in ("--", script, *map(str, places))]
+        ended = subprocess.run([rust_program(HERE / "rust/scripts.rs"), *words[1:]], capture_output=True, text=True, timeout=SECONDS)
+        expect((ended.returncode, ended.stderr), (0, ""))
+        batches, gets, scans, sums, refused = map(int, re.findall(r"\d+", ended.stdout))
+        expect((batches > 110, gets > 20, scans > 50, sums > 20, refused > 5), (True, True, True, True, True))
 
 
 def refused_memory_is_answered():
@@ -348,6 +437,7 @@ TESTS_OF_TEXTS = [
     cut_scripts_answer_as_whole_ones_in_python,
     cut_scripts_answer_as_whole_ones_in_rust,
     examples_run_files_on_one_table,
+    replies_of_worked_scripts_are_cut_as_their_text_says,
     sessions_of_two_threads_do_not_meet,
     programs_of_the_document_print_what_they_say,
     examples_print_their_rows,
@@ -359,8 +449,11 @@ TESTS_OF_TEXTS = [
     typed_changes_in_rust_leave_the_images_of_scripts,
     typed_reads_in_rust_give_the_rows_of_replies,
     pages_in_rust_repeat_and_lose_no_row,
+    typed_sums_in_rust_are_those_of_replies,
+    typed_usage_in_rust_is_that_of_the_image,
     wrong_typed_calls_in_rust_say_where_and_change_nothing,
     typed_calls_in_rust_allocate_nothing_for_a_value,
+    worked_scripts_by_typed_calls_in_rust_leave_the_trees_that_they_leave,
     refused_memory_is_answered,
     valgrind_finds_nothing,
 ]

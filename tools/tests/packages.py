@@ -18,7 +18,7 @@ from clients import is_installed, library
 from common import expect, expect_within, imported, PROGRAM, TOP
 
 LONG = 3_600  # seconds within which packages and a Debian have to be made, also on a busy machine
-NEEDED = {"git": "packages are", "dpkg-deb": "packages are", "objdump": "packages are"}
+NEEDED = {"git": "packages are", "gcc": "packages are", "dpkg-deb": "packages are", "objdump": "packages are"}
 COMMIT_TIME = "1750000000 +0000"
 RECORD = "rattle-kit-13f logic dac8208d650f15bf", "7 passed, 0 failed"
 
@@ -28,9 +28,10 @@ def can_pack() -> bool:
     if not (TOP / ".git").exists():
         print("this is no git checkout: packages are not tested")
         return False
-    modules = subprocess.run(["/usr/bin/python3", "-c", "import setuptools, wheel, pip"], capture_output=True)
+    code = "import setuptools, wheel, pip, sysconfig; open(sysconfig.get_path('include') + '/Python.h')"
+    modules = subprocess.run(["/usr/bin/python3", "-c", code], capture_output=True)
     if modules.returncode:
-        print("pip, setuptools and wheel are not installed for /usr/bin/python3: packages are not tested")
+        print("pip, setuptools, wheel and the headers of Python are not installed for /usr/bin/python3: packages are not tested")
     return modules.returncode == 0 and all(is_installed(tool, what) for tool, what in NEEDED.items())
 
 

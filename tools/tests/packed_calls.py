@@ -1,23 +1,29 @@
-"""Tests of the calls on packed bytes, of the library for C and of the Python client: beside scripts, with bytes that are none of the layout, and at random.
+"""Tests of the calls on packed bytes, of the library for C and of the Python client: beside scripts, with bytes that are none of the layout, at random, with
+memory refused, and under valgrind.
 
-The bytes are those of an encoder of this file, and not of the client's. `BETABLE_FUZZ` is the number of random bytes that are tried, 20,000 unless it is set."""
+The bytes are those of an encoder of this file, and not of the client's. `BETABLE_FUZZ` is the number of random messages from Python and from C, 20,000 each
+unless it is set, and `BETABLE_SEED` the seed. Under valgrind are a hundredth of those from C."""
 
 import os
 import random
+import re
 import struct
 import subprocess
 from textwrap import dedent
 
 from common import expect, expect_within, SECONDS, TOP
-from clients import betable, c_program, library
+from clients import OtherLibrary, betable, both_ways, build_extension, c_program, HERE, is_installed, library, library_without_memory, worked_scripts
 
-DONE, OUT_OF_MEMORY, NOT_OPEN, REFUSED = 0, 1, 3, 5
+from betable import language
+
+DONE, NOT_OPEN, REFUSED = 0, 3, 5
 SYNTAX, NO_TABLE, BAD_FIELD, BAD_LENGTH, NO_SUCH_TREE, BUILDING, NO_SUCH_COLUMN, NOT_INT = 1, 3, 6, 7, 8, 11, 15, 16
-CALLS = ("betable_apply", "betable_get", "betable_page", "betable_columns")
+CALLS = ("betable_apply", "betable_get", "betable_page", "betable_sums", "betable_columns", "betable_usage")
 UNWRITTEN = (99, 98, 97)
 PUT, DEL, UPS = range(3)
 WORDS = ("set", "add", "max", "min")
 FUZZ = int(os.environ.get("BETABLE_FUZZ", 20_000))
+SEED = os.environ.get("BETABLE_SEED", "8")
 
 
 # ---- the layout, as include/betable.h has it ----
@@ -71,6 +77,10 @@ def page(limit, tree="primary", lower=b"\0", upper=b"\0"):
     return header(limit) + value_bytes(tree) + lower + upper
 
 
+def sums(columns, tree="primary", column="qty", lower=b"\0", upper=b"\0"):
+    return header(columns) + value_bytes(tree) + value_bytes(column) + lower + upper
+
+
 class Bytes:
     """Bytes that are read from the front. What is not there raises the fault of their place."""
 
@@ -113,6 +123,17 @@ def rows_of(reply, kinds):
         places.append(len(reply) - len(bytes_left.rest))
         found.append(bytes_left.values(kinds, 0))
     return found, places
+
+
+def groups_of(reply, kinds):
+    """The groups of a reply: of each the number of rows, the sum, and its values."""
+    expect(reply[:4], b"BTV\x01")
+    found, bytes_left = [], Bytes(reply[4:])
+    while bytes_left.rest:
+        values = bytes_left.values(kinds, 0)
+        numbers = [int.from_bytes(bytes_left.take(size, (BAD_FIELD, 0, 0)), "little", signed=is_signed) for size, is_signed in ((8, False), (16, True))]
+        found.append((*numbers, *values))
+    return found
 
 
 def changes_of(given, kinds, keys):
@@ -161,6 +182,11 @@ class Raw:
 
     def __init__(self, script=""):
         self.session = betable().Session()
+        # Those that the client does not make are of the types of the others.
+        library = self.session._library
+        for name in CALLS:
+            function = getattr(library, name)
+            function.argtypes, function.restype = library.betable_apply.argtypes, library.betable_apply.restype
         if script:
             self.session.run(script)
 
@@ -223,6 +249,7 @@ def filled(dice, count=40):
 # ---- beside scripts ----
 
 
+@both_ways
 def changes_by_packed_bytes_and_by_script_leave_equal_trees():
     """Those of rows and of indexes, of three tables that get the same changes: by script, by packed bytes, and by the client."""
     for seed in range(12):
@@ -237,6 +264,123 @@ def changes_by_packed_bytes_and_by_script_leave_equal_trees():
             expect((seed, by_bytes.images(), by_client.images()), (seed, images, images))
 
 
+class NotInValues(Exception):
+    """What a command says is no value of its column, or has another number of them."""
+
+
+def fields_of_line(line):
+    """Those of the record that ends it."""
+    raw, fault = language.record_of_line(line.rest or b"")
+    if fault:
+        raise NotInValues
+    return language.fields(raw)
+
+
+def values_of_fields(found, columns):
+    """The values of fields of the first of these columns."""
+    if len(found) > len(columns):
+        raise NotInValues
+    return [value_of_field(field, kind) for field, (_, kind) in zip(found, columns)]
+
+
+def values_of_line(line, columns):
+    """The values of the record that ends a line, one of each of these columns."""
+    found = values_of_fields(fields_of_line(line), columns)
+    if len(found) < len(columns):
+        raise NotInValues
+    return found
+
+
+def value_of_field(field, kind):
+    faults = {b"int": language.fault_of_int, b"text": language.fault_of_text, b"flag": language.fault_of_flag, b"bytes": language.fault_of_bytes}
+    if faults[kind](field):
+        raise NotInValues
+    forms = {b"int": int, b"text": bytes.decode, b"flag": lambda flag: flag.lower() == b"true", b"bytes": lambda digits: bytes.fromhex(digits.decode())}
+    return forms[kind](field)
+
+
+def change_in_values(line, table):
+    """The bytes of a message of a batch."""
+    if line.word == b"put":
+        return put(*values_of_line(line, table.columns))
+    if line.word == b"del":
+        return delete(*values_of_line(line, table.key))
+    if line.word != b"ups":
+        raise NotInValues
+    count, found = len(table.key), fields_of_line(line)
+    operations = [operation_in_values(table, *found[at : at + 3]) for at in range(count, len(found) - 2, 3)]
+    if len(found) != count + 3 * len(operations):
+        raise NotInValues
+    return upsert(values_of_fields(found[:count], table.key), *operations)
+
+
+def operation_in_values(table, word, name, field):
+    if word.decode() not in WORDS or name not in table.names:
+        raise NotInValues
+    place = table.names.index(name)
+    return WORDS.index(word.decode()), place, value_of_field(field, table.kinds[place] if word == b"set" else b"int")
+
+
+def call_in_values(command, table):
+    """The call on packed bytes that does what a command does, and its bytes."""
+    words = command.head.text.split()
+    if command.head.word == b"get":
+        return "betable_get", header(1) + values_bytes(values_of_line(command.head, table.key))
+    if not command.is_closed or len(words) != {b"batch": 1, b"scan": 2, b"sums": 4}.get(words[0]):
+        raise NotInValues
+    if words[0] == b"batch":
+        return "betable_apply", changes(*(change_in_values(line, table) for line in command.messages()))
+    tree, bounds = words[1].decode(), {b"from": b"\0", b"to": b"\0"}
+    if [line.word for line in command.messages()] not in ([], [b"from"], [b"to"], [b"from", b"to"]) or not table.has_tree(words[1]):
+        raise NotInValues
+    for line in command.messages():
+        bounds[line.word] = from_values(*values_of_fields(fields_of_line(line), table.key_of(words[1])))
+    if words[0] == b"scan":
+        return "betable_page", page(2**32 - 1, tree, *bounds.values())
+    if not words[2].isdigit():
+        raise NotInValues
+    return "betable_sums", sums(int(words[2]), tree, words[3].decode(), *bounds.values())
+
+
+def worked_scripts_in_values_leave_the_trees_that_they_leave():
+    """Each batch, get, scan and sums of the worked scripts by packed bytes, if it can be said in values, beside the script: its rows or groups, whether it is
+    refused, and the images of all trees after it. All other commands are run as they are."""
+    said, refused = dict.fromkeys(CALLS, 0), 0
+    for script, _, places in worked_scripts():
+        by_script, by_bytes, text = Raw(), Raw(), script.read_bytes()
+        for part in (text[start:end] for start, end in zip(places, places[1:])):
+            is_refused, rows = replied(by_script.session, part)
+            table = by_script.session.state.table
+            try:
+                if table is None:
+                    raise NotInValues
+                name, given = call_in_values(next(language.commands(part)), table)
+            except NotInValues:
+                by_bytes.session.replies(part)
+                continue
+            status, _, reply = by_bytes.call(name, given)
+            said[name] += 1
+            refused += is_refused
+            expect((script.name, part, status), (script.name, part, REFUSED if is_refused else DONE))
+            if status == DONE and name != "betable_apply":
+                words = part.decode().split()
+                kinds = by_script.kinds("primary" if name == "betable_get" else words[1])
+                found = groups_of(reply, kinds[: int(words[2])]) if name == "betable_sums" else rows_of(reply, kinds)[0]
+                expect((script.name, part, found), (script.name, part, rows))
+            expect((script.name, part, by_bytes.images() == by_script.images()), (script.name, part, True))
+    expect([said[name] > least for name, least in zip(CALLS, (140, 30, 50, 20))] + [refused > 10], [True] * 5)
+
+
+def replied(session, part):
+    """Whether a command is refused, and the rows of its reply."""
+    try:
+        replies = session.run(part)
+    except betable().Refused:
+        return True, []
+    return False, replies[0].rows if replies else []
+
+
+@both_ways
 def rows_that_are_put_go_as_they_go_by_text():
     """Rows of the client, one after the other and many at once, beside the lines of a batch."""
     client, dice = betable(), random.Random(3)
@@ -248,6 +392,7 @@ def rows_that_are_put_go_as_they_go_by_text():
         expect(by_client.images(), by_script.images())
 
 
+@both_ways
 def gets_and_pages_are_those_of_scans():
     """Of random keys, bounds and limits, in the rows and in the indexes, by packed bytes and by the client."""
     for seed in range(6):
@@ -274,6 +419,38 @@ def gets_and_pages_are_those_of_scans():
                 expect(list(session.iterate(tree, *(values or None for values in bounds), dice.randrange(1, 9))), wanted)
 
 
+def sums_are_those_of_scripts():
+    """Of random bounds and numbers of columns, in the rows and in the indexes. Some totals need more than 64 bits."""
+    largest = 0
+    for seed in range(6):
+        dice = random.Random(seed)
+        raw = filled(dice, 80)
+        session = raw.session
+        for tree, columns in (("primary", ("id", "qty")), ("by_city", ("id", "qty")), ("large", ("qty", "id"))):
+            whole, kinds = session.run(f"scan {tree}\ngo\n")[0].rows, raw.kinds(tree)
+            count = len(session.state.table.key_of(tree.encode()))
+            for _ in range(40):
+                bounds = [dice.choice(whole)[: dice.randrange(count + 1)] for _ in range(2)]
+                column, by = dice.choice(columns), dice.randrange(1, count + 1)
+                lines = "".join(f"{word} {betable().record(values)}\n" for word, values in zip(("from", "to"), bounds) if values)
+                wanted = session.run(f"sums {tree} {by} {column}\n{lines}go\n")[0].rows
+                found = groups_of(raw.reply("betable_sums", sums(by, tree, column, *(from_values(*values) for values in bounds))), kinds[:by])
+                expect((tree, by, column, bounds, found), (tree, by, column, bounds, wanted))
+                largest = max([largest, *(abs(group[1]) for group in found)])
+    expect(largest > 2**64, True)
+
+
+def sums_after_a_row_begin_with_the_next_one():
+    dice = random.Random(9)
+    raw = filled(dice)
+    for tree in ("primary", "by_city", "large"):
+        whole, keys = raw.session.scan(tree), len(raw.session.state.table.key_of(tree.encode()))
+        for place, row in enumerate(whole):
+            reply = raw.reply("betable_sums", sums(keys, tree, "qty", after_row(*row[:keys])))
+            expect((tree, row, [group[2:] for group in groups_of(reply, raw.kinds(tree)[:keys])]), (tree, row, [later[:keys] for later in whole[place + 1 :]]))
+
+
+@both_ways
 def a_page_after_a_row_repeats_and_loses_no_row():
     """Pages that begin with 2 and the first bytes of the last row, which a program has without decoding it."""
     dice = random.Random(1)
@@ -296,6 +473,7 @@ def a_page_after_a_row_repeats_and_loses_no_row():
             expect(list(raw.session.iterate(tree, page=limit)), wanted)
 
 
+@both_ways
 def keys_that_begin_alike_are_in_one_page_each():
     """Texts and bytes that are the beginning of another, zeros, the largest ints, and texts that only a load takes."""
     dice = random.Random(2)
@@ -327,6 +505,25 @@ def columns_are_those_of_the_tables_and_indexes():
     expect(session.columns(), [("land", "text", True), ("id", "int", True), ("ok", "flag", False), ("raw", "bytes", False), ("qty", "int", False)])
     found = session.columns("by_qty")
     expect((found, found[3].name, found[3].kind, found[3].is_key), ([("qty", "int", True), ("land", "text", True), ("id", "int", True), ("ok", "flag", False)], "ok", "flag", False))
+
+
+def usage_is_that_of_the_image():
+    """The rows of the leaves, the messages of the inner nodes, and the height, of trees that are empty, of one leaf, and of some levels."""
+    seen = set()
+    for seed in range(4):
+        dice = random.Random(seed)
+        raw = Raw(SCHEMA + "index begun on ok\n")
+        for count in (0, 1, 2, 5, 40, 100):
+            raw.apply(*(random_change(dice)[1] for _ in range(count)))
+            for tree in (*TREES, "begun"):
+                lines = raw.session.replies(f"image {tree}\n").decode().splitlines()
+                counts = {word: sum(int(line.split()[-1]) for line in lines if line.split()[0] == word) for word in ("leaf", "inner")}
+                height = int(lines[0].split()[-1])
+                reply = raw.reply("betable_usage", header(1) + value_bytes(tree))
+                expect((seed, count, tree, reply), (seed, count, tree, b"BTV\x01" + struct.pack("<QQQ", counts["leaf"], counts["inner"], height)))
+                expect((seed, count, tree, raw.session.usage(tree)), (seed, count, tree, (counts["leaf"], counts["inner"], height)))
+                seen.add((min(height, 3), counts["inner"] > 0))
+    expect(seen >= {(1, False), (2, True), (3, True)}, True)
 
 
 # ---- bytes that are none of the layout ----
@@ -395,13 +592,70 @@ MALFORMED = [
     ("betable_page", page(1, "by_city", from_values(b"\xff")), (BAD_FIELD, 1, 1)),
     ("betable_page", page(1, "by_city", b"\0", from_values("Oslo", 1, True)), (BAD_LENGTH, 2, 0)),
     ("betable_page", page(1) + b"\0", (BAD_FIELD, 2, 0)),
+    ("betable_sums", b"", (SYNTAX, 0, 0)),
+    ("betable_sums", header(1), (BAD_FIELD, 0, 0)),
+    ("betable_sums", header(1) + value_bytes("primary"), (BAD_FIELD, 0, 0)),
+    ("betable_sums", sums(1, "nothing"), (NO_SUCH_TREE, 0, 0)),
+    ("betable_sums", sums(1, "begun"), (BUILDING, 0, 0)),
+    ("betable_sums", sums(1, column="nothing"), (NO_SUCH_COLUMN, 0, 0)),
+    ("betable_sums", sums(1, column=""), (NO_SUCH_COLUMN, 0, 0)),
+    ("betable_sums", sums(0), (NO_SUCH_COLUMN, 0, 0)),
+    ("betable_sums", sums(2), (NO_SUCH_COLUMN, 0, 0)),
+    ("betable_sums", sums(2**32 - 1), (NO_SUCH_COLUMN, 0, 0)),
+    ("betable_sums", sums(3, "by_city"), (NO_SUCH_COLUMN, 0, 0)),
+    ("betable_sums", sums(1, "large", "city"), (NO_SUCH_COLUMN, 0, 0)),
+    ("betable_sums", sums(1, column="city"), (NOT_INT, 0, 0)),
+    ("betable_sums", sums(1, "by_city", "ok"), (NOT_INT, 0, 0)),
+    ("betable_sums", sums(1, lower=b"\3"), (BAD_FIELD, 1, 0)),
+    ("betable_sums", sums(1, upper=b"\1\0"), (BAD_LENGTH, 2, 0)),
+    ("betable_sums", sums(1, upper=from_values(1)[:-1]), (BAD_FIELD, 2, 1)),
+    ("betable_sums", sums(1, "by_city", lower=after_row("Oslo")), (BAD_FIELD, 1, 2)),
+    ("betable_sums", sums(1) + b"\0", (BAD_FIELD, 2, 0)),
     ("betable_columns", b"", (SYNTAX, 0, 0)),
     ("betable_columns", header(0) + value_bytes("primary"), (SYNTAX, 0, 0)),
     ("betable_columns", header(1), (BAD_FIELD, 0, 0)),
     ("betable_columns", header(1) + b"\x08primary", (BAD_FIELD, 0, 0)),
     ("betable_columns", header(1) + value_bytes("primary") + b"\0", (BAD_FIELD, 1, 0)),
     ("betable_columns", header(1) + value_bytes("nothing"), (NO_SUCH_TREE, 0, 0)),
+    ("betable_usage", b"", (SYNTAX, 0, 0)),
+    ("betable_usage", header(2) + value_bytes("primary"), (SYNTAX, 0, 0)),
+    ("betable_usage", header(1), (BAD_FIELD, 0, 0)),
+    ("betable_usage", header(1) + b"\x08primary", (BAD_FIELD, 0, 0)),
+    ("betable_usage", header(1) + value_bytes("primary") + b"\0", (BAD_FIELD, 1, 0)),
+    ("betable_usage", header(1) + value_bytes("nothing"), (NO_SUCH_TREE, 0, 0)),
 ]
+
+
+@both_ways
+def sums_of_the_client_are_those_of_its_scripts():
+    """Of each tree, by groups of each number of columns, of each column, between bounds of each length, beside those of text; also sums over 64 bits."""
+    client = betable()
+    for seed in range(4):
+        dice = random.Random(seed)
+        session = filled(dice, dice.choice([0, 1, 40, 400])).session
+        for tree, most, columns in (("primary", 1, ["id", "qty"]), ("by_city", 2, ["id", "qty"]), ("large", 2, ["qty", "id"])):
+            there = session.columns(tree)
+            for _ in range(30):
+                row = dict(zip(["id", "city", "ok", "raw", "qty"], random_row(dice)))
+                bounds = [dice.choice([None, tuple(row[column.name] for column in there[: dice.randrange(1, most + 1)])]) for _ in range(2)]
+                given = tree, dice.randrange(1, most + 1), dice.choice(columns), *bounds
+                found = session.sums(*given)
+                expect((given, found), (given, client.Calls.sums(session, *given)))
+                expect({tuple(map(type, group[:2])) for group in found} <= {(int, int)}, True)
+        for call in (
+            lambda: session.sums("primary", 2, "qty"), lambda: session.sums("by_city", 1, "city"), lambda: session.sums("by_city", 1, "raw"), lambda: session.sums("by_city", 1, "x"),
+            lambda: session.sums("nothing", 1, "qty"), lambda: session.sums("large", 1, "qty", (2**63,)), lambda: session.sums("primary", 0, "qty"),
+        ):  # fmt: skip
+            faults = [fault_of(call), fault_of(lambda: client.Calls.sums(session, "by_city", 1, "qty"))]
+            expect((type(faults[0]), faults[1]), (client.Refused, None))
+    session = client.Session()
+    session.table("side:int id:int qty:int", keys=2)
+    numbers = [2**63 - 1, -(2**63), 2**62, -1, 0]
+    rows = [(side, number, numbers[side]) for side in range(5) for number in range(side * 700 + 3)]
+    session.put(rows)
+    expect(session.sums("primary", 1, "qty"), [(side * 700 + 3, numbers[side] * (side * 700 + 3), side) for side in range(5)])
+    expect(session.sums("primary", 1, "qty", stop=(2,), start=(1,)), [(703, -(2**63) * 703, 1)])
+    expect(session.sums(tree="primary", columns=2, column="id", start=(4, 2_801)), [(1, number, 4, number) for number in (2_801, 2_802)])
 
 
 def malformed_bytes_are_refused_at_their_place_and_change_nothing():
@@ -434,17 +688,20 @@ def bytes_that_are_cut_are_refused_where_they_end():
         expect((at, raw.images()), (at, before))
     expect(raw.reply("betable_apply", whole), b"")
     expect([raw.session.get(key) for key in (1, 2, 3)], [(1, "Bergen, west", False, b"ab", 25), None, (3, "æ", False, b"", -1)])
-    # The same for a page of an index.
-    parts = [(header(5), (SYNTAX, 0, 0)), (value_bytes("by_city"), (BAD_FIELD, 0, 0)), (b"\1\2", (BAD_FIELD, 1, 0)), (value_bytes("a"), (BAD_FIELD, 1, 1))]
-    parts += [(value_bytes(7), (BAD_FIELD, 1, 2)), (b"\2", (BAD_FIELD, 2, 0)), (value_bytes("z"), (BAD_FIELD, 2, 1)), (value_bytes(9), (BAD_FIELD, 2, 2))]
-    whole, at = b"".join(part for part, _ in parts), 0
-    for part, fault in parts:
-        for end in range(at, at + len(part)):
-            expect((end, raw.call("betable_page", whole[:end])), (end, (REFUSED, fault, b"")))
-        at += len(part)
-    raw.reply("betable_page", whole)
+    # The same for a page of an index, and for sums of it.
+    bounds = [(b"\1\2", (BAD_FIELD, 1, 0)), (value_bytes("a"), (BAD_FIELD, 1, 1)), (value_bytes(7), (BAD_FIELD, 1, 2))]
+    bounds += [(b"\2", (BAD_FIELD, 2, 0)), (value_bytes("z"), (BAD_FIELD, 2, 1)), (value_bytes(9), (BAD_FIELD, 2, 2))]
+    for name, names in (("betable_page", ["by_city"]), ("betable_sums", ["by_city", "qty"])):
+        parts = [(header(2), (SYNTAX, 0, 0)), *((value_bytes(each), (BAD_FIELD, 0, 0)) for each in names), *bounds]
+        whole, at = b"".join(part for part, _ in parts), 0
+        for part, fault in parts:
+            for end in range(at, at + len(part)):
+                expect((name, end, raw.call(name, whole[:end])), (name, end, (REFUSED, fault, b"")))
+            at += len(part)
+        raw.reply(name, whole)
 
 
+@both_ways
 def calls_without_a_table_or_on_a_closed_session_are_refused():
     raw = Raw()
     for name in CALLS:
@@ -500,20 +757,145 @@ def applied(rows, found):
             rows[values[0]] = tuple(row)
 
 
-def random_bytes_are_refused_or_applied_as_they_say():
-    """Random and mutated bytes of each call. The reader of this file says of changes what they are, or why and where they are refused; rows are those of a
-    dict. A call that is refused changes no row, and one that only reads changes none."""
-    dice = random.Random(int(os.environ.get("BETABLE_SEED", 8)))
-    raw, rows, kinds, refused, done = Raw(SCHEMA), {}, ["int", "text", "flag", "bytes", "int"], 0, 0
+# The calls whose replies follow from the rows.
+READS = ("betable_get", "betable_page", "betable_sums", "betable_columns")
+
+# Of the trees of SCHEMA: the kinds of a row, the number of its key columns, the columns by name, and the rows, of those of the table.
+TREES = {
+    "primary": (["int", "text", "flag", "bytes", "int"], 1, ["id", "city", "ok", "raw", "qty"], lambda rows: rows),
+    "by_city": (["text", "int", "flag", "int"], 2, ["city", "id", "ok", "qty"], lambda rows: [(row[1], row[0], row[2], row[4]) for row in rows]),
+    "large": (["int", "int"], 2, ["qty", "id"], lambda rows: [(row[4], row[0]) for row in rows if row[4] >= 6]),
+}
+
+
+def order(values):
+    """What the values of keys are compared by."""
+    return tuple([value.encode() if isinstance(value, str) else value for value in values])
+
+
+def bound_of(read, kinds, item):
+    """The first values of a key, and whether the bound is after the row with them. None if there is no bound."""
+    code = read.take(1, (BAD_FIELD, item, 0))[0]
+    if code > 2:
+        raise Fault(BAD_FIELD, item, 0)
+    if code == 0:
+        return None
+    count = read.take(1, (BAD_FIELD, item, 0))[0] if code == 1 else len(kinds)
+    if not 1 <= count <= len(kinds):
+        raise Fault(BAD_LENGTH, item, 0)
+    return order(read.values(kinds[:count], item)), code == 2
+
+
+def is_before(row, bound):
+    values, is_after = bound
+    first = order(row[: len(values)])
+    return first < values or is_after and first == values
+
+
+def rows_between(read, tree, rows):
+    """The rows of a tree between the two bounds that end the bytes, in order."""
+    kinds, keys, _, of_tree = TREES[tree]
+    lower, upper = bound_of(read, kinds[:keys], 1), bound_of(read, kinds[:keys], 2)
+    if read.rest:
+        raise Fault(BAD_FIELD, 2, 0)
+    found = sorted(of_tree(rows.values()), key=order)
+    return [row for row in found if not (lower and is_before(row, lower)) and (upper is None or is_before(row, upper))]
+
+
+def grouped(found, columns, place):
+    """Of each group of rows the number of rows, the sum, and the first values."""
+    groups = {}
+    for row in found:
+        count, total = groups.get(row[:columns], (0, 0))
+        groups[row[:columns]] = (count + 1, total + row[place])
+    return [(*numbers, *first) for first, numbers in groups.items()]
+
+
+def found_by(name, given, rows):
+    """What a call that only reads finds among rows: rows, groups, or the number of key columns and the names of all."""
+    read = Bytes(given)
+    if read.take(4, (SYNTAX, 0, 0)) != b"BTV\x01":
+        raise Fault(SYNTAX, 0, 0)
+    number = struct.unpack("<I", read.take(4, (SYNTAX, 0, 0)))[0]
+    if name in ("betable_page", "betable_sums"):
+        names = [read.value("text", (BAD_FIELD, 0, 0)) for _ in range(1 if name == "betable_page" else 2)]
+        found = rows_between(read, tree_of(names[0]), rows)
+        return found[:number] if name == "betable_page" else grouped(found, number, place_to_sum(*names, number))
+    if number != 1:
+        raise Fault(SYNTAX, 0, 0)
+    wanted = read.value("int", (BAD_FIELD, 1, 1)) if name == "betable_get" else read.value("text", (BAD_FIELD, 0, 0))
+    if read.rest:
+        raise Fault(BAD_FIELD, 1, 0)
+    if name == "betable_columns":
+        return TREES[tree_of(wanted)][1:3]
+    return [rows[wanted]] if wanted in rows else []
+
+
+def tree_of(name):
+    if name not in TREES:
+        raise Fault(NO_SUCH_TREE, 0, 0)
+    return name
+
+
+def place_to_sum(tree, column, number):
+    """The place of the column to sum by groups of that many columns."""
+    kinds, keys, names, _ = TREES[tree]
+    if column not in names or not 1 <= number <= keys:
+        raise Fault(NO_SUCH_COLUMN, 0, 0)
+    if kinds[names.index(column)] != "int":
+        raise Fault(NOT_INT, 0, 0)
+    return names.index(column)
+
+
+def read_reply(name, given, reply):
+    """What a reply has: rows, groups, or the number of key columns and the names of all."""
+    if name == "betable_get":
+        return rows_of(reply, TREES["primary"][0])[0]
+    kinds, keys, names, _ = TREES[given[9 : 9 + given[8]].decode()]
+    if name == "betable_page":
+        return rows_of(reply, kinds)[0]
+    if name == "betable_sums":
+        return groups_of(reply, kinds[: struct.unpack("<I", given[4:8])[0]])
+    codes = {"int": 0, "text": 1, "flag": 2, "bytes": 4}
+    expect(reply, b"BTV\x01" + struct.pack("<q", keys) + b"".join(bytes([codes[kind]]) + value_bytes(each) for kind, each in zip(kinds, names)))
+    return keys, names
+
+
+def random_request(dice, name):
+    """The bytes of a call that only reads."""
+    if name == "betable_get":
+        return header(1) + value_bytes(dice.randrange(-12, 33))
+    tree = dice.choice([*TREES, "nothing"] if dice.random() < 0.2 else [*TREES])
+    if name == "betable_columns":
+        return header(1) + value_bytes(tree)
+    row = random_row(dice)
+    keys = {"by_city": (row[1], row[0]), "large": (row[4], row[0])}.get(tree, row[:1])
+    bounds = [dice.choice([b"\0", from_values(*keys[: dice.randrange(1, len(keys) + 1)]), after_row(*keys)]) for _ in range(2)]
+    if name == "betable_page":
+        return page(dice.choice([0, 1, 2, 5, 2**32 - 1]), tree, *bounds)
+    return sums(dice.randrange(4), tree, dice.choice(["qty", "qty", "qty", "id", "city", "ok", "nothing"]), *bounds)
+
+
+def random_bytes_are_refused_or_answered_as_they_say():
+    """Random and mutated bytes of each call. The reader of this file says of changes what they are, and of requests what they find, or why and where they are
+    refused; rows are those of a dict. A call that is refused changes no row, and one that only reads changes none."""
+    dice = random.Random(int(SEED))
+    raw, rows, kinds, refused, done, read = Raw(SCHEMA), {}, TREES["primary"][0], 0, 0, 0
     everything = page(2**32 - 1)
     shown = raw.reply("betable_page", everything)
-    others = [header(1) + value_bytes(3), page(3, "by_city", from_values("a"), after_row("b", 1)), page(2, lower=after_row(1)), header(1) + value_bytes("large")]
     for number in range(FUZZ):
         if dice.random() < 0.3:
-            name, given = dice.choice(CALLS[1:]), mutated(dice, dice.choice(others))
+            name = dice.choice(READS)
+            given = random_request(dice, name if dice.random() < 0.9 else dice.choice(READS))
+            given = mutated(dice, given) if dice.random() < 0.7 else given
             status, fault, reply = raw.call(name, given)
-            expect((given, status in (DONE, REFUSED), (fault == UNWRITTEN) == (status == DONE)), (given, True, True))
-            expect((given, reply[:4]), (given, b"BTV\x01" if status == DONE else b""))
+            try:
+                found = found_by(name, given, rows)
+                expect((name, given, status, fault), (name, given, DONE, UNWRITTEN))
+                expect((name, given, read_reply(name, given, reply)), (name, given, found))
+                read += 1
+            except Fault as wanted:
+                expect((name, given, status, fault, reply), (name, given, REFUSED, wanted.args, b""))
         else:
             given = changes(*(random_change(dice)[1] for _ in range(dice.choice([1, 1, 2, 4]))))
             given = mutated(dice, given) if dice.random() < 0.95 else dice.randbytes(dice.randrange(40))
@@ -533,7 +915,7 @@ def random_bytes_are_refused_or_applied_as_they_say():
                     shown = raw.reply("betable_page", everything)
                 expect((given, rows_of(shown, kinds)[0]), (given, [rows[key] for key in sorted(rows)]))
         expect((given, raw.reply("betable_page", everything) == shown), (given, True))
-    expect((refused > FUZZ // 5, done > FUZZ // 10), (True, True))
+    expect((refused > FUZZ // 5, done > FUZZ // 10, read > FUZZ // 10), (True, True, True))
     by_city = sorted((row[1].encode(), row[0], row[2], row[4]) for row in rows.values())
     expect([(row[0].encode(), *row[1:]) for row in raw.session.scan("by_city")], by_city)
 
@@ -565,12 +947,14 @@ REFUSED_CALLS = [
 ]
 
 
+@both_ways
 def refusals_of_packed_bytes_are_those_of_text():
     """The exceptions of the client, with their fields, beside those of a client that goes by text."""
     client = betable()
 
     class ByText(client.Session):
-        _apply, get, scan = client.Calls._apply, client.Calls.get, client.Calls.scan
+        put, batch, get, sums = client.Calls.put, client.Calls.batch, client.Calls.get, client.Calls.sums
+        _apply, scan = client.Calls._apply, client.Calls.scan
 
     packed, text = client.Session(), ByText()
     for session in (packed, text):
@@ -583,6 +967,7 @@ def refusals_of_packed_bytes_are_those_of_text():
         expect(packed.scan(), [ROW])
 
 
+@both_ways
 def limits_and_pages_are_checked():
     client, session = betable(), filled(random.Random(6)).session
     wrong = [
@@ -608,6 +993,7 @@ def limits_and_pages_are_checked():
     expect(session.scan(limit=10**30), session.scan())
 
 
+@both_ways
 def rows_that_change_while_they_are_read_come_once():
     """Rows that are added after the last one that was read come, and those before it do not; a tree that is dropped ends the reading."""
     client = betable()
@@ -628,26 +1014,21 @@ def rows_that_change_while_they_are_read_come_once():
     expect(type(fault_of(lambda: next(rows))), ValueError)
 
 
-class NoMemory:
-    """The library, whose calls on packed bytes return that memory ran out."""
-
-    def __init__(self, library):
-        self.library = library
-
-    def __getattr__(self, name):
-        return (lambda *_: OUT_OF_MEMORY) if name in CALLS else getattr(self.library, name)
-
-
+@both_ways
 def out_of_memory_is_an_exception_of_each_call():
     client, session = betable(), filled(random.Random(7)).session
-    before, session._library = session.scan(), NoMemory(session._library)
-    for call in (lambda: session.put([ROW]), lambda: session.batch([client.delete(1)]), lambda: session.get(1), lambda: session.scan(limit=1), session.columns):
+    before, library = session.scan(), library_without_memory(session)
+    for call in (
+        lambda: session.put([ROW]), lambda: session.batch([client.delete(1)]), lambda: session.get(1), lambda: session.scan(limit=1), session.columns,
+        lambda: session.sums("by_city", 1, "qty"), lambda: session.scan_columns(), lambda: list(session.iterate()),
+    ):  # fmt: skip
         fault = fault_of(call)
         expect((type(fault), fault.replies, fault.is_lost, str(fault)), (client.OutOfMemory, b"", False, "betable: out of memory"))
-    session._library = session._library.library
+    library.end(session)
     expect(session.scan(), before)
 
 
+@both_ways
 def messages_of_many_shapes_keep_their_encoders_apart():
     """More shapes than are kept at a time, and values of the types that only text takes, after those of packed bytes."""
     client = betable()
@@ -673,12 +1054,56 @@ def messages_of_many_shapes_keep_their_encoders_apart():
 # ---- C ----
 
 
-PRINTED = "get: 2 Bergen, west 15\npage:\n1 Oslo 30\n2 Bergen, west 15\npage:\n3 Tromsø 7\nrefused 6, item 2, column 2\n"
+PRINTED = """\
+get: 2 Bergen, west 15
+page:
+1 Oslo 30
+2 Bergen, west 15
+page:
+3 Oslo 7
+sums:
+Bergen, west: rows 1, sum 15
+Oslo: rows 2, sum 37
+refused 6, item 2, column 2
+"""
 
 
 def what_tests_share_is_built():
-    """The library, before tests run side by side."""
+    """The library, the extension of the Python client, and the programs that more than one test runs, before tests run side by side."""
     library()
+    build_extension()
+    random_packed(), refused_packed(), c_program(TOP / "clients/c/packed.c")
+
+
+def random_packed():
+    return c_program(HERE / "c/random_packed.c")
+
+
+def refused_packed():
+    return c_program(HERE / "c/refused_packed.c", "-Wl,--wrap=malloc,--wrap=realloc,--wrap=free")
+
+
+def random_bytes_in_c_are_read_within_their_ends():
+    """A call that reads bytes before or after its message ends the program. The images of all trees are compared after each call."""
+    ended = subprocess.run([random_packed(), SEED, str(FUZZ)], capture_output=True, text=True, timeout=SECONDS + FUZZ // 1_000)
+    expect((ended.returncode, ended.returncode and ended.stdout, ended.stderr), (0, 0, ""))
+    counts = list(map(int, re.findall(r"\d+", ended.stdout)))
+    expect((sum(counts), min(counts) > FUZZ // 100), (FUZZ, True))
+
+
+def refused_memory_is_answered_by_packed_calls():
+    """Each request of each call, alone and with those after it: what is returned, that the table is as before or lost, and that all memory is freed."""
+    ended = subprocess.run([refused_packed()], capture_output=True, text=True, timeout=SECONDS)
+    expect((ended.returncode, ended.returncode and ended.stdout, ended.stderr), (0, 0, ""))
+
+
+def valgrind_finds_nothing_in_packed_calls():
+    """In the example, in random messages, and with memory refused."""
+    if is_installed("valgrind", "what valgrind finds in packed calls is"):
+        words = ["valgrind", "-q", "--leak-check=full", "--errors-for-leak-kinds=all", "--error-exitcode=9"]
+        for program in ([c_program(TOP / "clients/c/packed.c")], [random_packed(), SEED, str(FUZZ // 100)], [refused_packed()]):
+            ended = subprocess.run([*words, *program], capture_output=True, text=True, timeout=SECONDS + FUZZ // 100)
+            expect((program, ended.returncode, ended.stderr), (program, 0, ""))
 
 
 def the_example_in_c_prints_its_rows():
@@ -695,20 +1120,28 @@ def the_page_has_a_part_of_the_example_in_c():
 
 TESTS_OF_TEXTS = [
     changes_by_packed_bytes_and_by_script_leave_equal_trees,
+    worked_scripts_in_values_leave_the_trees_that_they_leave,
     rows_that_are_put_go_as_they_go_by_text,
     gets_and_pages_are_those_of_scans,
+    sums_are_those_of_scripts,
+    sums_after_a_row_begin_with_the_next_one,
     a_page_after_a_row_repeats_and_loses_no_row,
     keys_that_begin_alike_are_in_one_page_each,
     columns_are_those_of_the_tables_and_indexes,
+    sums_of_the_client_are_those_of_its_scripts,
+    usage_is_that_of_the_image,
     malformed_bytes_are_refused_at_their_place_and_change_nothing,
     bytes_that_are_cut_are_refused_where_they_end,
     calls_without_a_table_or_on_a_closed_session_are_refused,
-    random_bytes_are_refused_or_applied_as_they_say,
+    random_bytes_are_refused_or_answered_as_they_say,
     refusals_of_packed_bytes_are_those_of_text,
     limits_and_pages_are_checked,
     rows_that_change_while_they_are_read_come_once,
     out_of_memory_is_an_exception_of_each_call,
     messages_of_many_shapes_keep_their_encoders_apart,
+    random_bytes_in_c_are_read_within_their_ends,
+    refused_memory_is_answered_by_packed_calls,
+    valgrind_finds_nothing_in_packed_calls,
     the_example_in_c_prints_its_rows,
     the_page_has_a_part_of_the_example_in_c,
 ]

@@ -1,7 +1,9 @@
 """Tests of the Python package on what nobody meant: each wrong use raises, says what to do, and leaves the table as it was; names are never a piece of a
 script; and values of all types of Python come back as they went in, or are refused."""
 
+import asyncio
 import copy
+import ctypes
 import datetime
 import decimal
 import enum
@@ -15,11 +17,13 @@ import subprocess
 import sys
 import tempfile
 import threading
+import time
 import uuid
+from concurrent.futures import ThreadPoolExecutor
 from pathlib import Path
 
-from common import expect, expect_within, TOP
-from clients import betable
+from common import expect, expect_within, TABLE, TOP
+from clients import OtherLibrary, betable, both_ways, build_extension, library, library_without_memory
 
 SCHEMA = "table 16 64 16 1 id:int city:text ok:flag raw:bytes\nindex by_city on city include ok\nbuild by_city 100\n"
 ROWS = [(1, "Oslo", True, b"\0"), (2, "Bergen, west", False, b""), (3, "", True, b"ab")]
@@ -131,7 +135,7 @@ SHAPES = [
     (lambda c, s: s.put("4,a,true,"), "TypeError", "rows are an iterable, as a list, and not '4,a,true,' of type str: write [(1, ..), (2, ..)]"),
     (lambda c, s: s.put(b"4,a,true,"), "TypeError", "rows are an iterable, as a list, and not b'4,a,true,' of type bytes"),
     (lambda c, s: s.put(bytearray(b"4")), "TypeError", "of type bytearray"),
-    (lambda c, s: s.put({"id": 4}), "TypeError", "rows are an iterable, as a list, and not {'id': 4} of type dict"),
+    (lambda c, s: s.put({"id": 4}), "RowValueError", "'city' is missing: columns of rows are a dict from each of the names id, city, ok, raw to its values"),
     (lambda c, s: s.put(4), "TypeError", "rows are an iterable, as a list, and not 4 of type int"),
     (lambda c, s: s.put(None), "TypeError", "rows are an iterable, as a list, and not None"),
     (lambda c, s: s.put(ROWS[0]), "RowTypeError", "row 1: 1 is of type int, and a row is a tuple, a list or a dict: write [(id, city, ok, raw), ..]"),
@@ -258,6 +262,7 @@ OTHERS += [(lambda c, s, name=name: s.sums("primary", 1, name), "ValueError", "a
 WRONG_USES = VALUES + LENGTHS + SHAPES + UPSERTS + OTHERS
 
 
+@both_ways
 def wrong_uses_of_the_python_client_change_nothing():
     """Each raises what it should, says what to do, and leaves rows, indexes and trees as they were, and what the client knows of them."""
     expect(len(WRONG_USES) >= 120, True)
@@ -275,6 +280,7 @@ def wrong_uses_of_the_python_client_change_nothing():
     expect(session.get(1), ROWS[0])
 
 
+@both_ways
 def calls_without_a_table_are_refused():
     client = betable()
     with client.Session() as session:
@@ -292,6 +298,7 @@ def calls_without_a_table_are_refused():
                 expect("no exception", "Refused")
 
 
+@both_ways
 def names_are_never_a_piece_of_a_script():
     """Each public method is here: those with a name take none that is more than one, and the others take texts as values."""
     client = betable()
@@ -300,17 +307,27 @@ def names_are_never_a_piece_of_a_script():
         "batch": lambda s: s.batch([client.put(4, text, True, b"")]),
         "close": None,
         "columns": lambda s: s.columns(text),
+        "delete": lambda s: s.delete(text),
         "get": lambda s: s.get(text),
+        "index": lambda s: s.index("by_ok", on="ok", where=("city", "=", text)),
         "is_lost": None,
         "iterate": lambda s: s.iterate(text),
         "load": lambda s: s.load([(4, text, True, text)]),
         "load_csv": lambda s: s.load_csv(text),
         "put": lambda s: s.put([(4, text, True, b"")]),
+        "put_csv": lambda s: s.put_csv(text),
+        "put_frame": None,
         "replies": None,
         "run": None,
         "scan": lambda s: s.scan(text),
+        "scan_columns": lambda s: s.scan_columns(text),
+        "scan_frame": lambda s: s.scan_frame(text),
         "state": None,
         "sums": lambda s: s.sums("by_city", 1, text),
+        "table": lambda s: s.table([(text, "int")]),
+        "trees": None,
+        "upsert": lambda s: s.upsert(4, set={"city": text}),
+        "usage": lambda s: s.usage(text),
     }
     expect(sorted(name for name in dir(client.Session) if not name.startswith("_")), sorted(methods))
     session = filled()
@@ -318,7 +335,8 @@ def names_are_never_a_piece_of_a_script():
     for name, call in methods.items():
         if call:
             for parameter in inspect.signature(getattr(client.Session, name)).parameters.values():
-                expect((name, parameter.kind in (parameter.VAR_POSITIONAL, parameter.POSITIONAL_OR_KEYWORD)), (name, True))
+                kinds = [parameter.VAR_POSITIONAL, parameter.POSITIONAL_OR_KEYWORD] + [parameter.VAR_KEYWORD] * (name == "upsert")
+                expect((name, parameter.kind in kinds or parameter.name == "self"), (name, True))
             expect((name, fault_of(lambda: call(session)) is not None, content(session)), (name, True, before))
 
 
@@ -383,6 +401,7 @@ def stored_row(row, is_load):
     return None if None in found or (has_break and not is_load) or (is_load and has_point) else found
 
 
+@both_ways
 def values_of_all_types_are_stored_exactly_or_refused():
     """Random rows, keys, bounds and messages: afterwards either the exact rows are there, with values of their columns' types, or an exception came and
     nothing changed."""
@@ -433,6 +452,7 @@ def anything_may_be_asked(client, session, dice):
         raise fault
 
 
+@both_ways
 def texts_are_keys_as_they_are():
     """Texts with a byte order mark, quotes, points and nothing in them, as the whole of a row and as the first part of a line."""
     client = betable()
@@ -458,6 +478,7 @@ def texts_are_keys_as_they_are():
                 expect((special, load, session.scan()), (special, load, sorted(rows)))
 
 
+@both_ways
 def keys_of_two_columns_have_two_values():
     client = betable()
     with client.Session() as session:
@@ -473,6 +494,7 @@ def keys_of_two_columns_have_two_values():
         expect((session.scan("primary", ["no"]), session.get("n", "z"), session.scan()), (rows[2:], rows[1], rows))
 
 
+@both_ways
 def messages_that_are_alike_differ_by_their_values():
     """Upserts of one shape, whose line is made once: texts that need quotes, and values whose Python text is not their field, after plain ones."""
     client = betable()
@@ -496,6 +518,7 @@ def messages_that_are_alike_differ_by_their_values():
 # ---- exceptions ----
 
 
+@both_ways
 def refusals_say_what_to_do():
     """Fields of exceptions: the row of the call, its column, its value, and how many rows were applied before."""
     client = betable()
@@ -517,6 +540,24 @@ def refusals_say_what_to_do():
         expect((fault.row, fault.column, fault.value), (1, "qty", 2**63))
 
 
+def reads_of_another_form_are_refused():
+    """Their kinds of rows are asked for although they have none."""
+    client = betable()
+    for text in ("sums", "sums primary", "sums primary 1", "sums primary x qty", "sums primary 1x qty", "sums primary -1 qty", "scan", "scan x"):
+        with client.Session() as session:
+            session.run(f"{TABLE}\n")
+            fault = fault_of(lambda: session.run(f"{text}\ngo\nbatch\nput 1,a,2\nend\n"))
+            expect((text, type(fault), fault.replies[1:], session.get(1)), (text, client.Refused, [["batch 1"]], (1, "a", 2)))
+
+
+def names_that_are_no_text_are_refused():
+    client = betable()
+    for text in (b"batch\nups 1,set,\xff,2\nend\n", b"sums primary 1 \xff\ngo\n", b"scan \xff\ngo\n", b"index \xff on qty\n", b"index a on \xff\n", b"\xff\n"):
+        with client.Session() as session:
+            session.run(f"{TABLE}\n")
+            expect((text, type(fault_of(lambda: session.run(text)))), (text, client.Refused))
+
+
 def the_reason_is_that_of_the_least_refusal():
     """Of a batch with a line of the wrong length and then a value that is none, the second one is what the refusal names."""
     client = betable()
@@ -528,55 +569,179 @@ def the_reason_is_that_of_the_least_refusal():
         expect((fault.number, fault.item, fault.value), (6, 2, "x"))
 
 
-class NoMemory:
-    """The library; a run returns that memory ran out after the first replies of the script were made, and changes that it ran out before they were applied."""
-
-    def __init__(self, library, script):
-        self.library, self.script = library, script
-
-    def __getattr__(self, name):
-        return getattr(self.library, name)
-
-    def betable_run(self, handle, script, size):
-        self.library.betable_run(handle, self.script, len(self.script))
-        return 1
-
-    def betable_apply(self, handle, changes, size, fault):
-        return 1
+def library_that_runs(session, script):
+    """A library that runs this script in place of another one, and returns that memory ran out after it."""
+    run = session._library.betable_run
+    return OtherLibrary(session, {"betable_run": lambda handle, *_: run(handle, script, len(script)) + 1})
 
 
+@both_ways
 def out_of_memory_says_what_was_carried_out():
     client = betable()
     with client.Session() as session:
         session.run("table 16 64 16 1 id:int city:text\n")
         session.put([(1, "a")])
-        library, session._library = session._library, NoMemory(session._library, b"get 1\n")
+        library = library_that_runs(session, b"get 1\n")
         fault = fault_of(lambda: session.run("get 1\nindex by_city on city\nbuild by_city 9\n"))
         expect((type(fault), fault.replies, fault.is_cut, fault.is_lost, fault.taken), (client.OutOfMemory, b"row 1,a\n", False, False, 0))
         # Perhaps the index was made, so its columns are known.
-        session._library = library
+        library.end(session)
         session.run("index by_city on city\nbuild by_city 9\n")
         expect(session.scan("by_city"), [("a", 1)])
-        session._library = NoMemory(library, b"")
+        library = library_without_memory(session)
         fault = fault_of(lambda: session.put([(2, "b")]))
         expect((type(fault), fault.replies, str(fault)), (client.OutOfMemory, b"", "betable: out of memory"))
-        session._library = library
+        library.end(session)
         expect(session.scan(), [(1, "a")])
 
 
-def a_session_stays_on_its_thread():
-    client, faults = betable(), []
+# A call of each kind.
+CALLS = [
+    lambda s: s.put(ROWS), lambda s: s.put({"id": [1], "city": ["Oslo"], "ok": [True], "raw": [b"\0"]}), lambda s: s.batch([betable().delete(99)]), lambda s: s.get(1),
+    lambda s: s.scan(), lambda s: s.scan(limit=1), lambda s: s.scan_columns(), lambda s: list(s.iterate()), lambda s: s.sums("by_city", 1, "id"), lambda s: s.columns(),
+    lambda s: s.usage(), lambda s: s.run("get 1\n"), lambda s: s.replies("get 1\n"), lambda s: s.is_lost,
+]  # fmt: skip
+
+
+@both_ways
+def a_closed_session_raises():
     session = filled()
-    calls = [lambda: session.put(ROWS), lambda: session.get(1), session.scan, lambda: session.run("get 1\n"), session.close, lambda: session.is_lost]
-    thread = threading.Thread(target=lambda: faults.extend(fault_of(call) for call in calls))
+    for _ in range(2):
+        session.close()
+        expect({type(fault_of(lambda: call(session))) for call in CALLS}, {ValueError})
+    expect(betable().Session().__enter__().close(), None)
+
+
+@both_ways
+def a_session_goes_through_a_pool_of_threads():
+    """Each call is made by some thread of a pool, which holds a lock, and the last thread closes the session."""
+    client, lock, threads = betable(), threading.Lock(), set()
+    session = client.Session()
+
+    def made():
+        session.table("thread:int count:int", keys=1, fanout=4, buffer=8, leaf=4)
+        session.index("by_count", "count")
+
+    def counted(number):
+        with lock:
+            threads.add(threading.get_ident())
+            key, before = number % 7, session.get(number % 7) or (number % 7, 0)
+            session.upsert(key, add={"count": 1})
+            expect((session.get(key), session.run(f"get {key}\n")[0].rows), ((key, before[1] + 1), [(key, before[1] + 1)]))
+            session.put([(1_000 + number, number)])
+            expect(sum(count * total for total, count, _ in [(group[2], group[0], 0) for group in session.sums("by_count", 1, "count")]), sum(row[1] for row in session.scan()))
+        time.sleep(0.001)
+
+    with ThreadPoolExecutor(8) as pool:
+        pool.submit(made).result()
+        list(pool.map(counted, range(350)))
+        expect([row for row in session.scan(stop=(1_000,))], [(key, 50) for key in range(7)])
+        expect(len(session.scan("by_count")), 357)
+        pool.submit(session.close).result()
+    expect((len(threads) > 1, type(fault_of(session.scan))), (True, ValueError))
+
+
+@both_ways
+def a_session_works_in_the_threads_of_asyncio():
+    async def all_at_once():
+        session, lock = await asyncio.to_thread(betable().Session), asyncio.Lock()
+
+        async def called(function, *given):
+            async with lock:
+                return await asyncio.to_thread(function, *given)
+
+        await called(session.table, "id:int qty:int")
+        await asyncio.gather(*(called(session.put, [(number, number)]) for number in range(100)))
+        expect(await called(session.scan), [(number, number) for number in range(100)])
+        await called(session.close)
+
+    asyncio.run(all_at_once())
+
+
+@both_ways
+def a_call_during_another_one_is_refused():
+    """Of another thread, and of the same one, while the library carries out a script or sums. The call that was first ends as it should."""
+    for name, call in (("betable_run", lambda: session.run("get 1\n")[0].rows), ("betable_sums", lambda: session.sums("by_city", 1, "id"))):
+        session = filled()
+        wanted, begun, ended, found = call(), threading.Event(), threading.Event(), []
+
+        def waits(handle, given, length, *fault):
+            found.append(fault_of(lambda: session.get(1)))
+            begun.set()
+            expect(ended.wait(60), True)
+            return getattr(library.library, name)(handle, ctypes.string_at(given, length), length, *fault)
+
+        function = getattr(session._library, name)
+        data = [ctypes.c_void_p if kind is ctypes.c_char_p else kind for kind in function.argtypes]
+        library = OtherLibrary(session, {name: ctypes.CFUNCTYPE(function.restype, *data)(waits)})
+        thread = threading.Thread(target=lambda: found.append(call()))
+        thread.start()
+        expect(begun.wait(60), True)
+        faults = [fault_of(lambda: one(session)) for one in [*CALLS, lambda session: session.close()]]
+        ended.set()
+        thread.join()
+        library.end(session)
+        expect({type(fault) for fault in [*faults, found[0]]}, {RuntimeError})
+        expect_within("one call at a time", str(faults[0]))
+        expect((found[1:], session.scan()), ([wanted], ROWS))
+
+
+@both_ways
+def threads_without_a_lock_get_their_own_replies_or_a_fault():
+    session, wrong, refused, rows = betable().Session(), [], [], 2_000
+    session.table("id:int qty:int")
+    session.put([(number, number) for number in range(rows)])
+    is_over, interval = time.monotonic() + 0.7, sys.getswitchinterval()
+
+    def reads(first):
+        key = first
+        while time.monotonic() < is_over:
+            key = (key + 7) % rows
+            for call, wanted in (
+                (lambda: session.run(f"get {key}\nscan primary\nfrom {key}\nto {key + 1}\ngo\n")[1].rows, [(key, key)]), (lambda: session.get(key), (key, key)),
+                (lambda: session.scan("primary", (key,), (key + 1,)), [(key, key)]), (lambda: session.sums("primary", 1, "qty", (key,), (key + 1,)), [(1, key, key)]),
+            ):  # fmt: skip
+                try:
+                    found = call()
+                except RuntimeError as fault:
+                    refused.append(fault)
+                    continue
+                except Exception as fault:
+                    found = fault
+                if found != wanted:
+                    wrong.append((found, wanted))
+
+    threads = [threading.Thread(target=reads, args=[first]) for first in range(4)]
+    sys.setswitchinterval(1e-6)
+    try:
+        for thread in threads:
+            thread.start()
+    finally:
+        for thread in threads:
+            thread.join()
+        sys.setswitchinterval(interval)
+    expect((wrong[:3], len(refused) > 0, session.get(5)), ([], True, (5, 5)))
+
+
+@both_ways
+def a_session_that_another_thread_drops_is_closed():
+    sessions, closed = [filled()], []
+    close = sessions[0]._library.betable_close
+    OtherLibrary(sessions[0], {"betable_close": lambda handle: closed.append((threading.get_ident(), close(handle)))})
+    thread = threading.Thread(target=sessions.clear)
     thread.start()
+    number = thread.ident
     thread.join()
-    expect([type(fault) for fault in faults], [RuntimeError] * len(calls))
-    expect(session.scan(), ROWS)
-    session.close()
-    session.close()
-    expect({type(fault_of(call)) for call in (calls[0], calls[1], calls[2], calls[3], calls[5])}, {ValueError})
-    expect(client.Session().__enter__().close(), None)
+    expect(closed, [(number, 0)])
+
+
+def usage_has_names_and_is_refused_without_a_tree():
+    client = betable()
+    with filled() as session, client.Session() as other:
+        expect([(use.rows, use.messages, use.height) for use in (session.usage(), session.usage("by_city"))], [(3, 0, 1)] * 2)
+        faults = [fault_of(call) for call in (lambda: session.usage("nothing"), other.usage, lambda: session.usage(5), lambda: session.usage("a b"))]
+        expect([type(fault) for fault in faults], [client.Refused, client.Refused, TypeError, ValueError])
+        expect([fault.name for fault in faults[:2]], ["NoSuchTree", "NoTable"])
 
 
 def a_load_names_the_line_of_its_file():
@@ -604,6 +769,62 @@ def a_load_names_the_line_of_its_file():
         expect((session.load_csv(str(path)), session.scan()), (2, [(1, "Oslo"), (2, "a\nb")]))
 
 
+@both_ways
+def a_csv_file_of_any_size_is_put_in_batches():
+    """With records at every place of the blocks in which it is read, beside a load of the same file."""
+    client, calls = betable(), []
+    module = sys.modules["betable.csv_input"]
+    block = module.BLOCK
+    texts = ["Oslo", '"Bergen, west"', '"a ""b"""', '5" wide', "", "æ", ".", "end"]
+    text = "\ufeffid,city\n" + "".join(f"{number},{texts[number % 8]}" + ("\r\n", "\n", "\n\n", "\r")[number // 8 % 4] for number in range(300)) + "300,last"
+    with tempfile.TemporaryDirectory() as folder, client.Session() as loaded:
+        path = Path(folder) / "cities.csv"
+        path.write_text(text, newline="")
+        size = path.stat().st_size
+        loaded.table("id:int city:text")
+        expect(loaded.load_csv(path), 301)
+        try:
+            for module.BLOCK in (1, 7, 50, 51, 52, 53, 1_000, block):
+                for most in (1, 7, 301, client.MOST_MESSAGES):
+                    with client.Session() as session:
+                        session.table("id:int city:text")
+                        calls.clear()
+                        expect(session.put_csv(str(path), lambda *call: calls.append(call), most), 301)
+                        expect((module.BLOCK, most, session.scan() == loaded.scan()), (module.BLOCK, most, True))
+                        expect((calls[-1], {total for _, total in calls}, calls), ((size, size), {size}, sorted(calls)))
+                        expect(len(calls) >= 301 // most, True)
+        finally:
+            module.BLOCK = block
+        with client.Session() as session:
+            session.table("id:int city:text")
+            session.put([(1, "old"), (900, "old")])
+            expect((session.put_csv(path), session.get(1), session.get(900)), (301, (1, "Bergen, west"), (900, "old")))
+            before = session.scan()
+            cases = [
+                ("id,city\n1,a\n\n2,b,x\n", client.Refused, f"{path}, line 4: 3 fields, and a put has 2 (id, city)"),
+                ('id,city\n1,a\nx,"b"\n', client.Refused, f"{path}, line 3: column 1 'id' (int): 'x' is no"),
+                ('id,city\n1,a\n3,"b\nc"\n', client.RowValueError, f"{path}, line 3: a field has a line break, which only load_csv takes"),
+                ('id,city\n1,a\n3,"b\n', client.RowValueError, f"{path}, line 3: a field has a line break"),
+                ("id,town\n1,a\n", client.RowValueError, f"{path}, line 1: the header is 'id,town', and the columns are id,city"),
+                ("\n\n1,a\n", client.RowValueError, f"{path}, line 3: the header is '1,a', and the columns are id,city"),
+                ("", client.RowValueError, f"{path}: the header is '', and the columns are id,city"),
+            ]
+            for given, kind, said in cases:
+                path.write_text(given, newline="")
+                fault = fault_of(lambda: session.put_csv(path))
+                expect((given, type(fault)), (given, kind))
+                expect_within(said, str(fault))
+                expect((given, session.scan()), (given, before))
+            path.write_text("id,city\n" + "".join(f"{number},a\n" for number in range(2_000, 2_025)) + "x,b\n")
+            fault = fault_of(lambda: session.put_csv(path, most=10))
+            expect((type(fault), fault.taken, fault.column), (client.Refused, 19, "id"))
+            expect_within(f"{path}, line 27: column 1 'id' (int): 'x' is no", str(fault))
+            expect(len(session.scan("primary", (2_000,))), 19)
+            path.write_bytes(b"\x1f\x8b\x08\0")
+            expect_within("is compressed by gzip", str(fault_of(lambda: session.put_csv(path))))
+            expect([type(fault_of(lambda: session.put_csv(path, None, most))) for most in (0, "1")], [ValueError, TypeError])
+
+
 def exceptions_can_be_pickled():
     client = betable()
     faults = [
@@ -619,6 +840,7 @@ def exceptions_can_be_pickled():
     expect(pickle.loads(pickle.dumps(faults[-1])).replies[1].rows, [*ROWS])
 
 
+@both_ways
 def a_session_says_what_it_has():
     client = betable()
     session = client.Session()
@@ -644,6 +866,7 @@ def a_missing_library_is_named():
         expect_within(part, ended.stderr)
 
 
+@both_ways
 def scripts_of_any_form_are_cut_as_they_are_run():
     """Replies of `run`, beside those of a session that gets each command by itself: texts with line breaks and quotes, and words of replies inside of texts."""
     client = betable()
@@ -657,16 +880,18 @@ def scripts_of_any_form_are_cut_as_they_are_run():
         dice = random.Random(3)
         for _ in range(50):
             chosen = dice.choices(commands, k=dice.randrange(6))
-            replies = session.replies("\n".join(chosen))
-            alone = [other.replies(command) for command in chosen]
-            found = [reply for _, reply in client.replies.answered(client.language.commands("\n".join(chosen).encode()), replies)]
-            expect(found, alone)
+            script = "\n".join(chosen).encode()
+            replies, places = session._replies_with_places(script)
+            alone = [(reply, reply.startswith(b"refused ")) for reply in map(other.replies, chosen)]
+            for some in (places, None):
+                expect([found[1:] for found in client.replies.answered(client.language.commands(script), replies, some)], alone)
         rows = session.run("scan primary\ngo\n")[0].rows
         expect((rows, session.scan()), (list(enumerate(texts)), list(enumerate(texts))))
         sums = session.run("sums by_city 1 id\ngo\n")[0].rows
         expect((sums, sums), (session.sums("by_city", 1, "id"), [(1, texts.index(text), text) for text in sorted(texts)]))
 
 
+@both_ways
 def integers_of_numpy_are_ints():
     try:
         import numpy
@@ -697,6 +922,12 @@ def the_page_loads_a_large_file_as_it_says():
         expect((ended.returncode, ended.stdout, ended.stderr), (0, "12\n", ""))
 
 
+def what_tests_share_is_built():
+    """The library, and the extension of the Python client, before tests run side by side."""
+    library()
+    build_extension()
+
+
 TESTS_OF_TEXTS = [
     wrong_uses_of_the_python_client_change_nothing,
     calls_without_a_table_are_refused,
@@ -707,9 +938,18 @@ TESTS_OF_TEXTS = [
     messages_that_are_alike_differ_by_their_values,
     the_reason_is_that_of_the_least_refusal,
     out_of_memory_says_what_was_carried_out,
-    a_session_stays_on_its_thread,
+    a_closed_session_raises,
+    a_session_goes_through_a_pool_of_threads,
+    a_session_works_in_the_threads_of_asyncio,
+    a_call_during_another_one_is_refused,
+    threads_without_a_lock_get_their_own_replies_or_a_fault,
+    a_session_that_another_thread_drops_is_closed,
+    usage_has_names_and_is_refused_without_a_tree,
     refusals_say_what_to_do,
+    reads_of_another_form_are_refused,
+    names_that_are_no_text_are_refused,
     a_load_names_the_line_of_its_file,
+    a_csv_file_of_any_size_is_put_in_batches,
     exceptions_can_be_pickled,
     a_session_says_what_it_has,
     a_missing_library_is_named,
@@ -718,3 +958,4 @@ TESTS_OF_TEXTS = [
     the_page_loads_a_large_file_as_it_says,
 ]
 TESTS = []
+BUILDS = [what_tests_share_is_built]

@@ -3,16 +3,18 @@
     import betable
 
     with betable.Session() as session:
-        session.run("table 16 1024 256 1 id:int city:text qty:int\\n")
+        session.table("id:int city:text qty:int")
         session.put((number, "Bergen, west", 10) for number in range(100_000))
         session.batch([betable.upsert(7, add={"qty": 5}), betable.delete(8)])
         session.get(7)                          # (7, 'Bergen, west', 15)
         session.scan("primary", (3,), (6,))     # the rows of the keys 3, 4 and 5, as tuples
-        session.run("index by_city on city include qty\\nbuild by_city 200000\\n")
+        session.index("by_city", on="city", include="qty")
         session.sums("by_city", 1, "qty")       # [(99999, 999995, 'Bergen, west')]
 
 The library is libbt_c.so, in the folder that BETABLE_LIBRARY names, or else beside this package, in out/ of the repository, where bin/build_c builds it, or
 where the Debian package has it. docs/SCRIPT.md has the language, and docs/PYTHON.md the calls and their errors.
+
+Without the extension `_packed`, or with BETABLE_PURE=1, ctypes makes all calls.
 
 Layers over sessions have the same calls, but for the limit of a scan, `iterate` and `columns`: `open` gives a table that is kept on disk (docs/DURABLE.md),
 `Replicas` and `Sharded` one on several machines (docs/CLUSTER.md), and `python3 -m betable serve` serves one by HTTP (docs/SERVICE.md). They are imported when
@@ -23,10 +25,10 @@ from importlib import import_module
 from pathlib import Path
 from typing import TYPE_CHECKING, Any
 
-from .calls import MOST_MESSAGES, Calls
+from .calls import MOST_MESSAGES, Calls, Tree
 from .errors import OutOfMemory, Refused, RowError, RowTypeError, RowValueError
 from .messages import OPERATIONS, Message, delete, field, put, record, upsert
-from .packed import TreeColumn
+from .packed import TreeColumn, Usage
 from .replies import Reply
 from .session import Session
 
@@ -82,9 +84,11 @@ __all__ = [
     "ShardEnded",
     "ShardLost",
     "Sharded",
+    "Tree",
     "TreeColumn",
     "Unanswered",
     "Unreachable",
+    "Usage",
     "__version__",
     "delete",
     "field",

@@ -4,26 +4,46 @@ from __future__ import annotations
 
 import os
 import re
+import shutil
+import sys
 from abc import ABC, abstractmethod
-from collections.abc import Callable, Iterable, Iterator, Sequence
+from array import array
+from collections.abc import Callable, Iterable, Iterator, Mapping, Sequence
 from copy import copy
+from io import BytesIO
 from itertools import islice
-from pathlib import Path
-from typing import Any
+from typing import Any, NamedTuple
 
 from . import language
+from .csv_input import BLOCK, Part, parts
 from .errors import OutOfMemory, Refused, RowTypeError, RowValueError
 from .faults import MEANINGS, Fault, faults_of_refusal
 from .forms import head_faults, name_fault
 from .language import Command, State, Table
-from .messages import Message, message_lines
-from .replies import Reply, answered, kinds_of_rows, rows_of_reply
-from .rows import Column, Layout, UNKNOWN, Value, as_iterator, as_tuple, key_fields, layout, records, shown
+from .messages import Message, delete, message_lines, record, upsert
+from .replies import Place, Reply, answered, kinds_of_rows, rows_of_reply
+from .rows import (
+    ARRAY_TYPES, UNKNOWN, VALUES, Column, ColumnValues, Layout, Value, as_iterator, as_tuple, columns_of, columns_of_rows, key_fields, layout,
+    line_field, part_of_column, records, rows_of_columns, shown, values_by_column,
+)  # fmt: skip
 
 MOST_MESSAGES = language.MOST_MESSAGES
 Row = tuple[Value, ...]
+# The first values of a key, or no bound.
+Bound = tuple[Any, ...] | None
 # The lines of a batch, of what is given for it, the table, and how many rows of the call were applied before.
 Lines = Callable[[list[Any], Table, int], str]
+
+
+class Tree(NamedTuple):
+    """A tree: its name, the columns that it is on, those that it includes, the column, operator and value that select its rows, or None for all rows, and
+    whether it is complete. The tree of rows is on the columns of the table's key, and includes the others."""
+
+    name: str
+    on: tuple[str, ...]
+    include: tuple[str, ...]
+    where: tuple[str, str, Value] | None
+    is_complete: bool
 
 
 class Calls(ABC):
@@ -43,10 +63,10 @@ class Calls(ABC):
         raised for the first command that was refused."""
         script = as_script(script)
         state = copied(self.state)
-        text = self.replies(script)
+        text, places = self._replies_with_places(script)
         found, refused = [], None
-        for command, reply in answered(language.commands(script), text):
-            if refused is None and reply.startswith(b"refused "):
+        for command, reply, is_refused in answered(language.commands(script), text, places):
+            if refused is None and is_refused:
                 refused = command, reply, copied(state)
             found.append(Reply(reply.decode(), command.head.word, kinds_of_rows(state, command)))
             note(state, command, reply)
@@ -60,11 +80,29 @@ class Calls(ABC):
         given = as_iterator(messages, "messages", "[betable.put(..), betable.delete(..)]")
         return self._in_batches(given, most, message_lines)
 
-    def put(self, rows: Iterable[Any], most: int = MOST_MESSAGES) -> int:
+    def put(self, rows: Iterable[Any] | Mapping[str, Any], most: int = MOST_MESSAGES) -> int:
         """Puts rows, each a tuple or a list with a value for each column, or a dict by their names, and returns their number. More than `most` of them are
-        several batches; each batch is applied whole or not at all."""
+        several batches; each batch is applied whole or not at all. Rows may be given by columns too: a dict from the names of all columns to their values."""
+        if isinstance(rows, Mapping):
+            return self._put_columns(rows, most)
         given = as_iterator(rows, "rows", "[(1, ..), (2, ..)]")
         return self._in_batches(given, most, put_lines)
+
+    def put_frame(self, frame: Any, most: int = MOST_MESSAGES) -> int:
+        """Puts the rows of a data frame of pandas, whose columns have the names of the table's, in any order, and returns their number. The index of the frame
+        is left out."""
+        columns = dict(frame.items())
+        if len(columns) < len(frame.columns):
+            raise ValueError(f"the data frame has columns of the same name: {', '.join(map(str, frame.columns))}")
+        return self._put_columns(columns, most)
+
+    def upsert(self, *key: Any, **operations: Mapping[str, Any]) -> None:
+        """Changes columns of the row of a key, as the message `betable.upsert` does: `set`, `add`, `max` and `min` are each a dict of columns and values."""
+        self.batch([upsert(*key, **operations)])
+
+    def delete(self, *key: Any) -> None:
+        """Removes the row of a key, if there is one."""
+        self.batch([delete(*key)])
 
     def load(self, rows: Iterable[Any]) -> int:
         """Fills a table that has no rows with these, all at once, and returns how many."""
@@ -81,14 +119,39 @@ class Calls(ABC):
 
     def load_csv(self, path: str | os.PathLike[str]) -> int:
         """Fills a table that has no rows with the records of a CSV file, which is UTF-8 and has a header of the table's columns, and returns how many. The
-        bytes of the file are handed over as they are, so a file of any size goes in as far as memory goes."""
+        bytes of the file are in memory once, and are handed over as they are. `put_csv` takes a file that is larger than memory allows."""
         self._table()
-        text = Path(path).read_bytes()
-        if text.startswith(b"\x1f\x8b"):
-            raise ValueError(f"{os.fspath(path)} is compressed by gzip: unpack it first, as by gunzip")
-        if line := ends_load(text):
+        written = BytesIO()
+        written.write(b"load\n")
+        with open(path, "rb") as file:
+            _refuse_gzip(file.read(2), path)
+            file.seek(0)
+            shutil.copyfileobj(file, written, BLOCK)
+        end = written.tell()
+        written.write(b"\n.\n")
+        script = written.getvalue()
+        if line := ends_load(script, len(b"load\n"), end):
             raise ValueError(f"{os.fspath(path)}, line {line}: a line that is a point alone would end the load")
-        return self._loaded(b"".join([b"load\n", text, b"\n.\n"]), os.fspath(path))
+        return self._loaded(script, os.fspath(path))
+
+    def put_csv(self, path: str | os.PathLike[str], progress: Callable[[int, int], object] | None = None, most: int = MOST_MESSAGES) -> int:
+        """Puts the records of a CSV file of any size, which is UTF-8 and has a header of the table's columns, in batches as `put` does, and returns their
+        number. No more than a few batches of them are in memory. After each batch `progress` is called with the bytes that were read, and those of the file."""
+        _check_most(most)
+        table, taken, is_first = self._table(), 0, True
+        with open(path, "rb") as file:
+            size = os.fstat(file.fileno()).st_size
+            _refuse_gzip(file.read(2), path)
+            file.seek(0)
+            for part in parts(file, most):
+                if is_first:
+                    _check_header(part, table, path)
+                    part, is_first = Part(part.records[1:], part.lines[1:], part.end), False
+                self._put_part(part, taken, path)
+                taken += len(part.records)
+                if progress is not None:
+                    progress(part.end, size)
+        return taken
 
     def get(self, *key: Any) -> Row | None:
         """The row of a key, or None."""
@@ -98,26 +161,113 @@ class Calls(ABC):
         rows = self._rows(b"get", f"get {','.join(key_fields(key, there.key, 'a key'))}\n", there.kinds)
         return rows[0] if rows else None
 
-    def scan(self, tree: str = "primary", start: tuple[Any, ...] | None = None, stop: tuple[Any, ...] | None = None) -> list[Row]:
+    def scan(self, tree: str = "primary", start: Bound = None, stop: Bound = None) -> list[Row]:
         """The rows of a tree in ascending order of their keys, from those that begin with the values `start` to before those that begin with `stop`."""
         name = checked_name(tree, "a tree")
         there = layout(self.state.table, name)
         return self._rows(b"scan", f"scan {name}\n{bounds(there, start, stop)}go\n", there.kinds)
 
     def sums(
-        self, tree: str, columns: int, column: str, start: tuple[Any, ...] | None = None, stop: tuple[Any, ...] | None = None
+        self, tree: str, columns: int, column: str, start: Bound = None, stop: Bound = None
     ) -> list[Row]:
         """For each group of rows that are equal in the tree's first columns: their number, the sum of a column, and the values of those columns."""
-        if isinstance(columns, bool) or not isinstance(columns, int):
-            raise TypeError(f"the number of columns of a group is an int, and not {shown(columns)}: write sums('by_city', 1, 'qty')")
-        if not 0 <= columns <= 999_999_999:
-            raise ValueError(f"the number of columns of a group is 1 to 8, and not {shown(columns)}")
+        checked_group(columns)
         name = checked_name(tree, "a tree")
         there = layout(self.state.table, name)
         script = f"sums {name} {columns:d} {checked_name(column, 'a column')}\n{bounds(there, start, stop)}go\n"
         return self._rows(b"sums", script, there.key_kinds[:columns])
 
+    def scan_columns(self, tree: str = "primary", start: Bound = None, stop: Bound = None) -> dict[str, ColumnValues]:
+        """The rows of `scan` by columns: a dict from their names to an `array` of ints, or to a list of other values."""
+        rows = self.scan(tree, start, stop)
+        there = layout(self.state.table, tree)
+        return by_names(there, columns_of_rows(rows, there.kinds))
+
+    def scan_frame(self, tree: str = "primary", start: Bound = None, stop: Bound = None) -> Any:
+        """The rows of `scan` as a data frame of pandas."""
+        import numpy
+        import pandas  # type: ignore
+
+        columns = self.scan_columns(tree, start, stop)
+        kinds = {column.name: column.kind for column in layout(self.state.table, tree).columns}
+        return pandas.DataFrame({name: numpy.asarray(values, dtype=ARRAY_TYPES[kinds[name]]) for name, values in columns.items()})
+
+    def table(
+        self, columns: str | Iterable[tuple[str, str]], keys: int = 1, fanout: int = 16, buffer: int | str = 1024, leaf: int = 256
+    ) -> None:
+        """Makes the table. Its columns are pairs of a name and a kind, or a text such as "id:int city:text"; the first ones, as many as `keys`, are the key.
+        The other numbers are those of `table` in a script: a buffer is a number of messages, or of bytes, as in "65536b"."""
+        pairs = [word.partition(":")[::2] for word in columns.split()] if isinstance(columns, str) else list(columns)
+        words = [f"{checked_name(name, 'a column')}:{_checked_kind(kind)}" for name, kind in pairs]
+        if isinstance(buffer, str) and not language.BUFFER.fullmatch(buffer.encode()):
+            raise ValueError(f"a buffer is a number of messages, or of bytes, as in '65536b', and not {shown(buffer)}")
+        numbers = [_checked_number(fanout, "a fanout"), buffer if isinstance(buffer, str) else _checked_number(buffer, "a buffer")]
+        numbers += [_checked_number(leaf, "a leaf"), _checked_number(keys, "the number of key columns")]
+        self.run(f"table {' '.join(numbers)} {' '.join(words)}\n")
+
+    def index(
+        self, name: str, on: str | Sequence[str], include: str | Sequence[str] = (), where: tuple[str, str, Any] | None = None, build: bool = True
+    ) -> None:
+        """Makes an index on columns, which includes others, and builds it. `where` selects rows by a column, an operator (=, < or >=) and a value. Without
+        `build` the index is made only, and the command `build` reads the rows in steps."""
+        parts = [f"index {checked_name(name, 'an index')} on {_checked_names(on)}"]
+        if include:
+            parts.append(f"include {_checked_names(include)}")
+        if where is not None:
+            parts.append(f"where {self._condition(where)}")
+        self.run(" ".join(parts) + "\n" + (f"build {name} {10**language.MOST_DIGITS - 1}\n" if build else ""))
+
+    def trees(self) -> list[Tree]:
+        """The tree of rows, if there is a table, and its indexes, in the order in which they were made."""
+        table = self.state.table
+        if table is None:
+            return []
+        names = [name.decode() for name in table.names]
+        found = [Tree("primary", tuple(names[: table.key_length]), tuple(names[table.key_length :]), None, True)]
+        for name, index in table.indexes.items():
+            on, include = (tuple(one.decode() for one in some) for some in (index.on, index.included))
+            found.append(Tree(name.decode(), on, include, _shown_condition(index, dict(table.columns)), index.is_complete))
+        return found
+
     # What the calls share.
+
+    def _replies_with_places(self, script: bytes) -> tuple[bytes, list[Place] | None]:
+        """The bytes of the replies to a script, and the place of each, or None where nothing but their text says that."""
+        return self.replies(script), None
+
+    def _condition(self, where: Any) -> str:
+        """The condition of an index."""
+        if not isinstance(where, (tuple, list)) or len(where) != 3:
+            raise TypeError(f"a condition is a tuple of a column, an operator and a value, and not {shown(where)}: write ('qty', '>=', 15)")
+        name, operator, value = where
+        checked_name(name, "a column")
+        if operator not in (operators := [one.decode() for one in language.OPERATORS]):
+            raise ValueError(f"an operator is one of {', '.join(operators)}, and not {shown(operator)}")
+        column = next((one for one in columns_of(self._table().columns) if one.name == name), None)
+        return f"{name} {operator} {record([value]) if column is None else line_field(value, column, None)}"
+
+    def _put_part(self, part: Part, taken: int, path: str | os.PathLike[str]) -> None:
+        """Puts the records of a part of a CSV file."""
+        for line, record in zip(part.lines, part.records):
+            if b"\n" in record or b"\r" in record:
+                raise RowValueError(f"{os.fspath(path)}, line {line}: a field has a line break, which only load_csv takes", value=record, taken=taken)
+        script = b"batch\n%bend\n" % b"".join([b"put %b\n" % record for record in part.records])
+        try:
+            reply = self.replies(script)
+        except OutOfMemory as fault:
+            raise OutOfMemory(fault.replies, fault.is_cut, fault.is_lost, taken) from None
+        self._refuse_if_refused(script, reply, taken, None, os.fspath(path), part.lines)
+
+    def _put_columns(self, rows: Mapping[Any, Any], most: int) -> int:
+        """Puts rows that are given by columns, `most` at a time."""
+        _check_most(most)
+        table = self._table()
+        columns = layout(table).columns
+        values, count = values_by_column(rows, columns)
+        for taken in range(0, count, most):
+            parts = [part_of_column(one, column.kind, taken, taken + most) for one, column in zip(values, columns)]
+            self._apply_after(parts, table, taken, column_lines)
+        return count
 
     def _table(self, command: bytes = b"batch\nend\n") -> Table:
         """The table. If there is none, the command is refused, and the refusal says why."""
@@ -129,30 +279,30 @@ class Calls(ABC):
 
     def _in_batches(self, given: Iterator[Any], most: int, lines: Lines) -> int:
         """Applies what is given, `most` at a time, as the lines that are made of it, and returns how many there were."""
-        if most is not MOST_MESSAGES:
-            if isinstance(most, bool) or not isinstance(most, int):
-                raise TypeError(f"the size of a batch is an int, and not {shown(most)}")
-            if not 1 <= most <= MOST_MESSAGES:
-                raise ValueError(f"a batch has 1 to {MOST_MESSAGES:,} messages, and not {most:,}")
+        _check_most(most)
         taken = 0
         while True:
             some = list(islice(given, most))
             table = self._table()
             if some:
-                try:
-                    self._apply(some, table, taken, lines)
-                except OutOfMemory as fault:
-                    raise OutOfMemory(fault.replies, fault.is_cut, fault.is_lost, taken) from None
+                self._apply_after(some, table, taken, lines)
                 taken += len(some)
             if len(some) < most:
                 return taken
+
+    def _apply_after(self, some: list[Any], table: Table, taken: int, lines: Lines) -> None:
+        """Applies one batch of a call, of which so many rows were applied before."""
+        try:
+            self._apply(some, table, taken, lines)
+        except OutOfMemory as fault:
+            raise OutOfMemory(fault.replies, fault.is_cut, fault.is_lost, taken) from None
 
     def _apply(self, some: list[Any], table: Table, taken: int, lines: Lines) -> None:
         """Applies one batch."""
         script = f"batch\n{lines(some, table, taken)}end\n"
         reply = self.replies(script)
         if reply.startswith(b"refused "):
-            self._refuse_if_refused(script.encode(), reply, taken, some)
+            self._refuse_if_refused(script.encode(), reply, taken, rows_of_columns(some) if lines is column_lines else some)
 
     def _loaded(self, script: bytes, path: str | None = None) -> int:
         reply = self.replies(script)
@@ -165,15 +315,27 @@ class Calls(ABC):
             self._refuse_if_refused(script.encode(), reply, 0, None)
         return rows_of_reply(word, reply.decode(), kinds)
 
-    def _refuse_if_refused(self, script: bytes, reply: bytes, taken: int, rows: list[Any] | None, path: str | None = None) -> None:
+    def _refuse_if_refused(
+        self, script: bytes, reply: bytes, taken: int, rows: list[Any] | None, path: str | None = None, lines: Sequence[int] = ()
+    ) -> None:
         if reply.startswith(b"refused "):
             command = next(language.commands(script))
-            raise refusal(command, reply, self.state, [Reply(reply.decode(), command.head.word)], taken, rows, path)
+            raise refusal(command, reply, self.state, [Reply(reply.decode(), command.head.word)], taken, rows, path, lines)
 
 
 def put_lines(rows: list[Any], table: Table, taken: int) -> str:
     """The lines that put rows."""
     return records(rows, layout(table).columns, "put ", taken + 1, taken)
+
+
+def column_lines(columns: list[Any], table: Table, taken: int) -> str:
+    """The lines that put rows that are given by columns."""
+    return put_lines(rows_of_columns(columns), table, taken)
+
+
+def by_names(there: Layout, columns: list[ColumnValues]) -> dict[str, ColumnValues]:
+    """The columns of rows by their names; bytes are those of ints. A column that is twice in the key of an index has the same values twice."""
+    return {column.name: array("q", values) if isinstance(values, bytes) else values for column, values in zip(there.columns, columns)}
 
 
 def bounds(there: Layout, start: Any, stop: Any) -> str:
@@ -203,13 +365,72 @@ def checked_name(name: Any, what: str) -> str:
     return name
 
 
+def checked_group(columns: Any) -> int:
+    """The number of columns of a group, as far as a script can have it."""
+    if isinstance(columns, bool) or not isinstance(columns, int):
+        raise TypeError(f"the number of columns of a group is an int, and not {shown(columns)}: write sums('by_city', 1, 'qty')")
+    if not 0 <= columns <= 999_999_999:
+        raise ValueError(f"the number of columns of a group is 1 to 8, and not {shown(columns)}")
+    return columns
+
+
+def _check_most(most: Any) -> None:
+    if most is not MOST_MESSAGES:
+        if isinstance(most, bool) or not isinstance(most, int):
+            raise TypeError(f"the size of a batch is an int, and not {shown(most)}")
+        if not 1 <= most <= MOST_MESSAGES:
+            raise ValueError(f"a batch has 1 to {MOST_MESSAGES:,} messages, and not {most:,}")
+
+
+def _checked_number(number: Any, what: str) -> str:
+    if isinstance(number, bool) or not isinstance(number, int):
+        raise TypeError(f"{what} is an int, and not {shown(number)}")
+    if not 0 <= number < 10**language.MOST_DIGITS:
+        raise ValueError(f"{what} has one to {language.MOST_DIGITS} digits, and not {shown(number)}")
+    return str(number)
+
+
+def _checked_kind(kind: Any) -> str:
+    if not isinstance(kind, str) or kind not in VALUES:
+        raise ValueError(f"a kind is one of {', '.join(VALUES)}, and not {shown(kind)}")
+    return kind
+
+
+def _checked_names(names: Any) -> str:
+    """The names of columns, in a list of a script."""
+    return ",".join(checked_name(name, "a column") for name in ([names] if isinstance(names, str) else names))
+
+
+def _shown_condition(index: language.Index, kinds: dict[bytes, bytes]) -> tuple[str, str, Value] | None:
+    """The condition of an index, with its value as one of Python."""
+    if index.condition is None:
+        return None
+    column, operator, constant = index.condition
+    return column.decode(), operator.decode(), VALUES[kinds[column].decode()](constant.decode())
+
+
+def _refuse_gzip(start: bytes, path: str | os.PathLike[str]) -> None:
+    if start.startswith(b"\x1f\x8b"):
+        raise ValueError(f"{os.fspath(path)} is compressed by gzip: unpack it first, as by gunzip")
+
+
+def _check_header(part: Part, table: Table, path: str | os.PathLike[str]) -> None:
+    """The first record names the columns of the table in order."""
+    found = language.fields(part.records[0]) if part.records else []
+    if found != table.names:
+        names, given = (b",".join(some).decode(errors="replace") for some in (table.names, found))
+        where = f"{os.fspath(path)}, line {part.lines[0]}" if part.records else os.fspath(path)
+        raise RowValueError(f"{where}: the header is {shown(given)}, and the columns are {names}", value=given)
+
+
 LINE_OF_POINT = re.compile(rb"^\.\r?$", re.MULTILINE)
 
 
-def ends_load(text: bytes) -> int:
-    """The number of the line of a CSV text that would end a load, or 0."""
-    found = LINE_OF_POINT.search(text) if b"\n." in text or text.startswith(b".") else None
-    return text.count(b"\n", 0, found.start()) + 1 if found else 0
+def ends_load(text: bytes, start: int = 0, end: int = sys.maxsize) -> int:
+    """The number of the line that would end a load, of the CSV text from one place of these bytes, where a line begins, to before another, or 0."""
+    has_point = text.find(b"\n.", start, end) >= 0 or text.startswith(b".", start, end)
+    found = LINE_OF_POINT.search(text, start, end) if has_point else None
+    return text.count(b"\n", start, found.start()) + 1 if found else 0
 
 
 def _with_point(rows: list[Any], columns: list[Column], row: int) -> RowValueError:
@@ -273,13 +494,14 @@ def _given_value(row: Any, column: str, columns: list[Column], otherwise: Any) -
 
 
 def refusal(
-    command: Command, reply: bytes, state: State, replies: list[Reply], taken: int = 0, rows: list[Any] | None = None, path: str | None = None
-) -> Refused:
-    """The exception of a command that was refused, with the reason."""
+    command: Command, reply: bytes, state: State, replies: list[Reply], taken: int = 0, rows: list[Any] | None = None, path: str | None = None,
+    lines: Sequence[int] = (),
+) -> Refused:  # fmt: skip
+    """The exception of a command that was refused, with the reason. Of a batch of records of a file, `lines` are theirs in the file."""
     number, name, *rest = reply.decode().split()[1:]
     item = int(rest[0]) if rest else None
     fault = fault_of(command, int(number), item, state)
-    column = fault.column.decode() if fault is not None and fault.column is not None else None
+    column = fault.column.decode(errors="replace") if fault is not None and fault.column is not None else None
     value: Any = fault.value.decode(errors="replace") if fault is not None and fault.value is not None else None
     reason = MEANINGS.get(int(number), "") if fault is None else fault.what()
     if fault is not None and fault.place:
@@ -289,5 +511,7 @@ def refusal(
         value = _given_value(rows[item - 1], column, layout(state.table).columns, value)
     if path is not None:
         line = fault.line - 1 if fault is not None and fault.line is not None else None
+        if lines and line is not None:
+            line = lines[line - 1]
         reason = f"{path}{'' if line is None else f', line {line}'}: {reason}"
     return Refused(command.head.number, int(number), name, item, replies, reason=reason, column=column, value=value, row=row, taken=taken)

@@ -32,7 +32,7 @@ from typing import Any, NoReturn, Protocol
 from .calls import Calls, as_script, note
 from .errors import before
 from .language import PRIMARY, State, Table, commands
-from .replies import answered
+from .replies import Place, answered
 from .session import Session
 
 FORMAT = 1  # of the file: raised when an older program could not read it
@@ -239,10 +239,10 @@ class Durable(Calls):
         if text:
             if len(text) > LONG_TEXT:
                 _tell(f"betable: {self.path}: loading a checkpoint of {len(text) >> 20} MiB")
-            replies = session.replies(text)
+            replies, places = _ran(session, text)
             if REFUSED.search(replies):
                 raise Corrupt(self.path, 0, f"it was refused, so open it with engine {engine} (this is {ENGINE}): {replies.decode()}")
-            self._note(text[: text.index(b"\nload\n") + 1], replies)
+            self._note(text[: text.index(b"\nload\n") + 1], replies, places)
         self._log_bytes = 0
         count = (_value(self._db, "SELECT max(number) FROM log") or self._number) - self._number
         # A cursor that is left open would keep the file locked.
@@ -250,25 +250,27 @@ class Durable(Calls):
             for number, script, checksum in _with_progress(log, f"betable: {self.path}: {{:,}} of {count:,} scripts"):
                 if number != self._number + 1:
                     raise Corrupt(self.path, self._number + 1, "it is missing, so restore a backup")
-                replies = session.replies(script)
+                replies, places = _ran(session, script)
                 if _checksum(script, replies) != checksum:
                     raise Corrupt(self.path, number, _advice(engine))
-                self._note(script, replies)
+                self._note(script, replies, places)
                 self._number, self._log_bytes = number, self._log_bytes + len(script)
         if engine != ENGINE:
             self._db.execute("UPDATE about SET engine = ?", (ENGINE,))
 
-    def _note(self, script: bytes, replies: bytes) -> None:
+    def _note(self, script: bytes, replies: bytes, places: list[Place] | None) -> None:
         """Notes what a script has defined."""
         if DEFINED.search(replies):
-            for command, reply in answered(commands(script), replies):
+            for command, reply, _ in answered(commands(script), replies, places):
                 note(self._state, command, reply)
 
     # ---- scripts ----
 
     def replies(self, script: str | bytes) -> bytes:
         """The bytes of the replies to a script, which is kept if it changed anything."""
-        script = as_script(script)
+        return self._replies_with_places(as_script(script))[0]
+
+    def _replies_with_places(self, script: bytes) -> tuple[bytes, list[Place] | None]:
         with self._some_group(), self._all_or_nothing():
             return self._run(script)
 
@@ -281,7 +283,7 @@ class Durable(Calls):
         with self._some_group(), self._all_or_nothing():
             found = self._db.execute("SELECT script, replies FROM requests WHERE id = ?", (request_id,)).fetchone()
             if found is None:
-                replies = self._run(script)
+                replies, _ = self._run(script)
                 self._begin()
                 added = self._db.execute("INSERT INTO requests(id, script, replies) VALUES(?, ?, ?)", (request_id, hash, replies)).lastrowid or 0
                 self._db.execute("DELETE FROM requests WHERE number <= ?", (added - self._most_requests,))
@@ -298,16 +300,16 @@ class Durable(Calls):
             self._begin()
             self._db.executemany("DELETE FROM requests WHERE id = ?", [(request_id,) for request_id in request_ids])
 
-    def _run(self, script: bytes) -> bytes:
-        replies = self._ready().replies(script)
+    def _run(self, script: bytes) -> tuple[bytes, list[Place] | None]:
+        replies, places = _ran(self._ready(), script)
         # A script that only reads may print rows which look like other replies.
         if CHANGING_LINE.search(script) and CHANGED.search(replies):
             self._begin()
             self._is_changed = True
             self._number, self._log_bytes = self._number + 1, self._log_bytes + len(script)
             self._db.execute("INSERT INTO log VALUES(?, ?, ?)", (self._number, script, _checksum(script, replies)))
-            self._note(script, replies)
-        return replies
+            self._note(script, replies, places)
+        return replies, places
 
     def _in_batches(self, given: Iterator[Any], most: int, lines: Callable[[list[Any], Table, int], str]) -> int:
         """Each batch is kept by itself, unless a group is open: RolledBack says how many rows were kept before one that failed."""
@@ -514,6 +516,11 @@ def _check_request_id(request_id: str) -> None:
 
 def _value(db: sqlite3.Connection, query: str) -> Any:
     return db.execute(query).fetchone()[0]
+
+
+def _ran(runner: Runner, script: bytes) -> tuple[bytes, list[Place] | None]:
+    """The replies to a script, with the place of each if the runner has them."""
+    return runner._replies_with_places(script) if isinstance(runner, Calls) else (runner.replies(script), None)
 
 
 def _checksum(script: bytes, replies: bytes) -> int:

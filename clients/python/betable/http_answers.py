@@ -33,15 +33,15 @@ def content_policy(page: str) -> str:
 def refused_count(script: bytes, replies: bytes) -> int:
     if b"refused " not in replies:
         return 0
-    return sum(reply.startswith(b"refused ") for _, reply in answered(commands(script), replies))
+    return sum(is_refused for _, _, is_refused in answered(commands(script), replies))
 
 
 def replies_with_commands(script: bytes, replies: bytes, state: State) -> list[dict[str, Any]]:
     """Each reply with its command: the lines of the reply, or the refusal."""
     state, found = copied(state), []
-    for command, reply in answered(commands(script), replies):
+    for command, reply, is_refused in answered(commands(script), replies):
         said: dict[str, Any] = {"line": command.head.number, "command": command.head.word.decode(errors="replace")}
-        if reply.startswith(b"refused "):
+        if is_refused:
             fault = refusal(command, reply, state, [])
             said["refused"] = {**refusal_fields(fault), "reason": fault.reason}
         else:
@@ -69,7 +69,7 @@ def start_event(number: int) -> str:
 def event_of(script: bytes, answer: Answer) -> str:
     """The event that a script was kept: its number, and the replies to those of its commands that changed the table, as far as an event has them."""
     with_replies = answered(commands(script), answer.replies)
-    changes = (reply for command, reply in with_replies if command.head.word in CHANGING and not reply.startswith(b"refused "))
+    changes = (reply for command, reply, is_refused in with_replies if command.head.word in CHANGING and not is_refused)
     found = [reply[:-1].decode() for reply in islice(changes, MOST_CHANGES + 1)]
     said = {"number": answer.number, "replies": found[:MOST_CHANGES], "more": len(found) > MOST_CHANGES}
     return f"id: {answer.number}\ndata: {json.dumps(said)}\n\n"

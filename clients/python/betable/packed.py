@@ -19,6 +19,7 @@ from .rows import Layout, Value
 
 MAGIC = b"BTV\x01"
 HEADER = struct.Struct("<4sI")
+USAGE = struct.Struct("<4s3Q")
 HEADER_OF_ONE = HEADER.pack(MAGIC, 1)
 PUT, DEL, UPS = range(3)
 OPERATIONS = {"set": 0, "add": 1, "max": 2, "min": 3}
@@ -43,6 +44,15 @@ class TreeColumn(NamedTuple):
     name: str
     kind: str
     is_key: bool
+
+
+class Usage(NamedTuple):
+    """How much a tree holds: the rows in its leaves, the messages in the buffers of its inner nodes, and its height. A message can add a row, or delete one of a
+    leaf, so `rows` is not the number of the tree's rows."""
+
+    rows: int
+    messages: int
+    height: int
 
 
 # ---- the code of encoders and decoders ----
@@ -190,18 +200,24 @@ class Packing:
             return None
         return b"".join(found)
 
+    def operations(self, shape: Shape) -> list[tuple[int, int]]:
+        """The operations of the upserts of a shape, each with its code and the place of its column. Raises one of NOT_TAKEN if they are not packed."""
+        there = self._there
+        places = {column.name: place for place, column in enumerate(there.columns)}
+        found = [(OPERATIONS[operation], places[name]) for operation, *names in shape for name in names]
+        if any(code != OPERATIONS["set"] and there.kinds[place] != "int" for code, place in found):
+            raise TypeError
+        return found
+
     def _encoder(self, word: str, shape: Shape) -> Encoder:
         """That of the messages with this word and shape, which is kept."""
         there = self._there
         parts: list[int | str] = [PUT, *there.kinds] if word == "put" else [DEL, *there.key_kinds]
         if word == "ups":
-            places = {column.name: place for place, column in enumerate(there.columns)}
-            operations = [(operation, places[name]) for operation, *names in shape for name in names]
+            operations = self.operations(shape)
             parts = [UPS, *there.key_kinds, len(operations)]
-            for operation, place in operations:
-                if operation != "set" and there.kinds[place] != "int":
-                    raise TypeError
-                parts += [OPERATIONS[operation], place, there.kinds[place]]
+            for code, place in operations:
+                parts += [code, place, there.kinds[place]]
         if len(self._encoders) == MOST_SHAPES:
             self._encoders.clear()
         found = self._encoders[word, shape] = encoder_of_values(parts)
@@ -249,14 +265,53 @@ def value_bytes(value: Any, kind: str) -> bytes:
     return bytes([len(encoded)]) + encoded
 
 
+def description(tree: str, there: Layout) -> bytes:
+    """A tree as the extension in C takes it: the number of its key columns, that of its columns, their kinds, and its name."""
+    codes = {kind: code for code, kind in KINDS.items()}
+    return bytes([len(there.key), len(there.columns), *(codes[kind] for kind in there.kinds)]) + value_bytes(tree, "text")
+
+
 def page_bytes(tree: str, limit: int, lower: bytes, upper: bytes) -> bytes:
     """The page of the first rows, up to a limit, between two bounds."""
     return HEADER.pack(MAGIC, limit) + value_bytes(tree, "text") + lower + upper
 
 
+def sums_bytes(tree: str, columns: int, column: str, lower: bytes, upper: bytes) -> bytes:
+    """The sums of a column by the groups of the first columns, between two bounds."""
+    return HEADER.pack(MAGIC, columns) + value_bytes(tree, "text") + value_bytes(column, "text") + lower + upper
+
+
+def groups_of_reply(reply: bytes, kinds: Sequence[str]) -> list[tuple[Value, ...]]:
+    """The groups of a reply: of each the number of its rows, the sum, and the values of the columns that it is of, which have these kinds."""
+    found, at = [], len(MAGIC)
+    while at < len(reply):
+        values: list[Value] = []
+        for kind in kinds:
+            length = 8 if kind == "int" else 1 if kind == "flag" else reply[at] + 1
+            values.append(value_of(reply[at : at + length], kind))
+            at += length
+        found.append((int.from_bytes(reply[at : at + 8], "little"), int.from_bytes(reply[at + 8 : at + 24], "little", signed=True), *values))
+        at += 24
+    return found
+
+
+def value_of(packed: bytes, kind: str) -> Value:
+    """A value of a column of this kind."""
+    if kind == "int":
+        return int.from_bytes(packed, "little", signed=True)
+    if kind == "flag":
+        return packed != b"\0"
+    return packed[1:].decode() if kind == "text" else packed[1:]
+
+
 def name_bytes(tree: str) -> bytes:
     """The name of a tree."""
     return HEADER_OF_ONE + value_bytes(tree, "text")
+
+
+def usage_of_reply(reply: bytes) -> Usage:
+    """How much a tree holds, by a reply."""
+    return Usage(*USAGE.unpack(reply)[1:])
 
 
 def columns_of_reply(reply: bytes) -> list[TreeColumn]:

@@ -339,5 +339,5 @@ class Replicas(Calls):
     def _note(self, script: bytes, replies: bytes) -> None:
         """Takes what a script defines into the state."""
         if DEFINED.search(replies):
-            for command, reply in answered(commands(script), replies):
+            for command, reply, _ in answered(commands(script), replies):
                 note(self._state, command, reply)

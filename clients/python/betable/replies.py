@@ -5,12 +5,14 @@ from __future__ import annotations
 from collections.abc import Iterable, Iterator, Sequence
 from typing import Any
 
-from .language import LAST_LINES, Command, State
+from .language import LAST_LINES, NUMBER, Command, State
 from .rows import Value, rows_of
 
 # The word of a line that has a row or a group, by the command.
 ROW_WORDS = {b"get": "row ", b"scan": "row ", b"sums": "sum "}
 BLOCK_BYTES = 65_536  # of a reply that are taken at once
+# Where a reply begins and ends among those of its script, and whether its command was refused, as the library says.
+Place = tuple[int, int, bool]
 
 
 def reply_end(word: bytes, replies: bytes, at: int) -> int:
@@ -36,14 +38,19 @@ def _outside_quotes(replies: bytes, part: bytes, at: int) -> int:
     return -1
 
 
-def answered(commands: Iterable[Command], replies: bytes) -> Iterator[tuple[Command, bytes]]:
-    """Each command with its reply, up to the last one that has a whole reply."""
+def answered(commands: Iterable[Command], replies: bytes, places: Iterable[Place] | None = None) -> Iterator[tuple[Command, bytes, bool]]:
+    """Each command with its reply, and whether it was refused. Without places, where replies come from elsewhere than a session or memory ran out, their text
+    says where they end, up to the last one that is whole."""
+    if places is not None:
+        for command, (begin, end, is_refused) in zip(commands, places):
+            yield command, replies[begin:end], is_refused
+        return
     at = 0
     for command in commands:
         end = reply_end(command.head.word, replies, at)
         if end < 0:
             return
-        yield command, replies[at:end]
+        yield command, replies[at:end], replies.startswith(b"refused ", at)
         at = end
 
 
@@ -112,7 +119,7 @@ def _rows(word: bytes, lines: list[str], kinds: Sequence[str]) -> list[tuple[Val
 
 
 def kinds_of_rows(state: State, command: Command) -> tuple[str, ...]:
-    """The kinds of the columns that the rows of a command's reply have. Empty where the tree is unknown."""
+    """The kinds of the columns that the rows of a command's reply have. Empty where the tree is unknown, or the command has another form."""
     words = command.head.text.split()
     table, word = state.table, command.head.word
     if table is None or word not in ROW_WORDS:
@@ -121,5 +128,10 @@ def kinds_of_rows(state: State, command: Command) -> tuple[str, ...]:
         return tuple(kind.decode() for kind in table.kinds)
     if len(words) < 2 or not table.has_tree(words[1]):
         return ()
-    columns = table.columns_of(words[1]) if word == b"scan" else table.key_of(words[1])[: int(words[2])]
+    if word == b"scan":
+        columns = table.columns_of(words[1])
+    elif len(words) > 2 and NUMBER.fullmatch(words[2]):
+        columns = table.key_of(words[1])[: int(words[2])]
+    else:
+        return ()
     return tuple(kind.decode() for _, kind in columns)

@@ -15,13 +15,16 @@ from __future__ import annotations
 import csv
 import operator
 import re
-from collections.abc import Callable, Iterable, Iterator, Mapping, Sequence
-from typing import Any, NamedTuple
+from array import array
+from collections.abc import Callable, Iterable, Iterator, Mapping, Sequence, Set
+from typing import Any, NamedTuple, TypeAlias
 
 from .errors import RowTypeError, RowValueError
 from .language import GREATEST_INT, LEAST_INT, PRIMARY, Index, Table, counted
 
 Value = int | str | bool | bytes
+# The values of a column: of one of kind int, or of another.
+ColumnValues: TypeAlias = "array[int] | list[Any]"
 
 
 class Column(NamedTuple):
@@ -43,7 +46,7 @@ class Layout:
         self.columns, self.key = columns, key
         # The lines of messages that are alike, which `messages` keeps here.
         self.forms: dict[tuple[Any, ...], Any] = {}
-        self.kinds, self.key_kinds = [column.kind for column in columns], [column.kind for column in key]
+        self.names, self.kinds, self.key_kinds = [column.name for column in columns], [column.kind for column in columns], [column.kind for column in key]
 
 
 UNKNOWN = Layout([], [])
@@ -65,6 +68,8 @@ def layout(table: Table | None, tree: str = "primary") -> Layout:
 
 # What a value of each kind is, as it is said to a user.
 TYPES = {"int": "an int", "text": "a str", "flag": "a bool", "bytes": "bytes"}
+# The types of arrays of NumPy that have the values of each kind.
+ARRAY_TYPES = {"int": "int64", "text": "object", "flag": "bool", "bytes": "object"}
 # What a text has that is written in quotes: also a byte order mark, which would be dropped at the start of a record, and what would be no record, or the end
 # of a load, if it were alone in its line.
 NEEDS_QUOTES = re.compile('[",\r\n\ufeff]|^[.]?$')
@@ -79,7 +84,8 @@ FEW_ROWS = 4
 
 
 def _int_field(value: Any) -> str:
-    if isinstance(value, bool):
+    # NumPy 1 gives its bool an index.
+    if isinstance(value, bool) or type(value).__name__ == "bool_":
         raise TypeError
     # Of a subclass, which may print in another way, the number itself.
     return int.__repr__(operator.index(value))
@@ -191,12 +197,8 @@ def as_tuple(row: Any, columns: Sequence[Column], number: int, taken: int) -> Se
     """A row by its columns: a tuple or a list as it is, and a dict by their names."""
     names = [column.name for column in columns]
     if isinstance(row, Mapping):
-        wrong = [name for name in row if name not in names]
-        missing = [name for name in names if name not in row]
-        if wrong or missing:
-            parts = ([f"{shown(wrong[0])} is no column"] if wrong else []) + ([f"'{missing[0]}' is missing"] if missing else [])
-            reason = f"{' and '.join(parts)}: a dict has a value for each of the columns {', '.join(names)}"
-            raise RowValueError(reason, row=number, value=row, taken=taken)
+        if reason := names_fault(row, names):
+            raise RowValueError(f"{reason}: a dict has a value for each of the columns {', '.join(names)}", row=number, value=row, taken=taken)
         return [row[name] for name in names]
     if not isinstance(row, (tuple, list)):
         example = f"write [({', '.join(names)}{',' if len(names) == 1 else ''}), ..]"
@@ -209,6 +211,87 @@ def as_tuple(row: Any, columns: Sequence[Column], number: int, taken: int) -> Se
         reason = f"{counted(len(row), 'value')}, and a row has {len(names)} ({', '.join(names)}): {shown(row)}"
         raise RowValueError(reason, row=number, value=row, taken=taken)
     return row
+
+
+def tuples_of_dicts(rows: list[Any], names: Sequence[str]) -> list[Any]:
+    """Rows as tuples, if all of them are dicts with these names; others as they are."""
+    if type(rows[0]) is not dict or set(map(type, rows)) != {dict} or set(map(len, rows)) != {len(names)}:
+        return rows
+    try:
+        return list(zip(*[[row[name] for row in rows] for name in names]))
+    except KeyError:
+        return rows
+
+
+def names_fault(given: Mapping[Any, Any], names: list[str]) -> str | None:
+    """Why the names of a dict are not those of the columns, or None."""
+    wrong = [name for name in given if name not in names]
+    missing = [name for name in names if name not in given]
+    return " and ".join([f"{shown(name)} is no column" for name in wrong[:1]] + [f"'{name}' is missing" for name in missing[:1]]) or None
+
+
+# ---- rows by columns ----
+
+
+def values_by_column(given: Mapping[Any, Any], columns: Sequence[Column]) -> tuple[list[Any], int]:
+    """The values of each column of rows, in the order of the columns, and the number of rows."""
+    names = [column.name for column in columns]
+    if reason := names_fault(given, names):
+        raise RowValueError(f"{reason}: columns of rows are a dict from each of the names {', '.join(names)} to its values", value=given)
+    found = [_column_values(given[name], name) for name in names]
+    counts = list(map(len, found))
+    for name, values, count in zip(names, found, counts):
+        if count != counts[0]:
+            raise RowValueError(f"{counted(count, 'value')}, and '{names[0]}' has {counts[0]:,}", column=name, value=values)
+    return found, counts[0]
+
+
+def _column_values(given: Any, name: str) -> Any:
+    """The values of a column: a sequence that can be cut, as a list, an array, or an array of NumPy, which a column of pandas is too."""
+    values = given.to_numpy() if hasattr(given, "to_numpy") else given
+    if not isinstance(values, (str, bytes, bytearray, Mapping, Set)) and hasattr(values, "__getitem__"):
+        try:
+            len(values)
+        except TypeError:
+            pass
+        else:
+            return values
+    said = f"{shown(given)} is of type {type(given).__name__}, and the values of a column are a list, a tuple or an array"
+    raise RowTypeError(f"{said}: write {{'{name}': [..], ..}}, or [{{'{name}': ..}}] for rows", column=name, value=given)
+
+
+# The kinds of arrays of NumPy whose `tolist` converts nothing: dates would be ints.
+PLAIN_ARRAYS = "biufOUS"
+
+
+def part_of_column(values: Any, kind: str, start: int, stop: int) -> Any:
+    """The values of a column from one place to before another: a buffer of ints as it is, and a list of others."""
+    part = values[start:stop]
+    if kind == "int" and _is_of_ints(part):
+        return part
+    if hasattr(part, "tolist") and getattr(getattr(part, "dtype", None), "kind", "O") in PLAIN_ARRAYS:
+        return part.tolist()
+    return part if type(part) is list else list(part)
+
+
+def _is_of_ints(part: Any) -> bool:
+    """Whether these are a buffer of ints of eight bytes, in the order of this machine."""
+    try:
+        with memoryview(part) as view:
+            return view.ndim == 1 and view.itemsize == 8 and view.format.lstrip("@=") in ("q", "l")
+    except (TypeError, ValueError, BufferError):
+        return False
+
+
+def rows_of_columns(columns: list[Any]) -> list[tuple[Any, ...]]:
+    """The rows of columns that `part_of_column` made."""
+    return list(zip(*[values if type(values) is list else values.tolist() for values in columns]))
+
+
+def columns_of_rows(rows: list[tuple[Value, ...]], kinds: Sequence[str]) -> list[ColumnValues]:
+    """The columns of rows that were read."""
+    columns = list(zip(*rows)) if rows else [()] * len(kinds)
+    return [array("q", values) if kind == "int" else list(values) for kind, values in zip(kinds, columns)]
 
 
 def records(rows: list[Any], columns: Sequence[Column], word: str = "", row: int = 1, taken: int = 0, *, is_load: bool = False) -> str:

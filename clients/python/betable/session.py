@@ -1,4 +1,8 @@
-"""A session: a table in this process, by the library for C."""
+"""A session: a table in this process, by the library for C.
+
+`PureSession` calls the library by ctypes. `Session` does the same, and if the extension `_packed` is built, its calls go by that, from values to packed bytes
+and back without code of Python. Set BETABLE_PURE=1 to do without the extension.
+"""
 
 from __future__ import annotations
 
@@ -8,19 +12,23 @@ import threading
 from collections.abc import Callable, Iterator
 from itertools import islice
 from pathlib import Path
-from types import TracebackType
-from typing import Any
+from types import ModuleType, TracebackType
+from typing import TYPE_CHECKING, Any
 
 from . import language
-from .calls import Calls, Lines, Row, as_script, bounds, checked_name, note, note_unanswered
+from .calls import Bound, Calls, Lines, Row, as_script, bounds, by_names, checked_group, checked_name, column_lines, note, note_unanswered, put_lines
 from .errors import OutOfMemory
-from .language import State, Table, counted
-from .messages import message_lines
-from .packed import MOST_ROWS, TreeColumn, columns_of_reply, name_bytes, packing, page_bytes
-from .replies import answered
-from .rows import UNKNOWN, Layout, layout, shown
+from .language import PRIMARY, State, Table, counted
+from .messages import Message, Shape, message_lines
+from .packed import (
+    MOST_ROWS, NOT_TAKEN, TreeColumn, Usage, columns_of_reply, description, groups_of_reply, name_bytes, packing, page_bytes, sums_bytes, usage_of_reply,
+)  # fmt: skip
+from .replies import Place, answered
+from .rows import UNKNOWN, ColumnValues, Layout, columns_of_rows, layout, rows_of_columns, shown, tuples_of_dicts
 
 DONE, OUT_OF_MEMORY, REPLY_CUT, NOT_OPEN, ALREADY_OPEN, REFUSED = range(6)
+# What became of a command.
+READ, CHANGED, COMMAND_REFUSED = range(3)
 # Replies of fewer bytes are copied by one call.
 SHORT_REPLIES = 4_096
 LIBRARY = "libbt_c.so"
@@ -34,6 +42,10 @@ class _Handle(ctypes.Structure):
 
 class _Fault(ctypes.Structure):
     _fields_ = [("refusal", ctypes.c_uint64), ("item", ctypes.c_uint64), ("column", ctypes.c_uint64)]
+
+
+class _ReplyPlace(ctypes.Structure):
+    _fields_ = [("offset", ctypes.c_uint64), ("length", ctypes.c_uint64), ("kind", ctypes.c_uint32)]
 
 
 def _library_path() -> Path:
@@ -64,9 +76,12 @@ def _loaded_library() -> ctypes.CDLL:
         ("betable_get", of_packed, ctypes.c_uint),
         ("betable_page", of_packed, ctypes.c_uint),
         ("betable_columns", of_packed, ctypes.c_uint),
+        ("betable_sums", of_packed, ctypes.c_uint),
+        ("betable_usage", of_packed, ctypes.c_uint),
         ("betable_replies_length", [handle], size),
         ("betable_copy_replies", [handle, size, ctypes.c_char_p, size], size),
-        ("betable_refused_count", [handle], size),
+        ("betable_reply_count", [handle], size),
+        ("betable_reply", [handle, size, ctypes.POINTER(_ReplyPlace)], ctypes.c_bool),
         ("betable_is_lost", [handle], ctypes.c_bool),
         ("betable_close", [handle], ctypes.c_uint),
     ]
@@ -79,40 +94,41 @@ def _loaded_library() -> ctypes.CDLL:
 _library: ctypes.CDLL | None = None
 
 
-class Session(Calls):
-    """A table, or none so far, that lives between scripts. It belongs to the thread that opened it: another thread that uses it gets a RuntimeError.
-    A closed session raises ValueError.
+class PureSession(Calls):
+    """A table, or none so far, that lives between scripts. Any thread may use it, one call at a time: a call during another one raises RuntimeError. A closed
+    session raises ValueError.
 
-    Rows, messages, keys and pages go to the library as packed bytes. What cannot be packed, and what the library refuses, goes the way of `Calls`, by text: it
-    takes the values, or says why it refuses them."""
+    Rows, messages, keys, pages and sums go to the library as packed bytes. What cannot be packed, and what the library refuses, goes the way of `Calls`, by
+    text: it takes the values, or says why it refuses them."""
 
     def __init__(self) -> None:
         global _library
-        self._handle, self._fault = _Handle(), _Fault()
-        self._thread = threading.current_thread()
+        self._handle, self._fault, self._place = _Handle(), _Fault(), _ReplyPlace()
+        # While the library is in a call, the handle is the library's alone.
+        self._lock, self._is_open = threading.Lock(), False
         self._state = State()
         self._room = ctypes.create_string_buffer(SHORT_REPLIES)
         _library = _library or _loaded_library()
         self._library = _library
         if self._library.betable_open(self._handle) != DONE:
             raise OutOfMemory
+        self._is_open = True
 
-    def __enter__(self) -> Session:
+    def __enter__(self) -> PureSession:
         return self
 
     def __exit__(self, kind: type[BaseException] | None, fault: BaseException | None, trace: TracebackType | None) -> None:
         self.close()
 
     def __del__(self) -> None:
-        # A session that another thread drops keeps its memory.
-        if self.__dict__.get("_thread") is threading.current_thread() and self._handle.is_open:
+        if self.__dict__.get("_is_open"):
             self.close()
 
     def __reduce__(self) -> tuple[Any, ...]:
         raise TypeError("a session cannot be copied or pickled: it is the owner of its table")
 
     def __repr__(self) -> str:
-        if not self._handle.is_open:
+        if not self._is_open:
             return "<betable.Session, closed>"
         table = self._state.table
         if table is None:
@@ -120,35 +136,71 @@ class Session(Calls):
         trees = [f"{name.decode()} ({'complete' if index.is_complete else 'building'})" for name, index in table.indexes.items()]
         return f"<betable.Session, open, {counted(len(table.columns), 'column')}{', indexes: ' + ', '.join(trees) if trees else ''}>"
 
-    def _open_handle(self) -> _Handle:
-        if threading.current_thread() is not self._thread:
-            raise RuntimeError("a session is used by the thread that opened it alone: open another one here, or hand the work to that thread")
-        if not self._handle.is_open:
+    def _begin(self) -> None:
+        """Begins calls of the library that belong together, up to `_give`: no other call may come in between."""
+        if not self._take():
+            raise RuntimeError("the session is in a call, of another thread or of this one: one call at a time may use it, so hold a lock during each")
+        if not self._is_open:
+            self._give()
             raise ValueError("the session is closed")
-        return self._handle
+
+    def _take(self) -> bool:
+        """Takes the session for a call, if it is in none."""
+        return self._lock.acquire(blocking=False)
+
+    def _give(self) -> None:
+        """Ends what `_take` has begun."""
+        self._lock.release()
 
     @property
     def state(self) -> State:
-        if not self._handle.is_open:
+        if not self._is_open:
             raise ValueError("the session is closed")
         return self._state
 
     def close(self) -> None:
         """Drops the table. A session that is closed stays closed."""
-        if self._handle.is_open:
-            self._library.betable_close(self._open_handle())
+        if self._is_open:
+            self._begin()
+            self._is_open = False
+            self._library.betable_close(self._handle)
+            self._give()
 
     def replies(self, script: str | bytes) -> bytes:
         """The bytes of the replies to a script, whether commands are refused or not."""
-        script = as_script(script)
-        handle = self._open_handle()
-        status = self._library.betable_run(handle, script, len(script))
-        replies = self._copied()
-        if b"table" in script or b"index" in script or b"build" in script or b"drop" in script:
-            self._note(script, replies, status == DONE)
+        return self._ran(as_script(script), False)[0]
+
+    def _replies_with_places(self, script: bytes) -> tuple[bytes, list[Place] | None]:
+        return self._ran(script, True)
+
+    def _ran(self, script: bytes, with_places: bool) -> tuple[bytes, list[Place] | None]:
+        """The bytes of the replies to a script, and their places if they are wanted."""
+        library, handle, places, is_lost = self._library, self._handle, None, False
+        defines = b"table" in script or b"index" in script or b"build" in script or b"drop" in script
+        self._begin()
+        try:
+            status = library.betable_run(handle, script, len(script))
+            replies = self._copied()
+            if status != DONE:
+                is_lost = library.betable_is_lost(handle)
+            elif with_places or defines:
+                places = self._places()
+            if defines:
+                self._note(script, replies, places)
+        finally:
+            self._give()
         if status != DONE:
-            raise OutOfMemory(replies, status == REPLY_CUT, self.is_lost)
-        return replies
+            raise OutOfMemory(replies, status == REPLY_CUT, is_lost)
+        return replies, places
+
+    def _places(self) -> list[Place]:
+        """The places of the replies to the last script, which was done."""
+        library, handle, place = self._library, self._handle, self._place
+        found = []
+        for number in range(library.betable_reply_count(handle)):
+            library.betable_reply(handle, number, place)
+            found.append((place.offset, place.offset + place.length, place.kind == COMMAND_REFUSED))
+        return found
 
     def _copied(self) -> bytes:
         """The replies of the last call."""
@@ -160,19 +212,23 @@ class Session(Calls):
             count = library.betable_copy_replies(handle, 0, room, length)
         return ctypes.string_at(room, count)
 
-    def _note(self, script: bytes, replies: bytes, is_whole: bool) -> None:
+    def _note(self, script: bytes, replies: bytes, places: list[Place] | None) -> None:
+        """Takes what a script defines into the state. Without places memory ran out."""
         count = 0
-        for command, reply in answered(language.commands(script), replies):
+        for command, reply, _ in answered(language.commands(script), replies, places):
             note(self._state, command, reply)
             count += 1
-        if not is_whole:
+        if places is None:
             for command in islice(language.commands(script), count, count + 1):
                 note_unanswered(self._state, command)
 
     @property
     def is_lost(self) -> bool:
         """Whether the table was lost as memory ran out."""
-        return bool(self._library.betable_is_lost(self._open_handle()))
+        self._begin()
+        is_lost = bool(self._library.betable_is_lost(self._handle))
+        self._give()
+        return is_lost
 
     # ---- packed bytes ----
 
@@ -181,13 +237,14 @@ class Session(Calls):
         table = self.state.table
         if table is not None:
             there = packing(layout(table))
-            if self._is_done(self._library.betable_get, there.key(key)):
-                rows = there.rows(self._copied())
+            reply = self._reply(self._library.betable_get, there.key(key))
+            if reply is not None:
+                rows = there.rows(reply)
                 return rows[0] if rows else None
         return super().get(*key)
 
     def scan(
-        self, tree: str = "primary", start: tuple[Any, ...] | None = None, stop: tuple[Any, ...] | None = None, limit: int | None = None
+        self, tree: str = "primary", start: Bound = None, stop: Bound = None, limit: int | None = None
     ) -> list[Row]:
         """The rows of a tree in ascending order of their keys, from those that begin with the values `start` to before those that begin with `stop`. With a
         limit they are the first ones, no more than that, and the library reads no others."""
@@ -201,7 +258,7 @@ class Session(Calls):
         return self._page(name, there, most, packed.bound(start), packed.bound(stop), script)
 
     def iterate(
-        self, tree: str = "primary", start: tuple[Any, ...] | None = None, stop: tuple[Any, ...] | None = None, page: int = 1_000
+        self, tree: str = "primary", start: Bound = None, stop: Bound = None, page: int = 1_000
     ) -> Iterator[Row]:
         """The rows that a scan gives, which are read a page at a time as they are asked for. Each page begins directly after the last row of the one before, so
         no row comes twice; the rows that follow are those of the table when their page is read."""
@@ -217,33 +274,90 @@ class Session(Calls):
     def columns(self, tree: str = "primary") -> list[TreeColumn]:
         """The columns of the rows of a tree, each with its name, its kind, and whether it belongs to the key of the tree."""
         name = checked_name(tree, "a tree")
-        if self._is_done(self._library.betable_columns, name_bytes(name)):
-            return columns_of_reply(self._copied())
-        # The same refusal, in words.
-        self._rows(b"scan", f"scan {name}\ngo\n", [])
-        raise RuntimeError(f"the columns of '{name}' are refused, and its rows are not")
+        return columns_of_reply(self._reply_on_tree(self._library.betable_columns, name))
+
+    def usage(self, tree: str = "primary") -> Usage:
+        """How much a tree holds. All of its nodes are read."""
+        return usage_of_reply(self._reply_on_tree(self._library.betable_usage, checked_name(tree, "a tree")))
+
+    def sums(
+        self, tree: str, columns: int, column: str, start: Bound = None, stop: Bound = None
+    ) -> list[Row]:
+        """For each group of rows that are equal in the tree's first columns: their number, the sum of a column, and the values of those columns."""
+        name, count, summed = checked_name(tree, "a tree"), checked_group(columns), checked_name(column, "a column")
+        there = layout(self.state.table, name)
+        if there is not UNKNOWN:
+            bounds(there, start, stop)
+            packed = packing(there)
+            lower, upper = packed.bound(start), packed.bound(stop)
+            given = None if lower is None or upper is None else sums_bytes(name, count, summed, lower, upper)
+            reply = self._reply(self._library.betable_sums, given)
+            if reply is not None:
+                return groups_of_reply(reply, there.key_kinds[:count])
+        return super().sums(tree, columns, column, start, stop)
+
+    def scan_columns(
+        self, tree: str = "primary", start: Bound = None, stop: Bound = None, limit: int | None = None
+    ) -> dict[str, ColumnValues]:
+        """The rows of `scan` by columns: a dict from their names to an `array` of ints, or to a list of other values."""
+        found = self._scan_as_columns(tree, start, stop, limit)
+        return by_names(layout(self.state.table, tree), found)
+
+    def _scan_as_columns(self, tree: str, start: Bound, stop: Bound, limit: int | None) -> list[ColumnValues]:
+        return columns_of_rows(self.scan(tree, start, stop, limit), layout(self.state.table, tree).kinds)
 
     def _apply(self, some: list[Any], table: Table, taken: int, lines: Lines) -> None:
-        packed = packing(layout(table))
-        changes = packed.changes(some) if lines is message_lines else packed.puts(some)
-        if not self._is_done(self._library.betable_apply, changes):
+        apply = self._apply_messages if lines is message_lines else self._apply_columns if lines is column_lines else self._apply_rows
+        packed = tuples_of_dicts(some, layout(table).names) if lines is put_lines else some
+        if not apply(packed):
             super()._apply(some, table, taken, lines)
 
-    def _is_done(self, call: Callable[..., int], packed: bytes | None) -> bool:
-        """Whether a call on packed bytes was done. If there are none, or if they are refused, it was not, and nothing has changed."""
+    # Whether one batch was applied. If it was not, it cannot be packed or is refused, and nothing has changed.
+
+    def _apply_rows(self, rows: list[Any]) -> bool:
+        return self._reply(self._library.betable_apply, packing(layout(self.state.table)).puts(rows)) is not None
+
+    def _apply_messages(self, messages: list[Any]) -> bool:
+        return self._reply(self._library.betable_apply, packing(layout(self.state.table)).changes(messages)) is not None
+
+    def _apply_columns(self, columns: list[Any]) -> bool:
+        return self._apply_rows(rows_of_columns(columns))
+
+    def _reply(self, call: Callable[..., int], packed: bytes | None) -> bytes | None:
+        """The reply to a call on packed bytes. If there are none, or if they are refused, it is None, and nothing has changed."""
         if packed is None:
-            return False
-        status = call(self._open_handle(), packed, len(packed), self._fault)
+            return None
+        self._begin()
+        try:
+            status = call(self._handle, packed, len(packed), self._fault)
+            reply = self._copied() if status == DONE else None
+        finally:
+            self._give()
         if status == OUT_OF_MEMORY:
-            raise OutOfMemory(b"", False, self.is_lost)
-        return status == DONE
+            self._raise_out_of_memory()
+        return reply
+
+    def _reply_on_tree(self, call: Callable[..., int], name: str) -> bytes:
+        """The reply to a call on the name of a tree, which is refused only if there is no such tree."""
+        reply = self._reply(call, name_bytes(name))
+        if reply is None:
+            # The same refusal, in words.
+            self._rows(b"scan", f"scan {name}\ngo\n", [])
+            raise RuntimeError(f"a call on the tree '{name}' is refused, and its rows are not")
+        return reply
+
+    def _raise_out_of_memory(self) -> None:
+        raise OutOfMemory(b"", False, self.is_lost)
 
     def _page(self, name: str, there: Layout, most: int, lower: bytes | None, upper: bytes | None, script: str) -> list[Row]:
         """The first rows between two packed bounds. Where there is none, or where the page is refused, the script of the scan takes its place."""
-        page = None if lower is None or upper is None else page_bytes(name, most, lower, upper)
-        if self._is_done(self._library.betable_page, page):
-            return packing(there).rows(self._copied())
-        return self._rows(b"scan", script, there.kinds)[:most]
+        rows = None if lower is None or upper is None else self._page_rows(name, page_bytes(name, most, lower, upper))
+        return self._rows(b"scan", script, there.kinds)[:most] if rows is None else rows
+
+    def _page_rows(self, name: str, page: bytes) -> list[Row] | None:
+        """The rows of a page, or None if it is refused."""
+        reply = self._reply(self._library.betable_page, page)
+        return None if reply is None else packing(layout(self.state.table, name)).rows(reply)
 
     def _pages(self, name: str, there: Layout, most: int, lower: bytes | None, upper: bytes | None, script: str) -> Iterator[Row]:
         while True:
@@ -263,3 +377,53 @@ def _checked_count(count: Any, what: str, least: int) -> int:
     if count < least:
         raise ValueError(f"{what} is {least} or more, and not {shown(count)}")
     return min(count, MOST_ROWS)
+
+
+def _extension() -> ModuleType | None:
+    """The extension, if it is built and wanted."""
+    if os.environ.get("BETABLE_PURE", "0") not in ("", "0"):
+        return None
+    try:
+        from . import _packed
+    except ImportError:
+        return None
+    _packed.prepare(PureSession, Message)
+    return _packed
+
+
+_packed = _extension()
+
+if TYPE_CHECKING or _packed is None:
+
+    class Session(PureSession):
+        __doc__ = PureSession.__doc__
+
+        def __enter__(self) -> Session:
+            return self
+
+else:
+
+    class Session(_packed.Caller, PureSession):
+        __doc__ = PureSession.__doc__
+
+        def __init__(self) -> None:
+            super().__init__()
+            self._connect_calls()
+
+        def _connect_calls(self) -> None:
+            """Gives the extension the calls of the library that ctypes has loaded."""
+            addresses = [ctypes.cast(getattr(self._library, name), ctypes.c_void_p).value for name in _packed.CALLS]
+            self._connect(self._handle, ctypes.addressof(self._handle), tuple(addresses))
+
+        def _note(self, script: bytes, replies: bytes, places: list[Place] | None) -> None:
+            super()._note(script, replies, places)
+            table = self._state.table
+            names = [] if table is None else [name.decode() for name in (PRIMARY, *table.indexes)]
+            self._know({name: description(name, layout(table, name)) for name in names})
+
+        def _plan(self, shape: Shape) -> bytes | None:
+            """The operations of the upserts of a shape, each its code and the place of its column, or None if they are not packed."""
+            try:
+                return bytes([number for one in packing(layout(self._state.table)).operations(shape) for number in one])
+            except NOT_TAKEN:
+                return None

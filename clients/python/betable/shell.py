@@ -169,17 +169,17 @@ class Shell:
             state = copied(self.table.state)
             with noticed_interrupts() as is_interrupted:
                 try:
-                    replies = self.table.replies(script)
+                    replies, places = self.table._replies_with_places(script)
                 except OutOfMemory as found:
-                    replies, fault = found.replies, found
+                    replies, places, fault = found.replies, None, found
         except FAULTS as found:
             self.fail(found)
             return False
         seconds = time.perf_counter() - begin
         if is_interrupted():
             print(f"interrupted: {'the command was' if len(some) == 1 else f'{len(some):,} commands were'} carried out, and no reply is shown")
-        for command, reply in answered(some, replies):
-            if reply.startswith(b"refused "):
+        for command, reply, is_refused in answered(some, replies, places):
+            if is_refused:
                 self.show_refusal(command, reply, state)
             elif not is_interrupted():
                 self.show(command, reply, state, f" ({seconds:.3f} s)" if self.has_times else "")

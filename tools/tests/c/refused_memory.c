@@ -8,50 +8,11 @@
  * that one. Then the session is closed, and all its memory is freed. Prints the number of refused allocations, and how the runs ended. */
 #include "betable.h"
 #include "files.h"
+#include "refusals.h"
 
 #include <stdio.h>
 #include <stdlib.h>
 #include <string.h>
-
-void *__real_malloc(size_t size);
-void *__real_realloc(void *block, size_t size);
-void __real_free(void *block);
-
-/* The number of allocations that are granted first; if it is negative, none is refused. Whether those after the refused one are granted. */
-static long granted = -1;
-static int is_one = 0;
-static long blocks = 0;
-
-static int is_refused(void) {
-    if (granted < 0) {
-        return 0;
-    }
-    if (granted > 0) {
-        granted--;
-        return 0;
-    }
-    if (is_one) {
-        granted = -1;
-    }
-    return 1;
-}
-
-void *__wrap_malloc(size_t size) {
-    void *block = is_refused() ? NULL : __real_malloc(size);
-    blocks += block != NULL;
-    return block;
-}
-
-void *__wrap_realloc(void *block, size_t size) {
-    void *larger = is_refused() ? NULL : __real_realloc(block, size);
-    blocks += block == NULL && larger != NULL;
-    return larger;
-}
-
-void __wrap_free(void *block) {
-    blocks -= block != NULL;
-    __real_free(block);
-}
 
 /* The state of a table, and the length of the replies up to there. */
 typedef struct {
@@ -152,15 +113,14 @@ static int check(betable_session *session, betable_status status, size_t length,
 static int one(long request) {
     long before = blocks;
     betable_session session = BETABLE_CLOSED;
-    granted = request;
+    refuse(request);
     betable_status status = betable_open(&session);
     if (status == BETABLE_OUT_OF_MEMORY) {
-        granted = -1;
+        end_refusals();
         return betable_close(&session) == BETABLE_NOT_OPEN && blocks == before ? 0 : fail("open after a session that is not closed", request);
     }
     status = betable_run(&session, script.at, script.length);
-    int is_reached = granted == 0 || (is_one && granted < 0);
-    granted = -1;
+    int is_reached = end_refusals();
     size_t length = betable_copy_replies(&session, 0, found, sizeof found);
     if (length > wanted.length || memcmp(found, wanted.at, length) != 0 || length != betable_replies_length(&session)) {
         return fail("other replies", request);

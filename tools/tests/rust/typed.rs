@@ -1,10 +1,10 @@
 //! Typed calls beside scripts that do the same, and wrong typed calls.
 //!
-//!     typed changes | reads | pages | wrong | allocations
+//!     typed changes | reads | pages | sums | usage | wrong | allocations
 //!
 //! The status is not 0 if what the word names does not hold, and a line says where.
 
-use betable::{Fault, FromValue, Kind, Op, Packer, Refusal, Reply, Row, Session, Value, Values, quoted};
+use betable::{Fault, FromValue, Group, Kind, Op, Packer, Refusal, Reply, Row, Session, Sum, Usage, Value, Values, quoted};
 use std::alloc::{GlobalAlloc, Layout, System};
 use std::sync::atomic::{AtomicUsize, Ordering};
 
@@ -236,26 +236,39 @@ fn check_gets(by_script: &mut Session, typed: &mut Session) -> Result<(), Fault>
     Ok(())
 }
 
-/// Each pair of bounds, of no value, of a part of the key and of the whole key, with each of these numbers of rows of a page.
-fn check_scans(by_script: &mut Session, typed: &mut Session, mosts: &[u32]) -> Result<(), Fault> {
+/// The record of a bound, and its values.
+type Bound = (String, Vec<Value<'static>>);
+
+/// Bounds of no value, of a part of the key and of the whole key, for each tree.
+fn bounds_of_trees() -> [(&'static str, [Bound; 4]); 2] {
     let hash = hexadecimal(HASHES[2]);
-    let bounds_of_rows: [(String, Vec<Value>); 4] = [
+    let bounds_of_rows = [
         (String::new(), vec![]),
         ("-4".to_string(), vec![Value::Int(-4)]),
         ("0,\"Oslo\"".to_string(), vec![Value::Int(0), Value::Text("Oslo")]),
         ("3,\"\"".to_string(), vec![Value::Int(3), Value::Text("")]),
     ];
-    let bounds_of_cities: [(String, Vec<Value>); 4] = [
+    let bounds_of_cities = [
         (String::new(), vec![]),
         ("\" x \"".to_string(), vec![Value::Text(" x ")]),
         (format!("Oslo,{hash}"), vec![Value::Text("Oslo"), Value::Bytes(HASHES[2])]),
         (format!("Oslo,{hash},2,Oslo"), vec![Value::Text("Oslo"), Value::Bytes(HASHES[2]), Value::Int(2), Value::Text("Oslo")]),
     ];
-    let line = |word: &str, record: &String| if record.is_empty() { String::new() } else { format!("{word} {record}\n") };
-    for (tree, bounds) in [("primary", bounds_of_rows), ("by_city", bounds_of_cities)] {
+    [("primary", bounds_of_rows), ("by_city", bounds_of_cities)]
+}
+
+/// The lines of two bounds.
+fn lines_of_bounds(from: &str, to: &str) -> String {
+    let line = |word: &str, record: &str| if record.is_empty() { String::new() } else { format!("{word} {record}\n") };
+    format!("{}{}go\n", line("from", from), line("to", to))
+}
+
+/// Each pair of bounds, with each of these numbers of rows of a page.
+fn check_scans(by_script: &mut Session, typed: &mut Session, mosts: &[u32]) -> Result<(), Fault> {
+    for (tree, bounds) in bounds_of_trees() {
         for (from, lower) in &bounds {
             for (to, upper) in &bounds {
-                let script = format!("scan {tree}\n{}{}go\n", line("from", from), line("to", to));
+                let script = format!("scan {tree}\n{}", lines_of_bounds(from, to));
                 let expected = reply(by_script, &script)?;
                 for &most in mosts {
                     assert_eq!(Reply::Rows(scanned(typed, tree, lower, upper, most)?), expected, "{script}, {most} rows of a page");
@@ -263,6 +276,70 @@ fn check_scans(by_script: &mut Session, typed: &mut Session, mosts: &[u32]) -> R
             }
         }
     }
+    Ok(())
+}
+
+/// A group as a script has it in its reply.
+fn sum_of_reply(group: Group<'_>) -> Sum {
+    Sum { count: group.count, total: group.total.to_string(), group: group.values.values().map(field).collect() }
+}
+
+/// The use of a tree, as its image has it: the rows of the leaves, the messages of the inner nodes, and the height.
+fn usage_of_image(session: &mut Session, tree: &str) -> Result<Usage, Fault> {
+    let text = String::from_utf8_lossy(session.run(format!("image {tree}\n").as_bytes())?.as_bytes()).into_owned();
+    let mut usage = Usage { rows: 0, messages: 0, height: 0 };
+    for line in text.lines() {
+        let words: Vec<&str> = line.split_whitespace().collect();
+        match *words.as_slice() {
+            ["image", _, "height", height] => usage.height = height.parse().expect("a height"),
+            ["leaf", rows] => usage.rows += rows.parse::<u64>().expect("a number of rows"),
+            ["inner", _, messages] => usage.messages += messages.parse::<u64>().expect("a number of messages"),
+            _ => {}
+        }
+    }
+    Ok(usage)
+}
+
+fn check_usage() -> Result<(), Fault> {
+    for rounds in [0, 1, 3, 10, 40] {
+        let (_, mut typed) = sessions(rounds)?;
+        for tree in ["primary", "by_city"] {
+            let expected = usage_of_image(&mut typed, tree)?;
+            assert_eq!(typed.usage(tree)?, expected);
+            assert!(rounds < 40 || (expected.height > 2 && expected.messages > 0), "{expected:?}");
+        }
+        assert_eq!(typed.usage("none"), Err(refused(8, "NoSuchTree", None)));
+    }
+    Ok(())
+}
+
+/// Each pair of bounds, with each number of columns of a group. Totals exceed 64 bits, and are negative.
+fn check_sums() -> Result<(), Fault> {
+    let (mut by_script, mut typed) = sessions(40)?;
+    let mut largest = (0, 0);
+    for (tree, bounds) in bounds_of_trees() {
+        for (from, lower) in &bounds {
+            for (to, upper) in &bounds {
+                for (columns, column) in [(1, "qty"), (2, "qty"), (1, "id"), (2, "id"), (4, "qty")] {
+                    let script = format!("sums {tree} {columns} {column}\n{}", lines_of_bounds(from, to));
+                    let found = match typed.sums(tree, columns, column, lower, upper) {
+                        Ok(sums) => {
+                            assert_eq!((sums.len(), sums.clone().map(|group| group.count).sum::<u64>() > 0), (sums.clone().count(), sums.len() > 0));
+                            sums.clone().for_each(|group| largest = (largest.0.min(group.total), largest.1.max(group.total)));
+                            Reply::Sums(sums.map(sum_of_reply).collect())
+                        }
+                        Err(Fault::Refused { refusal, .. }) => Reply::Refused(refusal),
+                        Err(other) => panic!("{other}"),
+                    };
+                    assert_eq!(found, reply(&mut by_script, &script)?, "{script}");
+                }
+            }
+        }
+    }
+    assert!(largest.0 < i128::from(i64::MIN) && largest.1 > i128::from(i64::MAX), "{largest:?}");
+    let group = typed.sums("primary", 2, "qty", &(), &())?.next().expect("a group");
+    let (id, city): (i64, &str) = group.values.try_into()?;
+    assert_eq!((id, city), (group.values.get(0)?, group.values.get::<String>(1)?.as_str()));
     Ok(())
 }
 
@@ -350,6 +427,30 @@ fn wrong_changes() -> Vec<(Call, Fault)> {
     ]
 }
 
+/// Sums of the quantities of the rows.
+fn sum<F: Values>(session: &mut Session, columns: u32, column: &str, from: F) -> Result<(), Fault> {
+    session.sums("primary", columns, column, &from, &()).map(drop)
+}
+
+fn wrong_sums() -> Vec<(Call, Fault)> {
+    vec![
+        (|it| sum(it, 0, "qty", ()), refused(15, "NoSuchColumn", None)),
+        (|it| sum(it, 3, "qty", ()), refused(15, "NoSuchColumn", None)),
+        (|it| sum(it, u32::MAX, "qty", ()), refused(15, "NoSuchColumn", None)),
+        (|it| sum(it, 1, "none", ()), refused(15, "NoSuchColumn", None)),
+        (|it| sum(it, 1, LONG, ()), refused(15, "NoSuchColumn", None)),
+        (|it| sum(it, 1, "city", ()), refused(16, "NotInt", None)),
+        (|it| sum(it, 1, "qty", "1"), wrong_kind(1, 1, "id", Kind::Int, Kind::Text)),
+        (|it| it.sums("none", 1, "qty", &(), &()).map(drop), refused(8, "NoSuchTree", None)),
+        (|it| it.sums("building", 1, "qty", &(), &()).map(drop), refused(11, "Building", None)),
+        (|it| it.sums("primary", 1, "qty", &(), &(2, false)).map(drop), wrong_kind(2, 2, "city", Kind::Text, Kind::Flag)),
+        (
+            |it| it.sums("primary", 2, "qty", &(), &())?.next().expect("a group").values.get::<i64>(2).map(drop),
+            Fault::WrongLength { item: None, wanted: 2, found: 3 },
+        ),
+    ]
+}
+
 fn wrong_reads() -> Vec<(Call, Fault)> {
     vec![
         (|it| it.get(&(1, 2)).map(drop), wrong_kind(1, 2, "city", Kind::Text, Kind::Int)),
@@ -383,7 +484,8 @@ fn read<T: for<'r> FromValue<'r>>(session: &mut Session, place: usize) -> Result
 
 fn check_wrong_calls() -> Result<(), Fault> {
     let mut session = Session::new()?;
-    let no_table: [Call; 4] = [|it| it.put(&[1]), |it| it.changes()?.apply(), |it| it.get(&1).map(drop), |it| scan(it, "primary", (), ())];
+    let no_table: [Call; 5] =
+        [|it| it.put(&[1]), |it| it.changes()?.apply(), |it| it.get(&1).map(drop), |it| scan(it, "primary", (), ()), |it| sum(it, 1, "qty", ())];
     for call in no_table {
         assert_eq!(call(&mut session), Err(refused(3, "NoTable", None)));
     }
@@ -391,7 +493,7 @@ fn check_wrong_calls() -> Result<(), Fault> {
     session.put(&[(1, "Oslo", 3, true, b"\xff"), (2, &LONG[1..], 3, false, b"x")])?;
     session.run(b"index building on qty\n")?;
     let before = images(&mut session)?;
-    for (number, (call, fault)) in wrong_changes().into_iter().chain(wrong_reads()).enumerate() {
+    for (number, (call, fault)) in wrong_changes().into_iter().chain(wrong_reads()).chain(wrong_sums()).enumerate() {
         assert_eq!(call(&mut session), Err(fault), "call {number}");
         assert_eq!(images(&mut session)?, before, "call {number}");
     }
@@ -448,6 +550,14 @@ fn allocations(session: &mut Session, count: u32) -> Result<(usize, usize), Faul
     Ok((of_puts, ALLOCATIONS.load(Ordering::Relaxed) - before))
 }
 
+/// The allocations of the crate while it sums this many groups. The first call makes room for them.
+fn allocations_of_sums(session: &mut Session, count: usize) -> Result<usize, Fault> {
+    let before = ALLOCATIONS.load(Ordering::Relaxed);
+    let total: i128 = session.sums("primary", 2, "qty", &(), &())?.map(|group| group.total).sum();
+    assert_eq!(total, (0..count as i128).sum());
+    Ok(ALLOCATIONS.load(Ordering::Relaxed) - before)
+}
+
 /// A buffer grows, and is then used again.
 fn check_allocations() -> Result<(), Fault> {
     let mut session = Session::new()?;
@@ -456,6 +566,9 @@ fn check_allocations() -> Result<(), Fault> {
     assert!(of_puts < 40, "{of_puts} allocations");
     assert_eq!(of_reads, 0);
     assert_eq!(allocations(&mut session, 5000)?, (0, 0));
+    let of_first_sums = allocations_of_sums(&mut session, 5000)?;
+    assert!(of_first_sums < 40, "{of_first_sums} allocations");
+    assert_eq!(allocations_of_sums(&mut session, 5000)?, 0);
     Ok(())
 }
 
@@ -464,12 +577,14 @@ fn main() -> Result<(), Fault> {
         Some("changes") => check_changes(),
         Some("reads") => check_reads(),
         Some("pages") => check_pages(),
+        Some("sums") => check_sums(),
+        Some("usage") => check_usage(),
         Some("wrong") => {
             check_texts_of_faults();
             check_columns()?;
             check_wrong_calls()
         }
         Some("allocations") => check_allocations(),
-        _ => panic!("changes, reads, pages, wrong or allocations"),
+        _ => panic!("changes, reads, pages, sums, usage, wrong or allocations"),
     }
 }

@@ -1,0 +1,1222 @@
+/* The calls of a session on packed bytes, from values of Python and back, with no code of Python in between. `session.py` uses this module if it is built, and
+ * does the same by ctypes if it is not.
+ *
+ * Only plain arguments are taken here: values of exactly the types of their columns, in tuples and lists. For all others, and for what the library refuses,
+ * a method calls the one of the same name of the class `plain`, which takes them or says why not. So there is one place where errors are made.
+ *
+ * The module is not linked with the library. ctypes has loaded it, and `_connect` gets the addresses of its calls, so the process has one copy of the library:
+ * the one that opened the session.
+ *
+ * Code of Python may run during a call: the collector of garbage runs `__del__` when an object is made, and that may call the session again. So the bytes of a
+ * call are its own (from `taken` to `kept`), `is_ready` is asked directly before the library is called, and a reply is read directly after. Values are borrowed
+ * from their rows only while no object is made and nothing of Python is called.
+ *
+ * One call at a time uses a session, of any thread. `is_in_call` is written while the interpreter lock is held. It is set while other threads run during a call
+ * of the library, and from `_take` to `_give`, between which the plain class calls it. A call that finds it set goes to the plain class, which raises the fault.
+ */
+#define Py_LIMITED_API 0x030B0000
+#define PY_SSIZE_T_CLEAN
+#include <Python.h>
+
+#include <stdint.h>
+#include <string.h>
+
+#include "betable.h"
+
+enum { INT, TEXT, FLAG, BYTES = 4 };
+enum { PUT, DEL, UPS };
+enum { SET };
+enum { NO_BOUND, PREFIX };
+/* The most columns that the rows of a tree have, and messages of a batch. */
+enum { MOST_COLUMNS = 32, MOST_MESSAGES = 65536 };
+enum { MAGIC_LENGTH = 4, HEADER_LENGTH = 8, MOST_VALUE_LENGTH = 256 };
+#define MOST_ROWS 0xFFFFFFFFu
+/* Shapes of upserts that are kept at a time. */
+#define MOST_SHAPES 1000
+/* Other threads run during a call of the library with this many bytes of changes, or with pages of this many rows, and during sums. */
+#define MUCH_CHANGED 8192
+#define MUCH_READ 512
+/* The calls of the library that `_connect` takes. */
+#define CALL_COUNT 8
+/* Room that is kept from call to call. */
+#define FIRST_ROOM 4096
+#define MOST_ROOM (1u << 20)
+
+typedef bool reply_call(betable_session *, size_t, betable_reply_place *);
+typedef betable_status packed_call(betable_session *, const unsigned char *, size_t, betable_fault *);
+typedef size_t length_call(betable_session *);
+typedef size_t copy_call(betable_session *, size_t, unsigned char *, size_t);
+
+/* The outcome of a step: an exception is set, the values are for the plain class, or it is done. */
+typedef enum { RAISED = -1, OTHER, DONE } outcome;
+
+typedef struct {
+    unsigned char *at;
+    size_t length, capacity;
+} bytes_in_room;
+
+typedef struct {
+    PyObject_HEAD
+    PyObject *owner; /* of the session's memory */
+    betable_session *session;
+    packed_call *apply, *get, *page, *sums;
+    length_call *length, *reply_count;
+    copy_call *copy;
+    reply_call *reply;
+    int is_in_call;
+    PyObject *trees, *primary; /* the descriptions by their names, and that of the rows, or NULL */
+    PyObject *shapes;          /* of upserts: the code and the column of each operation, as bytes */
+    bytes_in_room room;
+} caller;
+
+/* The rows of a tree. `trees` has them as bytes: the number of key columns, that of columns, the kinds, and the name as a text. */
+typedef struct {
+    Py_ssize_t keys, columns;
+    const unsigned char *kinds, *name;
+    size_t name_length; /* with its byte of length */
+} tree;
+
+static PyObject *plain, *message_type;
+static PyObject *word_name, *shape_name, *values_name, *put_word, *del_word, *ups_word, *plan_name, *out_of_memory_name;
+static PyObject *names_of_scan[4], *names_of_sums[5];
+
+/* ---- room ---- */
+
+static int has_room(bytes_in_room *bytes, size_t more)
+{
+    if (more <= bytes->capacity - bytes->length)
+        return 1;
+    if (more > SIZE_MAX / 4 - bytes->length) {
+        PyErr_NoMemory();
+        return 0;
+    }
+    size_t capacity = 2 * (bytes->length + more);
+    unsigned char *found = PyMem_Realloc(bytes->at, capacity);
+    if (found == NULL) {
+        PyErr_NoMemory();
+        return 0;
+    }
+    bytes->at = found;
+    bytes->capacity = capacity;
+    return 1;
+}
+
+/* The room of a caller, which has none until it is given back. */
+static int taken(caller *self, bytes_in_room *bytes)
+{
+    *bytes = self->room;
+    bytes->length = 0;
+    self->room = (bytes_in_room){NULL, 0, 0};
+    return has_room(bytes, bytes->capacity ? 0 : FIRST_ROOM);
+}
+
+static void kept(caller *self, bytes_in_room *bytes)
+{
+    if (self->room.at != NULL || bytes->capacity > MOST_ROOM)
+        PyMem_Free(bytes->at);
+    else
+        self->room = *bytes;
+}
+
+/* The next ones are called with enough room. */
+
+static void add_byte(bytes_in_room *bytes, unsigned number)
+{
+    bytes->at[bytes->length++] = (unsigned char)number;
+}
+
+static void add_number(bytes_in_room *bytes, uint64_t number, int count)
+{
+    for (int place = 0; place < count; place++)
+        bytes->at[bytes->length + (size_t)place] = (unsigned char)(number >> 8 * place);
+    bytes->length += (size_t)count;
+}
+
+static void add_bytes(bytes_in_room *bytes, const void *given, size_t length)
+{
+    memcpy(bytes->at + bytes->length, given, length);
+    bytes->length += length;
+}
+
+static void begin(bytes_in_room *bytes, uint64_t number)
+{
+    bytes->length = 0;
+    add_bytes(bytes, "BTV\1", MAGIC_LENGTH);
+    add_number(bytes, number, HEADER_LENGTH - MAGIC_LENGTH);
+}
+
+/* ---- values to bytes ---- */
+
+/* Most texts are too short for memchr to be quicker. */
+static int has_line_break(const char *text, size_t length)
+{
+    int found = 0;
+    for (size_t place = 0; place < length; place++)
+        found |= (text[place] == '\n') | (text[place] == '\r');
+    return found;
+}
+
+/* Adds a value, for which there is room. Runs no code of Python, except if it is OTHER. */
+static outcome add_value(bytes_in_room *bytes, PyObject *value, unsigned kind)
+{
+    const char *text;
+    char *binary;
+    Py_ssize_t length;
+    int overflow;
+    switch (kind) {
+    case INT:
+        if (!PyLong_CheckExact(value))
+            return OTHER;
+        long long number = PyLong_AsLongLongAndOverflow(value, &overflow);
+        if (overflow != 0)
+            return OTHER;
+        add_number(bytes, (uint64_t)number, 8);
+        return DONE;
+    case TEXT:
+        if (!PyUnicode_CheckExact(value))
+            return OTHER;
+        text = PyUnicode_AsUTF8AndSize(value, &length);
+        if (text == NULL) {
+            /* Half of a surrogate pair, or no memory. */
+            PyErr_Clear();
+            return OTHER;
+        }
+        /* As in a script, a text has no line break. */
+        if (length >= MOST_VALUE_LENGTH || has_line_break(text, (size_t)length))
+            return OTHER;
+        break;
+    case FLAG:
+        if (value != Py_True && value != Py_False)
+            return OTHER;
+        add_byte(bytes, value == Py_True);
+        return DONE;
+    default:
+        if (!PyBytes_CheckExact(value) || PyBytes_AsStringAndSize(value, &binary, &length) < 0 || length >= MOST_VALUE_LENGTH)
+            return OTHER;
+        text = binary;
+    }
+    add_byte(bytes, (unsigned)length);
+    add_bytes(bytes, text, (size_t)length);
+    return DONE;
+}
+
+static int is_sequence(PyObject *given)
+{
+    return PyTuple_CheckExact(given) || PyList_CheckExact(given);
+}
+
+static Py_ssize_t length_of(PyObject *given)
+{
+    return PyTuple_CheckExact(given) ? PyTuple_Size(given) : PyList_Size(given);
+}
+
+/* An item of a sequence, which is borrowed. Its place was compared with the length after code of Python ran last. */
+static PyObject *item_of(PyObject *given, Py_ssize_t place)
+{
+    return PyTuple_CheckExact(given) ? PyTuple_GetItem(given, place) : PyList_GetItem(given, place);
+}
+
+/* The values of a sequence from a place on, as many as it has there, each of its kind. */
+static outcome add_values(bytes_in_room *bytes, PyObject *given, Py_ssize_t from, Py_ssize_t count, const unsigned char *kinds)
+{
+    if (!has_room(bytes, (size_t)count * MOST_VALUE_LENGTH))
+        return RAISED;
+    for (Py_ssize_t place = 0; place < count; place++) {
+        if (add_value(bytes, item_of(given, from + place), kinds[place]) != DONE)
+            return OTHER;
+    }
+    return DONE;
+}
+
+static outcome add_rows(bytes_in_room *bytes, PyObject *rows, const tree *there)
+{
+    Py_ssize_t count = length_of(rows);
+    begin(bytes, (uint64_t)count);
+    for (Py_ssize_t place = 0; place < count; place++) {
+        PyObject *row = item_of(rows, place);
+        if (!is_sequence(row) || length_of(row) != there->columns)
+            return OTHER;
+        if (!has_room(bytes, 1))
+            return RAISED;
+        add_byte(bytes, PUT);
+        outcome found = add_values(bytes, row, 0, there->columns, there->kinds);
+        if (found != DONE)
+            return found;
+    }
+    return DONE;
+}
+
+/* ---- messages ---- */
+
+/* The operations of the upserts of a shape, as bytes, a new reference: `_plan` says what they are, or None if they cannot be packed. */
+static PyObject *plan_of(caller *self, PyObject *shape)
+{
+    PyObject *found = PyDict_GetItemWithError(self->shapes, shape);
+    if (found != NULL) {
+        Py_INCREF(found);
+        return found;
+    }
+    if (PyErr_Occurred())
+        return NULL;
+    found = PyObject_CallMethodObjArgs((PyObject *)self, plan_name, shape, NULL);
+    if (found == NULL)
+        return NULL;
+    if (PyDict_Size(self->shapes) >= MOST_SHAPES)
+        PyDict_Clear(self->shapes);
+    if (PyDict_SetItem(self->shapes, shape, found) < 0) {
+        Py_DECREF(found);
+        return NULL;
+    }
+    return found;
+}
+
+static outcome add_upsert(bytes_in_room *bytes, PyObject *values, PyObject *plan, const tree *there)
+{
+    char *given;
+    Py_ssize_t length;
+    if (!PyBytes_CheckExact(plan) || PyBytes_AsStringAndSize(plan, &given, &length) < 0 || length_of(values) != there->keys + length / 2)
+        return OTHER;
+    const unsigned char *operations = (const unsigned char *)given;
+    outcome found = add_values(bytes, values, 0, there->keys, there->kinds);
+    if (found != DONE)
+        return found;
+    if (!has_room(bytes, 1))
+        return RAISED;
+    add_byte(bytes, (unsigned)(length / 2));
+    for (Py_ssize_t place = 0; place < length; place += 2) {
+        if (operations[place + 1] >= there->columns)
+            return OTHER;
+        if (!has_room(bytes, 2))
+            return RAISED;
+        add_bytes(bytes, operations + place, 2);
+        const unsigned char kind = operations[place] == SET ? there->kinds[operations[place + 1]] : INT;
+        found = add_values(bytes, values, there->keys + place / 2, 1, &kind);
+        if (found != DONE)
+            return found;
+    }
+    return DONE;
+}
+
+static outcome add_message(caller *self, bytes_in_room *bytes, PyObject *message, const tree *there)
+{
+    if ((PyObject *)Py_TYPE(message) != message_type)
+        return OTHER;
+    outcome found = RAISED;
+    PyObject *shape = NULL, *plan = NULL;
+    PyObject *word = PyObject_GetAttr(message, word_name), *values = PyObject_GetAttr(message, values_name);
+    if (word == NULL || values == NULL || !has_room(bytes, 1))
+        goto end;
+    found = OTHER;
+    if (!PyTuple_CheckExact(values))
+        goto end;
+    if (word == put_word || word == del_word) {
+        Py_ssize_t count = word == put_word ? there->columns : there->keys;
+        add_byte(bytes, word == put_word ? PUT : DEL);
+        if (length_of(values) == count)
+            found = add_values(bytes, values, 0, count, there->kinds);
+    } else if (word == ups_word) {
+        add_byte(bytes, UPS);
+        shape = PyObject_GetAttr(message, shape_name);
+        plan = shape == NULL ? NULL : plan_of(self, shape);
+        found = plan == NULL ? RAISED : add_upsert(bytes, values, plan, there);
+    }
+end:
+    Py_XDECREF(word);
+    Py_XDECREF(values);
+    Py_XDECREF(shape);
+    Py_XDECREF(plan);
+    return found;
+}
+
+static outcome add_messages(caller *self, bytes_in_room *bytes, PyObject *messages, const tree *there)
+{
+    Py_ssize_t count = length_of(messages);
+    begin(bytes, (uint64_t)count);
+    for (Py_ssize_t place = 0; place < count; place++) {
+        /* A shape that is new is learned by code of Python, which may change the list. */
+        if (place >= length_of(messages))
+            return OTHER;
+        PyObject *message = Py_NewRef(item_of(messages, place));
+        outcome found = add_message(self, bytes, message, there);
+        Py_DECREF(message);
+        if (found != DONE)
+            return found;
+    }
+    return DONE;
+}
+
+/* ---- columns ---- */
+
+/* The values of one column: those of a buffer of ints of eight bytes, or those of a sequence. */
+typedef struct {
+    Py_buffer view;
+    int has_view;
+    PyObject *values;
+} column;
+
+static int is_int64(const Py_buffer *view)
+{
+    const char *format = view->format == NULL ? "B" : view->format;
+    const uint16_t one = 1;
+    const char own_order = *(const unsigned char *)&one == 1 ? '<' : '>';
+    if (*format == '@' || *format == '=' || *format == own_order)
+        format++;
+    return view->ndim == 1 && view->itemsize == 8 && (strcmp(format, "q") == 0 || strcmp(format, "l") == 0);
+}
+
+/* Opens a column, with a reference to it, if it is DONE. May run code of Python. */
+static outcome open_column(column *found, PyObject *values, unsigned kind)
+{
+    found->has_view = 0;
+    found->values = Py_NewRef(values);
+    if (is_sequence(values))
+        return DONE;
+    if (kind == INT && PyObject_CheckBuffer(values)) {
+        if (PyObject_GetBuffer(values, &found->view, PyBUF_STRIDES | PyBUF_FORMAT) == 0) {
+            if (is_int64(&found->view)) {
+                found->has_view = 1;
+                return DONE;
+            }
+            PyBuffer_Release(&found->view);
+        }
+        PyErr_Clear();
+    }
+    Py_DECREF(values);
+    return OTHER;
+}
+
+static Py_ssize_t column_length(const column *one)
+{
+    return one->has_view ? one->view.shape[0] : length_of(one->values);
+}
+
+static outcome add_columns(bytes_in_room *bytes, column *columns, const tree *there)
+{
+    const Py_ssize_t count = column_length(&columns[0]);
+    for (Py_ssize_t place = 0; place < there->columns; place++) {
+        if (column_length(&columns[place]) != count || count < 1 || count > MOST_MESSAGES)
+            return OTHER;
+    }
+    begin(bytes, (uint64_t)count);
+    for (Py_ssize_t row = 0; row < count; row++) {
+        if (!has_room(bytes, 1 + (size_t)there->columns * MOST_VALUE_LENGTH))
+            return RAISED;
+        add_byte(bytes, PUT);
+        for (Py_ssize_t place = 0; place < there->columns; place++) {
+            column *one = &columns[place];
+            if (one->has_view) {
+                int64_t number;
+                memcpy(&number, (const char *)one->view.buf + row * one->view.strides[0], sizeof number);
+                add_number(bytes, (uint64_t)number, 8);
+                continue;
+            }
+            if (add_value(bytes, item_of(one->values, row), there->kinds[place]) != DONE)
+                return OTHER;
+        }
+    }
+    return DONE;
+}
+
+/* ---- bytes to values ---- */
+
+typedef struct {
+    const unsigned char *at, *end;
+} reader;
+
+static PyObject *not_of_layout(void)
+{
+    PyErr_SetString(PyExc_RuntimeError, "betable: a reply of the library is not of the layout of its tree");
+    return NULL;
+}
+
+static uint64_t number_at(const unsigned char *at)
+{
+    uint64_t number = 0;
+    for (int place = 7; place >= 0; place--)
+        number = number << 8 | at[place];
+    return number;
+}
+
+/* The place of the next bytes, or NULL if fewer are left. */
+static const unsigned char *next_bytes(reader *reply, size_t count)
+{
+    if (count > (size_t)(reply->end - reply->at))
+        return NULL;
+    const unsigned char *found = reply->at;
+    reply->at += count;
+    return found;
+}
+
+static const unsigned char *next_text(reader *reply, size_t *length)
+{
+    const unsigned char *head = next_bytes(reply, 1);
+    if (head == NULL)
+        return NULL;
+    *length = *head;
+    return next_bytes(reply, *length);
+}
+
+static PyObject *next_value(reader *reply, unsigned kind)
+{
+    const unsigned char *found;
+    size_t length = 0;
+    switch (kind) {
+    case INT:
+        found = next_bytes(reply, 8);
+        return found == NULL ? not_of_layout() : PyLong_FromLongLong((long long)number_at(found));
+    case TEXT:
+        found = next_text(reply, &length);
+        return found == NULL ? not_of_layout() : PyUnicode_DecodeUTF8((const char *)found, (Py_ssize_t)length, NULL);
+    case FLAG:
+        found = next_bytes(reply, 1);
+        return found == NULL ? not_of_layout() : PyBool_FromLong(*found);
+    default:
+        found = next_text(reply, &length);
+        return found == NULL ? not_of_layout() : PyBytes_FromStringAndSize((const char *)found, (Py_ssize_t)length);
+    }
+}
+
+/* The next values, in a new tuple after places for others. */
+static PyObject *next_tuple(reader *reply, Py_ssize_t before, Py_ssize_t count, const unsigned char *kinds)
+{
+    PyObject *row = PyTuple_New(before + count);
+    if (row == NULL)
+        return NULL;
+    for (Py_ssize_t place = 0; place < count; place++) {
+        PyObject *value = next_value(reply, kinds[place]);
+        if (value == NULL || PyTuple_SetItem(row, before + place, value) < 0) {
+            Py_DECREF(row);
+            return NULL;
+        }
+    }
+    /* It can be in no cycle, so the collector of garbage does not look at it. It would find that out itself, later. */
+    PyObject_GC_UnTrack(row);
+    return row;
+}
+
+/* A number of sixteen bytes, in two's complement. */
+static PyObject *wide_number(const unsigned char *at)
+{
+    const uint64_t low = number_at(at);
+    const int64_t high = (int64_t)number_at(at + 8);
+    if (high == (low >> 63 ? -1 : 0))
+        return PyLong_FromLongLong((long long)low);
+    PyObject *found = NULL, *upper = PyLong_FromLongLong(high), *lower = PyLong_FromUnsignedLongLong(low), *places = PyLong_FromLong(64);
+    PyObject *shifted = upper != NULL && lower != NULL && places != NULL ? PyNumber_Lshift(upper, places) : NULL;
+    if (shifted != NULL)
+        found = PyNumber_Or(shifted, lower);
+    Py_XDECREF(upper);
+    Py_XDECREF(lower);
+    Py_XDECREF(places);
+    Py_XDECREF(shifted);
+    return found;
+}
+
+static PyObject *next_group(reader *reply, Py_ssize_t count, const unsigned char *kinds)
+{
+    PyObject *group = next_tuple(reply, 2, count, kinds);
+    const unsigned char *numbers = group == NULL ? NULL : next_bytes(reply, 24);
+    if (numbers == NULL) {
+        Py_XDECREF(group);
+        return group == NULL ? NULL : not_of_layout();
+    }
+    /* A place takes the reference to its value, also if that is not done. */
+    PyObject *rows = PyLong_FromUnsignedLongLong(number_at(numbers));
+    int is_set = rows != NULL && PyTuple_SetItem(group, 0, rows) == 0;
+    PyObject *sum = is_set ? wide_number(numbers + 8) : NULL;
+    is_set = sum != NULL && PyTuple_SetItem(group, 1, sum) == 0;
+    if (!is_set)
+        Py_CLEAR(group);
+    return group;
+}
+
+/* All rows of a reply, or all groups, in a list. */
+static PyObject *listed(reader reply, Py_ssize_t count, const unsigned char *kinds, int are_groups)
+{
+    PyObject *found = PyList_New(0);
+    while (found != NULL && reply.at < reply.end) {
+        PyObject *one = are_groups ? next_group(&reply, count, kinds) : next_tuple(&reply, 0, count, kinds);
+        if (one == NULL || PyList_Append(found, one) < 0)
+            Py_CLEAR(found);
+        Py_XDECREF(one);
+    }
+    return found;
+}
+
+/* The number of rows of a reply, or -1 if it is not of the layout. */
+static Py_ssize_t counted(reader reply, const tree *there)
+{
+    Py_ssize_t count = 0;
+    for (; reply.at < reply.end; count++) {
+        for (Py_ssize_t place = 0; place < there->columns; place++) {
+            size_t length = 0;
+            const unsigned kind = there->kinds[place];
+            const unsigned char *found = kind == INT ? next_bytes(&reply, 8) : kind == FLAG ? next_bytes(&reply, 1) : next_text(&reply, &length);
+            if (found == NULL)
+                return -1;
+        }
+    }
+    return count;
+}
+
+/* Reads the values of a row into the columns at its place. Whether it could. A reply has as many bytes as `counted` found. */
+static int is_row_read(reader *reply, const tree *there, PyObject *const *columns, Py_ssize_t row)
+{
+    for (Py_ssize_t place = 0; place < there->columns; place++) {
+        if (there->kinds[place] == INT) {
+            const uint64_t number = number_at(next_bytes(reply, 8));
+            memcpy(PyBytes_AsString(columns[place]) + 8 * row, &number, sizeof number);
+        } else {
+            PyObject *value = next_value(reply, there->kinds[place]);
+            if (value == NULL || PyList_SetItem(columns[place], row, value) < 0)
+                return 0;
+        }
+    }
+    return 1;
+}
+
+/* The columns of all rows of a reply: of ints their bytes, in the order of this machine, and a list of other values. */
+static PyObject *as_columns(reader reply, const tree *there)
+{
+    PyObject *columns[MOST_COLUMNS], *found = NULL;
+    Py_ssize_t made = 0;
+    const Py_ssize_t count = counted(reply, there);
+    int is_done = count >= 0;
+    if (!is_done)
+        not_of_layout();
+    for (; is_done && made < there->columns; made += is_done) {
+        /* A reply has eight bytes for each int, so as many are less than there can be. */
+        columns[made] = there->kinds[made] == INT ? PyBytes_FromStringAndSize(NULL, count * 8) : PyList_New(count);
+        is_done = columns[made] != NULL;
+    }
+    for (Py_ssize_t row = 0; is_done && row < count; row++)
+        is_done = is_row_read(&reply, there, columns, row);
+    if (is_done)
+        found = PyList_New(0);
+    for (Py_ssize_t place = 0; place < made; place++) {
+        if (found != NULL && PyList_Append(found, columns[place]) < 0)
+            Py_CLEAR(found);
+        Py_DECREF(columns[place]);
+    }
+    return found;
+}
+
+/* ---- calls of the library ---- */
+
+static int is_ready(const caller *self)
+{
+    return !self->is_in_call && self->session != NULL && self->session->is_open;
+}
+
+/* Calls the library. A call that is refused is for the plain class, which says why. */
+static outcome called(caller *self, packed_call *call, const bytes_in_room *bytes, int lets_others_run)
+{
+    if (!is_ready(self))
+        return OTHER;
+    betable_fault fault;
+    betable_status status;
+    if (lets_others_run) {
+        self->is_in_call = 1;
+        Py_BEGIN_ALLOW_THREADS
+        status = call(self->session, bytes->at, bytes->length, &fault);
+        Py_END_ALLOW_THREADS
+        self->is_in_call = 0;
+    } else {
+        status = call(self->session, bytes->at, bytes->length, &fault);
+    }
+    if (status == BETABLE_OUT_OF_MEMORY) {
+        Py_XDECREF(PyObject_CallMethodObjArgs((PyObject *)self, out_of_memory_name, NULL));
+        return PyErr_Occurred() ? RAISED : OTHER;
+    }
+    return status == BETABLE_DONE ? DONE : OTHER;
+}
+
+/* Reads the reply of the last call into the same room, and sets where its rows are. */
+static outcome read_reply(caller *self, bytes_in_room *bytes, reader *reply)
+{
+    bytes->length = self->copy(self->session, 0, bytes->at, bytes->capacity);
+    if (bytes->length == bytes->capacity) {
+        const size_t length = self->length(self->session);
+        bytes->length = 0;
+        if (!has_room(bytes, length))
+            return RAISED;
+        bytes->length = self->copy(self->session, 0, bytes->at, length);
+    }
+    if (bytes->length < MAGIC_LENGTH || memcmp(bytes->at, "BTV\1", MAGIC_LENGTH) != 0) {
+        not_of_layout();
+        return RAISED;
+    }
+    *reply = (reader){bytes->at + MAGIC_LENGTH, bytes->at + bytes->length};
+    return DONE;
+}
+
+/* The method of the plain class with the same arguments. */
+static PyObject *by_python(PyObject *self, const char *name, PyObject *const *args, Py_ssize_t count, PyObject *names)
+{
+    if (plain == NULL) {
+        PyErr_SetString(PyExc_RuntimeError, "betable._packed is used by betable.session, which prepares it");
+        return NULL;
+    }
+    PyObject *method = PyObject_GetAttrString(plain, name), *given = PyTuple_New(count + 1), *named = NULL, *found = NULL;
+    if (method == NULL || given == NULL)
+        goto end;
+    Py_INCREF(self);
+    if (PyTuple_SetItem(given, 0, self) < 0)
+        goto end;
+    for (Py_ssize_t place = 0; place < count; place++) {
+        Py_INCREF(args[place]);
+        if (PyTuple_SetItem(given, place + 1, args[place]) < 0)
+            goto end;
+    }
+    if (names != NULL) {
+        named = PyDict_New();
+        for (Py_ssize_t place = 0; named != NULL && place < PyTuple_Size(names); place++) {
+            if (PyDict_SetItem(named, PyTuple_GetItem(names, place), args[count + place]) < 0)
+                goto end;
+        }
+        if (named == NULL)
+            goto end;
+    }
+    found = PyObject_Call(method, given, named);
+end:
+    Py_XDECREF(method);
+    Py_XDECREF(given);
+    Py_XDECREF(named);
+    return found;
+}
+
+/* A tree of a description, to which the caller has a reference. */
+static int described(PyObject *description, tree *found)
+{
+    char *given;
+    Py_ssize_t length;
+    if (description == NULL || !PyBytes_CheckExact(description) || PyBytes_AsStringAndSize(description, &given, &length) < 0 || length < 3)
+        return 0;
+    const unsigned char *at = (const unsigned char *)given;
+    found->keys = at[0];
+    found->columns = at[1];
+    found->kinds = at + 2;
+    found->name = at + 2 + found->columns;
+    if (found->columns < 1 || found->columns > MOST_COLUMNS || found->keys > found->columns || length <= 2 + found->columns)
+        return 0;
+    found->name_length = 1u + *found->name;
+    return length == 2 + found->columns + (Py_ssize_t)found->name_length;
+}
+
+/* A new reference to the description of a tree with this name, or of the tree of rows, or NULL, also with an exception. */
+static PyObject *description_of(const caller *self, PyObject *name)
+{
+    PyObject *found = self->primary;
+    if (name != NULL)
+        found = self->trees != NULL && PyUnicode_CheckExact(name) ? PyDict_GetItemWithError(self->trees, name) : NULL;
+    Py_XINCREF(found);
+    return found;
+}
+
+/* ---- changes ---- */
+
+typedef outcome encoder(caller *, bytes_in_room *, void *, const tree *);
+
+static outcome of_rows(caller *self, bytes_in_room *bytes, void *given, const tree *there)
+{
+    (void)self;
+    return add_rows(bytes, given, there);
+}
+
+static outcome of_messages(caller *self, bytes_in_room *bytes, void *given, const tree *there)
+{
+    return add_messages(self, bytes, given, there);
+}
+
+static outcome of_columns(caller *self, bytes_in_room *bytes, void *given, const tree *there)
+{
+    (void)self;
+    column columns[MOST_COLUMNS];
+    Py_ssize_t opened = 0;
+    outcome found = DONE;
+    while (found == DONE && opened < there->columns) {
+        found = length_of(given) == there->columns ? open_column(&columns[opened], item_of(given, opened), there->kinds[opened]) : OTHER;
+        opened += found == DONE;
+    }
+    if (found == DONE)
+        found = add_columns(bytes, columns, there);
+    for (Py_ssize_t place = 0; place < opened; place++) {
+        if (columns[place].has_view)
+            PyBuffer_Release(&columns[place].view);
+        Py_DECREF(columns[place].values);
+    }
+    return found;
+}
+
+/* Applies changes that an encoder makes of what is given. */
+static outcome applied(caller *self, encoder *encode, void *given)
+{
+    tree there;
+    bytes_in_room bytes;
+    PyObject *description = is_ready(self) ? description_of(self, NULL) : NULL;
+    if (description == NULL)
+        return OTHER;
+    outcome found = OTHER;
+    if (described(description, &there)) {
+        found = taken(self, &bytes) ? encode(self, &bytes, given, &there) : RAISED;
+        if (found == DONE)
+            found = called(self, self->apply, &bytes, bytes.length >= MUCH_CHANGED);
+        kept(self, &bytes);
+    }
+    Py_DECREF(description);
+    return found;
+}
+
+/* The count of what was given to `put` or `batch`, if it is one batch that is applied here. */
+static PyObject *applied_count(PyObject *self, encoder *encode, const char *name, PyObject *const *args, Py_ssize_t count, PyObject *names)
+{
+    if (count == 1 && names == NULL && is_sequence(args[0])) {
+        const Py_ssize_t length = length_of(args[0]);
+        const outcome found = length >= 1 && length <= MOST_MESSAGES ? applied((caller *)self, encode, args[0]) : OTHER;
+        if (found != OTHER)
+            return found == DONE ? PyLong_FromSsize_t(length) : NULL;
+    }
+    return by_python(self, name, args, count, names);
+}
+
+static PyObject *call_put(PyObject *self, PyObject *const *args, Py_ssize_t count, PyObject *names)
+{
+    return applied_count(self, of_rows, "put", args, count, names);
+}
+
+static PyObject *call_batch(PyObject *self, PyObject *const *args, Py_ssize_t count, PyObject *names)
+{
+    return applied_count(self, of_messages, "batch", args, count, names);
+}
+
+/* Whether one batch, of what is in a list, was applied here. A session that is closed, or in a call, is a fault that the plain class raises. */
+static PyObject *is_list_applied(PyObject *self, encoder *encode, PyObject *given, const char *name)
+{
+    if (!PyList_CheckExact(given) || length_of(given) > MOST_MESSAGES || !is_ready((caller *)self))
+        return by_python(self, name, &given, 1, NULL);
+    const outcome found = applied((caller *)self, encode, given);
+    return found == RAISED ? NULL : PyBool_FromLong(found == DONE);
+}
+
+static PyObject *apply_rows(PyObject *self, PyObject *rows)
+{
+    return is_list_applied(self, of_rows, rows, "_apply_rows");
+}
+
+static PyObject *apply_messages(PyObject *self, PyObject *messages)
+{
+    return is_list_applied(self, of_messages, messages, "_apply_messages");
+}
+
+static PyObject *apply_columns(PyObject *self, PyObject *columns)
+{
+    return is_list_applied(self, of_columns, columns, "_apply_columns");
+}
+
+/* ---- gets, pages and sums ---- */
+
+static PyObject *call_get(PyObject *object, PyObject *const *args, Py_ssize_t count, PyObject *names)
+{
+    caller *self = (caller *)object;
+    tree there;
+    bytes_in_room bytes;
+    reader reply;
+    PyObject *row = NULL, *description = names == NULL && is_ready(self) ? description_of(self, NULL) : NULL;
+    outcome found = OTHER;
+    if (described(description, &there) && count == there.keys) {
+        found = taken(self, &bytes) && has_room(&bytes, HEADER_LENGTH + (size_t)count * MOST_VALUE_LENGTH) ? DONE : RAISED;
+        if (found == DONE)
+            begin(&bytes, 1);
+        for (Py_ssize_t place = 0; found == DONE && place < count; place++)
+            found = add_value(&bytes, args[place], there.kinds[place]);
+        if (found == DONE)
+            found = called(self, self->get, &bytes, 0);
+        if (found == DONE)
+            found = read_reply(self, &bytes, &reply);
+        if (found == DONE) {
+            row = reply.at == reply.end ? Py_NewRef(Py_None) : next_tuple(&reply, 0, there.columns, there.kinds);
+            found = row == NULL ? RAISED : DONE;
+        }
+        kept(self, &bytes);
+    }
+    Py_XDECREF(description);
+    return found == OTHER ? by_python(object, "get", args, count, names) : row;
+}
+
+static outcome add_bound(bytes_in_room *bytes, PyObject *values, const tree *there)
+{
+    if (!has_room(bytes, 2))
+        return RAISED;
+    if (values == NULL || values == Py_None) {
+        add_byte(bytes, NO_BOUND);
+        return DONE;
+    }
+    const Py_ssize_t count = is_sequence(values) ? length_of(values) : 0;
+    if (count < 1 || count > there->keys)
+        return OTHER;
+    add_byte(bytes, PREFIX);
+    add_byte(bytes, (unsigned)count);
+    return add_values(bytes, values, 0, count, there->kinds);
+}
+
+/* Begins a page or sums: the number of the header, and the name of the tree. */
+static outcome begin_range(bytes_in_room *bytes, const tree *there, uint64_t number)
+{
+    if (!has_room(bytes, HEADER_LENGTH + there->name_length))
+        return RAISED;
+    begin(bytes, number);
+    add_bytes(bytes, there->name, there->name_length);
+    return DONE;
+}
+
+/* The most rows of a page, by what is given as a limit. */
+static outcome limit_of(PyObject *given, uint32_t *found)
+{
+    *found = MOST_ROWS;
+    if (given == NULL || given == Py_None)
+        return DONE;
+    int overflow;
+    const long long number = PyLong_CheckExact(given) ? PyLong_AsLongLongAndOverflow(given, &overflow) : -1;
+    if (number < 0 || number > (long long)MOST_ROWS)
+        return OTHER;
+    *found = (uint32_t)number;
+    return DONE;
+}
+
+/* Puts the arguments of a call into their places. Whether they have the number and the names that they may have. The names of a call are interned. */
+static int are_placed(PyObject *const *args, Py_ssize_t count, PyObject *names, PyObject *const *known, Py_ssize_t most, PyObject **found)
+{
+    if (count > most)
+        return 0;
+    for (Py_ssize_t place = 0; place < most; place++)
+        found[place] = place < count ? args[place] : NULL;
+    for (Py_ssize_t number = 0; names != NULL && number < PyTuple_Size(names); number++) {
+        Py_ssize_t place = 0;
+        while (place < most && known[place] != PyTuple_GetItem(names, number))
+            place++;
+        if (place == most || found[place] != NULL)
+            return 0;
+        found[place] = args[count + number];
+    }
+    return 1;
+}
+
+/* The rows of a scan, or their columns. NULL with OTHER is for the plain class. */
+static PyObject *scanned(caller *self, PyObject *const *args, Py_ssize_t count, PyObject *names, int are_columns, outcome *found)
+{
+    PyObject *given[4], *rows = NULL, *description = NULL;
+    uint32_t limit;
+    tree there;
+    bytes_in_room bytes;
+    reader reply;
+    *found = OTHER;
+    if (!is_ready(self) || !are_placed(args, count, names, names_of_scan, 4, given) || limit_of(given[3], &limit) != DONE)
+        return NULL;
+    description = description_of(self, given[0]);
+    if (described(description, &there)) {
+        *found = taken(self, &bytes) ? begin_range(&bytes, &there, limit) : RAISED;
+        for (int place = 1; *found == DONE && place <= 2; place++)
+            *found = add_bound(&bytes, given[place], &there);
+        if (*found == DONE)
+            *found = called(self, self->page, &bytes, limit >= MUCH_READ);
+        if (*found == DONE)
+            *found = read_reply(self, &bytes, &reply);
+        if (*found == DONE) {
+            rows = are_columns ? as_columns(reply, &there) : listed(reply, there.columns, there.kinds, 0);
+            *found = rows == NULL ? RAISED : DONE;
+        }
+        kept(self, &bytes);
+    } else if (PyErr_Occurred()) {
+        *found = RAISED;
+    }
+    Py_XDECREF(description);
+    return rows;
+}
+
+static PyObject *call_scan(PyObject *self, PyObject *const *args, Py_ssize_t count, PyObject *names)
+{
+    outcome found;
+    PyObject *rows = scanned((caller *)self, args, count, names, 0, &found);
+    return found == OTHER ? by_python(self, "scan", args, count, names) : rows;
+}
+
+static PyObject *scan_as_columns(PyObject *self, PyObject *const *args, Py_ssize_t count)
+{
+    outcome found;
+    PyObject *columns = scanned((caller *)self, args, count, NULL, 1, &found);
+    return found == OTHER ? by_python(self, "_scan_as_columns", args, count, NULL) : columns;
+}
+
+/* The rows of a page whose bytes are given, or None if it is refused. */
+static PyObject *page_rows(PyObject *object, PyObject *const *args, Py_ssize_t count)
+{
+    caller *self = (caller *)object;
+    tree there;
+    reader reply;
+    char *page;
+    Py_ssize_t length;
+    PyObject *rows = NULL, *description = count == 2 && is_ready(self) ? description_of(self, args[0]) : NULL;
+    outcome found = OTHER;
+    if (described(description, &there) && PyBytes_CheckExact(args[1]) && PyBytes_AsStringAndSize(args[1], &page, &length) == 0) {
+        bytes_in_room bytes;
+        found = taken(self, &bytes) && has_room(&bytes, (size_t)length) ? DONE : RAISED;
+        if (found == DONE) {
+            add_bytes(&bytes, page, (size_t)length);
+            found = called(self, self->page, &bytes, 1);
+        }
+        if (found == DONE)
+            found = read_reply(self, &bytes, &reply);
+        if (found == DONE) {
+            rows = listed(reply, there.columns, there.kinds, 0);
+            found = rows == NULL ? RAISED : DONE;
+        }
+        kept(self, &bytes);
+    }
+    Py_XDECREF(description);
+    return found == OTHER && !PyErr_Occurred() ? by_python(object, "_page_rows", args, count, NULL) : rows;
+}
+
+static PyObject *call_sums(PyObject *object, PyObject *const *args, Py_ssize_t count, PyObject *names)
+{
+    caller *self = (caller *)object;
+    PyObject *given[5], *groups = NULL, *description = NULL;
+    tree there;
+    bytes_in_room bytes;
+    reader reply;
+    outcome found = OTHER;
+    int overflow;
+    if (is_ready(self) && are_placed(args, count, names, names_of_sums, 5, given) && given[0] != NULL)
+        description = description_of(self, given[0]);
+    const int are_there = described(description, &there) && given[1] != NULL && given[2] != NULL;
+    if (are_there && PyLong_CheckExact(given[1]) && PyUnicode_CheckExact(given[2])) {
+        const long long grouped = PyLong_AsLongLongAndOverflow(given[1], &overflow);
+        if (grouped >= 1 && grouped <= there.keys) {
+            found = taken(self, &bytes) ? begin_range(&bytes, &there, (uint64_t)grouped) : RAISED;
+            if (found == DONE)
+                found = has_room(&bytes, MOST_VALUE_LENGTH) ? add_value(&bytes, given[2], TEXT) : RAISED;
+            for (int place = 3; found == DONE && place <= 4; place++)
+                found = add_bound(&bytes, given[place], &there);
+            if (found == DONE)
+                found = called(self, self->sums, &bytes, 1);
+            if (found == DONE)
+                found = read_reply(self, &bytes, &reply);
+            if (found == DONE) {
+                groups = listed(reply, (Py_ssize_t)grouped, there.kinds, 1);
+                found = groups == NULL ? RAISED : DONE;
+            }
+            kept(self, &bytes);
+        }
+    } else if (PyErr_Occurred()) {
+        found = RAISED;
+    }
+    Py_XDECREF(description);
+    return found == OTHER ? by_python(object, "sums", args, count, names) : groups;
+}
+
+/* ---- scripts ---- */
+
+static PyObject *take(PyObject *object, PyObject *none)
+{
+    (void)none;
+    caller *self = (caller *)object;
+    const int is_free = !self->is_in_call;
+    self->is_in_call = 1;
+    return PyBool_FromLong(is_free);
+}
+
+static PyObject *give(PyObject *object, PyObject *none)
+{
+    (void)none;
+    ((caller *)object)->is_in_call = 0;
+    Py_RETURN_NONE;
+}
+
+/* The places of the replies to the last script: of each its begin, its end, and whether its command was refused. */
+static PyObject *places_of_replies(PyObject *object, PyObject *none)
+{
+    (void)none;
+    caller *self = (caller *)object;
+    const size_t count = self->session == NULL ? 0 : self->reply_count(self->session);
+    PyObject *places = PyList_New((Py_ssize_t)count);
+    for (size_t number = 0; places != NULL && number < count; number++) {
+        betable_reply_place found = {0, 0, BETABLE_READ};
+        self->reply(self->session, number, &found);
+        PyObject *is_refused = found.kind == BETABLE_COMMAND_REFUSED ? Py_True : Py_False;
+        PyObject *place = Py_BuildValue("(KKO)", (unsigned long long)found.offset, (unsigned long long)(found.offset + found.length), is_refused);
+        if (place == NULL || PyList_SetItem(places, (Py_ssize_t)number, place) < 0)
+            Py_CLEAR(places);
+    }
+    return places;
+}
+
+/* ---- the type ---- */
+
+/* _connect(owner, address, addresses): the session, and the calls in the order of CALLS. */
+static PyObject *connect(PyObject *object, PyObject *const *args, Py_ssize_t count)
+{
+    caller *self = (caller *)object;
+    uintptr_t found[CALL_COUNT];
+    if (count != 3 || !PyTuple_Check(args[2]) || PyTuple_Size(args[2]) != CALL_COUNT) {
+        PyErr_SetString(PyExc_TypeError, "_connect takes the owner of a session, its address, and the addresses of CALLS");
+        return NULL;
+    }
+    betable_session *session = PyLong_AsVoidPtr(args[1]);
+    for (int place = 0; place < CALL_COUNT; place++)
+        found[place] = (uintptr_t)PyLong_AsVoidPtr(PyTuple_GetItem(args[2], place));
+    PyObject *shapes = PyErr_Occurred() ? NULL : PyDict_New();
+    if (shapes == NULL)
+        return NULL;
+    PyObject *owner = self->owner, *earlier = self->shapes;
+    self->owner = Py_NewRef(args[0]);
+    self->session = session;
+    self->shapes = shapes;
+    self->apply = (packed_call *)found[0];
+    self->get = (packed_call *)found[1];
+    self->page = (packed_call *)found[2];
+    self->sums = (packed_call *)found[3];
+    self->length = (length_call *)found[4];
+    self->copy = (copy_call *)found[5];
+    self->reply_count = (length_call *)found[6];
+    self->reply = (reply_call *)found[7];
+    Py_XDECREF(owner);
+    Py_XDECREF(earlier);
+    Py_RETURN_NONE;
+}
+
+/* _know(trees): the descriptions of all trees by their names. */
+static PyObject *know(PyObject *object, PyObject *trees)
+{
+    caller *self = (caller *)object;
+    if (!PyDict_CheckExact(trees) || self->shapes == NULL) {
+        PyErr_SetString(PyExc_TypeError, "_know takes a dict, after _connect");
+        return NULL;
+    }
+    PyObject *name = PyUnicode_FromString("primary");
+    if (name == NULL)
+        return NULL;
+    PyObject *primary = PyDict_GetItemWithError(trees, name), *earlier = self->trees, *before = self->primary;
+    Py_DECREF(name);
+    if (primary == NULL && PyErr_Occurred())
+        return NULL;
+    Py_XINCREF(primary);
+    self->primary = primary;
+    self->trees = Py_NewRef(trees);
+    PyDict_Clear(self->shapes);
+    Py_XDECREF(earlier);
+    Py_XDECREF(before);
+    Py_RETURN_NONE;
+}
+
+static void dealloc(PyObject *object)
+{
+    caller *self = (caller *)object;
+    PyTypeObject *type = Py_TYPE(object);
+    Py_XDECREF(self->owner);
+    Py_XDECREF(self->trees);
+    Py_XDECREF(self->primary);
+    Py_XDECREF(self->shapes);
+    PyMem_Free(self->room.at);
+    ((freefunc)PyType_GetSlot(type, Py_tp_free))(object);
+    Py_DECREF(type);
+}
+
+#define FAST(call) (PyCFunction)(void (*)(void))(call)
+
+static PyMethodDef methods[] = {
+    {"put", FAST(call_put), METH_FASTCALL | METH_KEYWORDS, "put($self, rows, most=65536)\n--\n\nPuts rows, and returns their number."},
+    {"batch", FAST(call_batch), METH_FASTCALL | METH_KEYWORDS,
+     "batch($self, messages, most=65536)\n--\n\nApplies messages in order, and returns their number."},
+    {"get", FAST(call_get), METH_FASTCALL | METH_KEYWORDS, "get($self, *key)\n--\n\nThe row of a key, or None."},
+    {"scan", FAST(call_scan), METH_FASTCALL | METH_KEYWORDS,
+     "scan($self, tree='primary', start=None, stop=None, limit=None)\n--\n\n"
+     "The rows of a tree in ascending order of their keys, from those that begin with the values `start` to before those that begin with `stop`, at most\n"
+     "as many as the limit."},
+    {"sums", FAST(call_sums), METH_FASTCALL | METH_KEYWORDS,
+     "sums($self, tree, columns, column, start=None, stop=None)\n--\n\n"
+     "For each group of rows that are equal in the tree's first columns: their number, the sum of a column, and the values of those columns."},
+    {"_apply_rows", apply_rows, METH_O, "Whether rows were put, as one batch."},
+    {"_apply_messages", apply_messages, METH_O, "Whether messages were applied, as one batch."},
+    {"_apply_columns", apply_columns, METH_O, "Whether the rows of columns were put, as one batch."},
+    {"_scan_as_columns", FAST(scan_as_columns), METH_FASTCALL, "The columns of the rows of a scan: of ints their bytes, and lists of other values."},
+    {"_page_rows", FAST(page_rows), METH_FASTCALL, "The rows of a page, of the name of its tree and its bytes, or None if it is refused."},
+    {"_take", take, METH_NOARGS, "Takes the session for calls of the library. Whether it was in none."},
+    {"_give", give, METH_NOARGS, "Ends what _take has begun."},
+    {"_places", places_of_replies, METH_NOARGS, "The places of the replies to the last script."},
+    {"_connect", FAST(connect), METH_FASTCALL, "Connects it with a session, by addresses."},
+    {"_know", know, METH_O, "Takes the descriptions of all trees."},
+    {NULL, NULL, 0, NULL},
+};
+
+static PyType_Slot slots[] = {
+    {Py_tp_doc, (void *)(uintptr_t) "The calls of a session that go by packed bytes."},
+    {Py_tp_dealloc, dealloc},
+    {Py_tp_methods, methods},
+    {0, NULL},
+};
+
+static PyType_Spec spec = {"betable._packed.Caller", sizeof(caller), 0, Py_TPFLAGS_DEFAULT | Py_TPFLAGS_BASETYPE, slots};
+
+/* ---- the module ---- */
+
+/* prepare(plain, message): the class whose methods take what is not taken here, and that of messages. */
+static PyObject *prepare(PyObject *module, PyObject *const *args, Py_ssize_t count)
+{
+    (void)module;
+    if (count != 2) {
+        PyErr_SetString(PyExc_TypeError, "prepare takes two classes");
+        return NULL;
+    }
+    PyObject *earlier = plain, *before = message_type;
+    plain = Py_NewRef(args[0]);
+    message_type = Py_NewRef(args[1]);
+    Py_XDECREF(earlier);
+    Py_XDECREF(before);
+    Py_RETURN_NONE;
+}
+
+static PyMethodDef functions[] = {
+    {"prepare", FAST(prepare), METH_FASTCALL, "Takes the class of sessions without this module, and that of messages."},
+    {NULL, NULL, 0, NULL},
+};
+
+static struct PyModuleDef definition = {
+    PyModuleDef_HEAD_INIT, "_packed", "The calls of a session on packed bytes, in C.", -1, functions, NULL, NULL, NULL, NULL,
+};
+
+static int are_interned(const char *const *given, PyObject **found, int count)
+{
+    for (int place = 0; place < count; place++) {
+        found[place] = PyUnicode_InternFromString(given[place]);
+        if (found[place] == NULL)
+            return 0;
+    }
+    return 1;
+}
+
+PyMODINIT_FUNC PyInit__packed(void)
+{
+    static const char *const words[] = {"word", "shape", "values", "put", "del", "ups", "_plan", "_raise_out_of_memory"};
+    static const char *const of_scan[] = {"tree", "start", "stop", "limit"};
+    static const char *const of_sums[] = {"tree", "columns", "column", "start", "stop"};
+    PyObject *interned[8];
+    if (!are_interned(words, interned, 8) || !are_interned(of_scan, names_of_scan, 4) || !are_interned(of_sums, names_of_sums, 5))
+        return NULL;
+    word_name = interned[0];
+    shape_name = interned[1];
+    values_name = interned[2];
+    put_word = interned[3];
+    del_word = interned[4];
+    ups_word = interned[5];
+    plan_name = interned[6];
+    out_of_memory_name = interned[7];
+    PyObject *module = PyModule_Create(&definition), *type = PyType_FromSpec(&spec);
+    PyObject *calls =
+        Py_BuildValue("(ssssssss)", "betable_apply", "betable_get", "betable_page", "betable_sums", "betable_replies_length", "betable_copy_replies",
+                      "betable_reply_count", "betable_reply");
+    /* With no object to add, an exception is set, as is wanted. */
+    if (module != NULL && (PyModule_AddObjectRef(module, "Caller", type) < 0 || PyModule_AddObjectRef(module, "CALLS", calls) < 0))
+        Py_CLEAR(module);
+    Py_XDECREF(type);
+    Py_XDECREF(calls);
+    return module;
+}
