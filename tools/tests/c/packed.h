@@ -147,17 +147,15 @@ static void add_changes(message *to, uint32_t count) {
 
 /* ---- the state of a table ---- */
 
-/* The replies to a script, in a new block. */
-static message *replies(betable_session *session, const char *script) {
-    message *found = malloc(sizeof *found);
-    if (found == NULL || betable_run(session, (const unsigned char *)script, strlen(script)) != BETABLE_DONE) {
+/* Runs a script, and copies its replies. */
+static void run(betable_session *session, const char *script, message *found) {
+    if (betable_run(session, (const unsigned char *)script, strlen(script)) != BETABLE_DONE) {
         exit(4);
     }
     found->length = betable_copy_replies(session, 0, found->at, sizeof found->at);
     if (found->length != betable_replies_length(session)) {
         exit(5);
     }
-    return found;
 }
 
 static int is_same(const message *one, const message *other) { return one->length == other->length && memcmp(one->at, other->at, one->length) == 0; }

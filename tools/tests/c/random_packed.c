@@ -283,8 +283,8 @@ static int is_done(size_t call) {
     return 0;
 }
 
-/* Deletes half of the rows if there are many. Whether there were. */
-static int thin_out(void) {
+/* Deletes half of the rows if there are many. */
+static void thin_out(void) {
     static const unsigned char all[] = "BTV\1\xff\xff\xff\xff\7primary\0";
     betable_fault fault;
     if (betable_page(&session, all, sizeof all, &fault) != BETABLE_DONE) {
@@ -293,7 +293,7 @@ static int thin_out(void) {
     reply.length = betable_copy_replies(&session, 0, reply.at, sizeof reply.at);
     size_t count = row_count(TREE[0].kinds);
     if (count <= MOST_ROWS) {
-        return 0;
+        return;
     }
     begin(&given, (uint32_t)count / 2);
     for (size_t row = 0, at = 4; row < count / 2; row++) {
@@ -305,7 +305,6 @@ static int thin_out(void) {
     if (!is_done(APPLY)) {
         fail("rows that cannot be deleted");
     }
-    return 1;
 }
 
 int main(int word_count, char **words) {
@@ -319,25 +318,23 @@ int main(int word_count, char **words) {
     if (room == MAP_FAILED || mprotect(room + page_size, ROOM, PROT_READ | PROT_WRITE) != 0 || betable_open(&session) != BETABLE_DONE) {
         return 4;
     }
-    free(replies(&session, SCHEMA));
-    message *images = replies(&session, IMAGES);
+    static message images, now;
+    run(&session, SCHEMA, &now);
+    run(&session, IMAGES, &images);
     while (count-- > 0) {
         size_t call = below(10) < 6 ? APPLY : GET + below(CALLS - 1);
         write_message(&given, call);
         int was_done = is_done(call);
         ++*(was_done ? &done[call] : &refused[call]);
-        message *now = replies(&session, IMAGES);
-        if ((call != APPLY || !was_done) && !is_same(now, images)) {
+        run(&session, IMAGES, &now);
+        if ((call != APPLY || !was_done) && !is_same(&now, &images)) {
             fail("other images");
         }
-        if (call == APPLY && was_done && thin_out()) {
-            free(now);
-            now = replies(&session, IMAGES);
+        if (call == APPLY && was_done) {
+            thin_out();
+            run(&session, IMAGES, &images);
         }
-        free(images);
-        images = now;
     }
-    free(images);
     for (size_t call = 0; call < CALLS; call++) {
         printf("%s%s: %ld done, %ld refused", call == 0 ? "" : "; ", NAME[call], done[call], refused[call]);
     }

@@ -82,8 +82,7 @@ static const request REQUEST[] = {
 typedef struct {
     betable_status status;
     betable_fault fault;
-    message reply;
-    message *images;
+    message reply, images;
 } outcome;
 
 static long lost = 0, unchanged = 0, ended_as_ever = 0;
@@ -95,13 +94,13 @@ static int fail(const request *one, long number, const char *what) {
 
 /* A session with rows in the table and its indexes, the same ones each time. */
 static betable_session filled(void) {
-    static message rows;
+    static message rows, replies;
     betable_session session = BETABLE_CLOSED;
     betable_fault fault;
     if (betable_open(&session) != BETABLE_DONE) {
         exit(4);
     }
-    free(replies(&session, SCHEMA));
+    run(&session, SCHEMA, &replies);
     dice = 7;
     add_changes(&rows, ROWS);
     if (betable_apply(&session, rows.at, rows.length, &fault) != BETABLE_DONE) {
@@ -124,10 +123,9 @@ static int is_as_wanted(const outcome *found, const outcome *wanted) {
 
 /* Whether the session has these images. */
 static int has_images(betable_session *session, const message *images) {
-    message *found = replies(session, IMAGES);
-    int has = is_same(found, images);
-    free(found);
-    return has;
+    static message found;
+    run(session, IMAGES, &found);
+    return is_same(&found, images);
 }
 
 /* The status with which a get of the table is refused. */
@@ -162,13 +160,13 @@ static int one_refusal(const request *one, const message *given, long number, co
                 return fail(one, number, "other images than before");
             }
             make(&session, one, given, &found);
-            if (!is_as_wanted(&found, wanted) || !has_images(&session, wanted->images)) {
+            if (!is_as_wanted(&found, wanted) || !has_images(&session, &wanted->images)) {
                 return fail(one, number, "another end when it is made again");
             }
             unchanged++;
         }
     } else {
-        if (!is_as_wanted(&found, wanted) || !has_images(&session, wanted->images)) {
+        if (!is_as_wanted(&found, wanted) || !has_images(&session, &wanted->images)) {
             return fail(one, number, "another end");
         }
         ended_as_ever += is_reached;
@@ -182,21 +180,21 @@ static int one_refusal(const request *one, const message *given, long number, co
 /* All refusals of a call. */
 static int try_call(const request *one) {
     static outcome wanted;
-    static message given;
+    static message given, before;
     betable_session session = filled();
-    message *before = replies(&session, IMAGES);
+    run(&session, IMAGES, &before);
     dice = 11;
     one->write(&given);
     make(&session, one, &given, &wanted);
-    wanted.images = replies(&session, IMAGES);
+    run(&session, IMAGES, &wanted.images);
     betable_close(&session);
-    if (wanted.status != one->status || (wanted.status == BETABLE_REFUSED || one->call != betable_apply) != is_same(before, wanted.images)) {
+    if (wanted.status != one->status || (wanted.status == BETABLE_REFUSED || one->call != betable_apply) != is_same(&before, &wanted.images)) {
         return fail(one, 0, "another end with enough memory");
     }
     long count = 0;
     for (is_one = 0; is_one < 2; is_one++) {
         int ended;
-        for (long number = 0; (ended = one_refusal(one, &given, number, before, &wanted)) == 1; number++) {
+        for (long number = 0; (ended = one_refusal(one, &given, number, &before, &wanted)) == 1; number++) {
             count++;
         }
         if (ended != 0) {
@@ -204,8 +202,6 @@ static int try_call(const request *one) {
         }
     }
     printf("%s: %ld\n", one->name, count);
-    free(before);
-    free(wanted.images);
     return 0;
 }
 
