@@ -353,19 +353,27 @@ def wrong_use_is_answered():
     expect([fault_of(lambda: session.run("get 1\n")), fault_of(lambda: session.is_lost)], [ValueError, ValueError])
 
 
-def rust_sessions_stay_on_their_thread():
+def two_threads_in_rust_cannot_share_a_session_without_a_lock():
     if is_installed("rustc", "clients/rust is"):
-        source = Path(programs().name) / "sent.rs"
-        source.write_text("fn main() {\n    let session = betable::Session::new().unwrap();\n    std::thread::spawn(move || drop(session));\n}\n")
+        source = Path(programs().name) / "shared.rs"
+        source.write_text("fn is_shared<T: Sync>(_: T) {}\n\nfn main() {\n    is_shared(betable::Session::new().unwrap());\n}\n")
         compiled, _ = compiled_by_rust(source)
         expect(compiled.returncode != 0, True)
-        expect_within("cannot be sent between threads safely", compiled.stderr)
+        expect_within("cannot be shared between threads safely", compiled.stderr)
 
 
 def typed_calls_hold(what):
     if is_installed("rustc", "clients/rust is"):
         ended = subprocess.run([rust_program(HERE / "rust/typed.rs"), what], capture_output=True, text=True, timeout=SECONDS)
         expect((ended.returncode, ended.stdout, ended.stderr), (0, "", ""))
+
+
+def sessions_in_rust_go_from_thread_to_thread():
+    typed_calls_hold("threads")
+
+
+def replies_in_rust_are_cut_as_the_library_says():
+    typed_calls_hold("replies")
 
 
 def typed_changes_in_rust_leave_the_images_of_scripts():
@@ -445,7 +453,9 @@ TESTS_OF_TEXTS = [
     texts_that_no_line_has_are_told,
     refusals_have_line_and_name,
     wrong_use_is_answered,
-    rust_sessions_stay_on_their_thread,
+    two_threads_in_rust_cannot_share_a_session_without_a_lock,
+    sessions_in_rust_go_from_thread_to_thread,
+    replies_in_rust_are_cut_as_the_library_says,
     typed_changes_in_rust_leave_the_images_of_scripts,
     typed_reads_in_rust_give_the_rows_of_replies,
     pages_in_rust_repeat_and_lose_no_row,

@@ -595,12 +595,39 @@ def out_of_memory_says_what_was_carried_out():
         expect(session.scan(), [(1, "a")])
 
 
+@both_ways
+def a_class_with_replies_of_its_own_runs_by_them():
+    given = []
+
+    class Shown(betable().Session):
+        def replies(self, script):
+            given.append(script)
+            return b"none\n" if script == b"get 1\n" else super().replies(script)
+
+    with Shown() as session:
+        session.run(SCHEMA)
+        session.put(ROWS)
+        expect([reply.rows for reply in session.run("get 2\nget 3\n")], [[ROWS[1]], [ROWS[2]]])
+        expect((list(session.run("get 1\n")[0]), given), (["none"], [SCHEMA.encode(), b"get 2\nget 3\n", b"get 1\n"]))
+
+
 # A call of each kind.
 CALLS = [
-    lambda s: s.put(ROWS), lambda s: s.put({"id": [1], "city": ["Oslo"], "ok": [True], "raw": [b"\0"]}), lambda s: s.batch([betable().delete(99)]), lambda s: s.get(1),
-    lambda s: s.scan(), lambda s: s.scan(limit=1), lambda s: s.scan_columns(), lambda s: list(s.iterate()), lambda s: s.sums("by_city", 1, "id"), lambda s: s.columns(),
-    lambda s: s.usage(), lambda s: s.run("get 1\n"), lambda s: s.replies("get 1\n"), lambda s: s.is_lost,
-]  # fmt: skip
+    lambda s: s.put(ROWS),
+    lambda s: s.put({"id": [1], "city": ["Oslo"], "ok": [True], "raw": [b"\0"]}),
+    lambda s: s.batch([betable().delete(99)]),
+    lambda s: s.get(1),
+    lambda s: s.scan(),
+    lambda s: s.scan(limit=1),
+    lambda s: s.scan_columns(),
+    lambda s: list(s.iterate()),
+    lambda s: s.sums("by_city", 1, "id"),
+    lambda s: s.columns(),
+    lambda s: s.usage(),
+    lambda s: s.run("get 1\n"),
+    lambda s: s.replies("get 1\n"),
+    lambda s: s.is_lost,
+]
 
 
 @both_ways
@@ -629,7 +656,7 @@ def a_session_goes_through_a_pool_of_threads():
             session.upsert(key, add={"count": 1})
             expect((session.get(key), session.run(f"get {key}\n")[0].rows), ((key, before[1] + 1), [(key, before[1] + 1)]))
             session.put([(1_000 + number, number)])
-            expect(sum(count * total for total, count, _ in [(group[2], group[0], 0) for group in session.sums("by_count", 1, "count")]), sum(row[1] for row in session.scan()))
+            expect(sum(total for _, total, _ in session.sums("by_count", 1, "count")), sum(row[1] for row in session.scan()))
         time.sleep(0.001)
 
     with ThreadPoolExecutor(8) as pool:
@@ -698,9 +725,11 @@ def threads_without_a_lock_get_their_own_replies_or_a_fault():
         while time.monotonic() < is_over:
             key = (key + 7) % rows
             for call, wanted in (
-                (lambda: session.run(f"get {key}\nscan primary\nfrom {key}\nto {key + 1}\ngo\n")[1].rows, [(key, key)]), (lambda: session.get(key), (key, key)),
-                (lambda: session.scan("primary", (key,), (key + 1,)), [(key, key)]), (lambda: session.sums("primary", 1, "qty", (key,), (key + 1,)), [(1, key, key)]),
-            ):  # fmt: skip
+                (lambda: session.run(f"get {key}\nscan primary\nfrom {key}\nto {key + 1}\ngo\n")[1].rows, [(key, key)]),
+                (lambda: session.get(key), (key, key)),
+                (lambda: session.scan("primary", (key,), (key + 1,)), [(key, key)]),
+                (lambda: session.sums("primary", 1, "qty", (key,), (key + 1,)), [(1, key, key)]),
+            ):
                 try:
                     found = call()
                 except RuntimeError as fault:
@@ -938,6 +967,7 @@ TESTS_OF_TEXTS = [
     messages_that_are_alike_differ_by_their_values,
     the_reason_is_that_of_the_least_refusal,
     out_of_memory_says_what_was_carried_out,
+    a_class_with_replies_of_its_own_runs_by_them,
     a_closed_session_raises,
     a_session_goes_through_a_pool_of_threads,
     a_session_works_in_the_threads_of_asyncio,

@@ -12,7 +12,8 @@
  * from their rows only while no object is made and nothing of Python is called.
  *
  * One call at a time uses a session, of any thread. `is_in_call` is written while the interpreter lock is held. It is set while other threads run during a call
- * of the library, and from `_take` to `_give`, between which the plain class calls it. A call that finds it set goes to the plain class, which raises the fault.
+ * of the library, and from `_take` to `_give`, between which the plain class calls the library. A call that finds it set goes to the plain class, which raises
+ * the fault.
  */
 #define Py_LIMITED_API 0x030B0000
 #define PY_SSIZE_T_CLEAN
