@@ -713,6 +713,40 @@ def a_call_during_another_one_is_refused():
         expect((found[1:], session.scan()), ([wanted], ROWS))
 
 
+INTERRUPTED = """
+import signal, sys
+sys.path.insert(0, {path!r})
+import betable
+
+def interrupt(number, frame):
+    raise KeyboardInterrupt
+
+session, count = betable.Session(), 0
+session.table("id:int qty:int")
+session.put([(number, number) for number in range(100)])
+signal.signal(signal.SIGALRM, interrupt)
+for number in range(1500):
+    try:
+        signal.setitimer(signal.ITIMER_REAL, 0.00004 + number % 97 * 1e-6)
+        for _ in range(10_000):
+            session.get(5), session.is_lost, session.replies("get 5\\n"), session.sums("primary", 1, "qty", (5,), (6,))
+    except KeyboardInterrupt:
+        count += 1
+print(count, session.scan(limit=2), session.close())
+"""
+
+
+def interrupts_leave_a_session_free():
+    """Ctrl-C, at many places of calls by the extension and by ctypes: no call takes the session for good."""
+    for pure in "01":
+        code = INTERRUPTED.format(path=str(TOP / "clients/python"))
+        settings = {**os.environ, "BETABLE_LIBRARY": library(), "BETABLE_PURE": pure}
+        ended = subprocess.run([sys.executable, "-B", "-c", code], capture_output=True, text=True, env=settings)
+        expect((pure, ended.returncode, ended.stderr), (pure, 0, ""))
+        count, rest = ended.stdout.split(" ", 1)
+        expect((pure, int(count) > 1_400, rest), (pure, True, "[(0, 0), (1, 1)] None\n"))
+
+
 @both_ways
 def threads_without_a_lock_get_their_own_replies_or_a_fault():
     session, wrong, refused, rows = betable().Session(), [], [], 2_000
@@ -972,6 +1006,7 @@ TESTS_OF_TEXTS = [
     a_session_goes_through_a_pool_of_threads,
     a_session_works_in_the_threads_of_asyncio,
     a_call_during_another_one_is_refused,
+    interrupts_leave_a_session_free,
     threads_without_a_lock_get_their_own_replies_or_a_fault,
     a_session_that_another_thread_drops_is_closed,
     usage_has_names_and_is_refused_without_a_tree,

@@ -309,7 +309,7 @@ def the_extension_by_itself_says_what_uses_it():
         ended = subprocess.run([sys.executable, "-B", "-c", f"{code}caller.{call}\n"], capture_output=True, text=True)
         expect((call, ended.returncode), (call, 1))
         expect_within("RuntimeError: betable._packed is used by betable.session", ended.stderr)
-    for call in ("_know({})", "_know(5)", "_connect(1)", "_connect(1, 2, 3)", "_connect(1, 2, (1,))"):
+    for call in ("_know({})", "_know(5)", "_connect(1)", "_connect(1, 2, 3)", "_connect(1, 2, (1,))", "_connect(1, 2, (1,) * 8, 3)"):
         ended = subprocess.run([sys.executable, "-B", "-c", f"{code}caller.{call}\n"], capture_output=True, text=True)
         expect((call, ended.returncode), (call, 1))
         expect_within("TypeError", ended.stderr)
