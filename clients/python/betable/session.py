@@ -308,21 +308,21 @@ class PureSession(Calls):
     # Whether one batch was applied. If it was not, it cannot be packed or is refused, and nothing has changed.
 
     def _apply_rows(self, rows: list[Any]) -> bool:
-        return self._reply(self._library.betable_apply, packing(layout(self.state.table)).puts(rows)) is not None
+        return self._reply(self._library.betable_apply, packing(layout(self.state.table)).puts(rows), is_empty=True) is not None
 
     def _apply_messages(self, messages: list[Any]) -> bool:
-        return self._reply(self._library.betable_apply, packing(layout(self.state.table)).changes(messages)) is not None
+        return self._reply(self._library.betable_apply, packing(layout(self.state.table)).changes(messages), is_empty=True) is not None
 
     def _apply_columns(self, columns: list[Any]) -> bool:
         return self._apply_rows(rows_of_columns(columns))
 
-    def _reply(self, call: Callable[..., int], packed: bytes | None) -> bytes | None:
-        """The reply to a call on packed bytes. If there are none, or if they are refused, it is None, and nothing has changed."""
+    def _reply(self, call: Callable[..., int], packed: bytes | None, is_empty: bool = False) -> bytes | None:
+        """The reply to a call on packed bytes, which may be empty always. If there are no bytes, or if they are refused, it is None, and nothing has changed."""
         if packed is None:
             return None
         with self._calls():
             status = call(self._open_handle(), packed, len(packed), self._fault)
-            reply = self._copied() if status == DONE else None
+            reply = None if status != DONE else b"" if is_empty else self._copied()
         if status == OUT_OF_MEMORY:
             self._raise_out_of_memory()
         return reply
