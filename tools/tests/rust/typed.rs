@@ -624,18 +624,20 @@ fn check_threads() -> Result<(), Fault> {
         Ok(session)
     });
     let shared = Arc::new(Mutex::new(opened.join().unwrap()?));
-    let threads: Vec<_> = (0..4).map(|number| {
-        let shared = Arc::clone(&shared);
-        thread::spawn(move || -> Result<(), Fault> {
-            for turn in 0..250i64 {
-                let mut session = shared.lock().unwrap();
-                session.upsert(&(turn % 7), &[Op::Add("count", 1)])?;
-                session.put(&[(100 + 4 * turn + number, -turn)])?;
-                session.run(b"build by_count 5\n")?;
-            }
-            Ok(())
+    let threads: Vec<_> = (0..4)
+        .map(|number| {
+            let shared = Arc::clone(&shared);
+            thread::spawn(move || -> Result<(), Fault> {
+                for turn in 0..250i64 {
+                    let mut session = shared.lock().unwrap();
+                    session.upsert(&(turn % 7), &[Op::Add("count", 1)])?;
+                    session.put(&[(100 + 4 * turn + number, -turn)])?;
+                    session.run(b"build by_count 5\n")?;
+                }
+                Ok(())
+            })
         })
-    }).collect();
+        .collect();
     for one in threads {
         one.join().unwrap()?;
     }
