@@ -23,8 +23,9 @@
 //! }
 //! ```
 //!
-//! A call takes a session by `&mut`, so one call at a time uses it. It is not `Send`, so it stays on its thread. It is closed when it is dropped. Cargo builds
-//! this crate with Cargo.toml; clients/rust/build uses only rustc. Both link the libbt_c.a of the folder that BETABLE_LIBRARY names.
+//! A call takes a session by `&mut`, so one call at a time uses it. It is `Send`, so it goes from thread to thread, and `Mutex<Session>` is used by several. It
+//! is closed when it is dropped. Cargo builds this crate with Cargo.toml; clients/rust/build uses only rustc. Both link the libbt_c.a of the folder that
+//! BETABLE_LIBRARY names.
 
 mod changes;
 mod fault;
@@ -44,12 +45,20 @@ pub use values::{FromValue, Kind, Packer, ToValue, Value, Values};
 use packed::{CallFault, Tree};
 use std::error::Error;
 use std::fmt;
+use std::ops::Range;
 use std::ptr::null_mut;
 
 #[repr(C)]
 struct Handle {
     at: *mut u8,
     is_open: bool,
+}
+
+#[repr(C)]
+struct ReplyPlace {
+    offset: u64,
+    length: u64,
+    kind: u32,
 }
 
 #[link(name = "bt_c", kind = "static")]
@@ -65,6 +74,8 @@ extern "C" {
     fn betable_replies_length(session: *mut Handle) -> usize;
     fn betable_copy_replies(session: *mut Handle, from: usize, out: *mut u8, room: usize) -> usize;
     fn betable_refused_count(session: *mut Handle) -> usize;
+    fn betable_reply_count(session: *mut Handle) -> usize;
+    fn betable_reply(session: *mut Handle, place: usize, reply: *mut ReplyPlace) -> bool;
     fn betable_is_lost(session: *mut Handle) -> bool;
     fn betable_close(session: *mut Handle) -> u32;
 }
@@ -72,6 +83,8 @@ extern "C" {
 const DONE: u32 = 0;
 const REPLY_CUT: u32 = 2;
 const REFUSED: u32 = 5;
+/// What became of a command that was refused.
+const COMMAND_REFUSED: u32 = 2;
 
 /// The library ran out of memory.
 #[derive(Debug)]
@@ -105,6 +118,10 @@ pub struct Session {
     ends: Vec<usize>,
 }
 
+// SAFETY: as include/betable.h says, a session may go from one thread to another between two calls, if something orders them, as all that sends a value to
+// another thread does. Calls take the session by `&mut`, so no two threads use it at the same time.
+unsafe impl Send for Session {}
+
 impl Session {
     pub fn new() -> Result<Session, OutOfMemory> {
         let mut handle = Handle { at: null_mut(), is_open: false };
@@ -121,11 +138,23 @@ impl Session {
         let mut bytes = vec![0; unsafe { betable_replies_length(&mut self.handle) }];
         let count = unsafe { betable_copy_replies(&mut self.handle, 0, bytes.as_mut_ptr(), bytes.len()) };
         bytes.truncate(count);
-        let replies = Replies { bytes, refused_count: unsafe { betable_refused_count(&mut self.handle) } };
+        let replies = Replies { bytes, parts: self.parts(), refused_count: unsafe { betable_refused_count(&mut self.handle) } };
         if status != DONE {
             return Err(OutOfMemory { replies, is_cut: status == REPLY_CUT, is_lost: self.is_lost() });
         }
         Ok(replies)
+    }
+
+    /// Where the replies to the last script are. None if it was not done.
+    fn parts(&mut self) -> Vec<Part> {
+        let mut place = ReplyPlace { offset: 0, length: 0, kind: 0 };
+        let count = unsafe { betable_reply_count(&mut self.handle) };
+        let mut parts = Vec::with_capacity(count);
+        while unsafe { betable_reply(&mut self.handle, parts.len(), &mut place) } {
+            let bytes = place.offset as usize..(place.offset + place.length) as usize;
+            parts.push(Part { bytes, is_refused: place.kind == COMMAND_REFUSED });
+        }
+        parts
     }
 
     /// Whether the table was lost when memory ran out.
@@ -144,7 +173,15 @@ impl Drop for Session {
 #[derive(Debug, Default)]
 pub struct Replies {
     bytes: Vec<u8>,
+    parts: Vec<Part>,
     refused_count: usize,
+}
+
+/// Where a reply is, and whether its command was refused.
+#[derive(Debug)]
+struct Part {
+    bytes: Range<usize>,
+    is_refused: bool,
 }
 
 impl Replies {
@@ -160,7 +197,23 @@ impl Replies {
 
     /// The replies in the order of the commands.
     pub fn iter(&self) -> impl Iterator<Item = Reply> {
-        replies_of(&lines(&String::from_utf8_lossy(&self.bytes))).into_iter()
+        let replies = if self.parts.is_empty() {
+            // Memory ran out, so their text says where they end.
+            replies_of(&lines(&String::from_utf8_lossy(&self.bytes)))
+        } else {
+            self.parts.iter().map(|part| self.reply(part)).collect()
+        };
+        replies.into_iter()
+    }
+
+    fn reply(&self, part: &Part) -> Reply {
+        let text = String::from_utf8_lossy(&self.bytes[part.bytes.clone()]);
+        let line = text.strip_suffix('\n').unwrap_or(&text);
+        let found = match line.strip_prefix("refused ") {
+            Some(words) if part.is_refused => refusal(words).map(Reply::Refused),
+            _ => replies_of(&lines(&text)).pop(),
+        };
+        found.unwrap_or_else(|| Reply::Line(line.to_string()))
     }
 }
 

@@ -126,6 +126,7 @@ def what_tests_share_is_built():
     worked_scripts()
     for source in (TOP / "clients/c/example.c", HERE / "c/cuts.c", HERE / "c/wrong_use.c"):
         c_program(source)
+    moved_session()
     if shutil.which("rustc"):
         rust_program(RUST_EXAMPLE)
         rust_program(HERE / "rust/typed.rs")
@@ -353,19 +354,39 @@ def wrong_use_is_answered():
     expect([fault_of(lambda: session.run("get 1\n")), fault_of(lambda: session.is_lost)], [ValueError, ValueError])
 
 
-def rust_sessions_stay_on_their_thread():
+def moved_session():
+    return c_program(HERE / "c/moved_session.c", "-pthread")
+
+
+def a_session_in_c_goes_from_thread_to_thread():
+    """A lock and joins order the calls. Of valgrind, helgrind looks for accesses that nothing orders, those of the library too."""
+    helgrind = ["valgrind", "-q", "--tool=helgrind", "--error-exitcode=9"]
+    for words in ([], helgrind) if is_installed("valgrind", "whether threads meet in a session is") else ([],):
+        ended = subprocess.run([*words, moved_session()], capture_output=True, text=True, timeout=SECONDS)
+        expect((words, ended.returncode, ended.stderr), (words, 0, ""))
+
+
+def two_threads_in_rust_cannot_share_a_session_without_a_lock():
     if is_installed("rustc", "clients/rust is"):
-        source = Path(programs().name) / "sent.rs"
-        source.write_text("fn main() {\n    let session = betable::Session::new().unwrap();\n    std::thread::spawn(move || drop(session));\n}\n")
+        source = Path(programs().name) / "shared.rs"
+        source.write_text("fn is_shared<T: Sync>(_: T) {}\n\nfn main() {\n    is_shared(betable::Session::new().unwrap());\n}\n")
         compiled, _ = compiled_by_rust(source)
         expect(compiled.returncode != 0, True)
-        expect_within("cannot be sent between threads safely", compiled.stderr)
+        expect_within("cannot be shared between threads safely", compiled.stderr)
 
 
 def typed_calls_hold(what):
     if is_installed("rustc", "clients/rust is"):
         ended = subprocess.run([rust_program(HERE / "rust/typed.rs"), what], capture_output=True, text=True, timeout=SECONDS)
         expect((ended.returncode, ended.stdout, ended.stderr), (0, "", ""))
+
+
+def sessions_in_rust_go_from_thread_to_thread():
+    typed_calls_hold("threads")
+
+
+def replies_in_rust_are_cut_as_the_library_says():
+    typed_calls_hold("replies")
 
 
 def typed_changes_in_rust_leave_the_images_of_scripts():
@@ -422,8 +443,9 @@ def valgrind_finds_nothing():
     if not is_installed("valgrind", "what valgrind finds is"):
         return
     words = ["valgrind", "-q", "--leak-check=full", "--errors-for-leak-kinds=all", "--error-exitcode=9"]
-    ended = subprocess.run([*words, c_program(HERE / "c/wrong_use.c")], capture_output=True, text=True)
-    expect((ended.returncode, ended.stderr), (0, ""))
+    for program in (c_program(HERE / "c/wrong_use.c"), moved_session()):
+        ended = subprocess.run([*words, program], capture_output=True, text=True)
+        expect((ended.returncode, ended.stderr), (0, ""))
     script = WORKED / "building_index"
     places = places_between(script.read_bytes())
     step = max(1, len(places) * (len(places) + 1) // 2 // 5)
@@ -445,7 +467,10 @@ TESTS_OF_TEXTS = [
     texts_that_no_line_has_are_told,
     refusals_have_line_and_name,
     wrong_use_is_answered,
-    rust_sessions_stay_on_their_thread,
+    a_session_in_c_goes_from_thread_to_thread,
+    two_threads_in_rust_cannot_share_a_session_without_a_lock,
+    sessions_in_rust_go_from_thread_to_thread,
+    replies_in_rust_are_cut_as_the_library_says,
     typed_changes_in_rust_leave_the_images_of_scripts,
     typed_reads_in_rust_give_the_rows_of_replies,
     pages_in_rust_repeat_and_lose_no_row,

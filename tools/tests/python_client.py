@@ -595,12 +595,39 @@ def out_of_memory_says_what_was_carried_out():
         expect(session.scan(), [(1, "a")])
 
 
+@both_ways
+def a_class_with_replies_of_its_own_runs_by_them():
+    given = []
+
+    class Shown(betable().Session):
+        def replies(self, script):
+            given.append(script)
+            return b"none\n" if script == b"get 1\n" else super().replies(script)
+
+    with Shown() as session:
+        session.run(SCHEMA)
+        session.put(ROWS)
+        expect([reply.rows for reply in session.run("get 2\nget 3\n")], [[ROWS[1]], [ROWS[2]]])
+        expect((list(session.run("get 1\n")[0]), given), (["none"], [SCHEMA.encode(), b"get 2\nget 3\n", b"get 1\n"]))
+
+
 # A call of each kind.
 CALLS = [
-    lambda s: s.put(ROWS), lambda s: s.put({"id": [1], "city": ["Oslo"], "ok": [True], "raw": [b"\0"]}), lambda s: s.batch([betable().delete(99)]), lambda s: s.get(1),
-    lambda s: s.scan(), lambda s: s.scan(limit=1), lambda s: s.scan_columns(), lambda s: list(s.iterate()), lambda s: s.sums("by_city", 1, "id"), lambda s: s.columns(),
-    lambda s: s.usage(), lambda s: s.run("get 1\n"), lambda s: s.replies("get 1\n"), lambda s: s.is_lost,
-]  # fmt: skip
+    lambda s: s.put(ROWS),
+    lambda s: s.put({"id": [1], "city": ["Oslo"], "ok": [True], "raw": [b"\0"]}),
+    lambda s: s.batch([betable().delete(99)]),
+    lambda s: s.get(1),
+    lambda s: s.scan(),
+    lambda s: s.scan(limit=1),
+    lambda s: s.scan_columns(),
+    lambda s: list(s.iterate()),
+    lambda s: s.sums("by_city", 1, "id"),
+    lambda s: s.columns(),
+    lambda s: s.usage(),
+    lambda s: s.run("get 1\n"),
+    lambda s: s.replies("get 1\n"),
+    lambda s: s.is_lost,
+]
 
 
 @both_ways
@@ -629,7 +656,7 @@ def a_session_goes_through_a_pool_of_threads():
             session.upsert(key, add={"count": 1})
             expect((session.get(key), session.run(f"get {key}\n")[0].rows), ((key, before[1] + 1), [(key, before[1] + 1)]))
             session.put([(1_000 + number, number)])
-            expect(sum(count * total for total, count, _ in [(group[2], group[0], 0) for group in session.sums("by_count", 1, "count")]), sum(row[1] for row in session.scan()))
+            expect(sum(total for _, total, _ in session.sums("by_count", 1, "count")), sum(row[1] for row in session.scan()))
         time.sleep(0.001)
 
     with ThreadPoolExecutor(8) as pool:
@@ -686,6 +713,40 @@ def a_call_during_another_one_is_refused():
         expect((found[1:], session.scan()), ([wanted], ROWS))
 
 
+INTERRUPTED = """
+import signal, sys
+sys.path.insert(0, {path!r})
+import betable
+
+def interrupt(number, frame):
+    raise KeyboardInterrupt
+
+session, count = betable.Session(), 0
+session.table("id:int qty:int")
+session.put([(number, number) for number in range(100)])
+signal.signal(signal.SIGALRM, interrupt)
+for number in range(1500):
+    try:
+        signal.setitimer(signal.ITIMER_REAL, 0.00004 + number % 97 * 1e-6)
+        for _ in range(10_000):
+            session.get(5), session.is_lost, session.replies("get 5\\n"), session.sums("primary", 1, "qty", (5,), (6,))
+    except KeyboardInterrupt:
+        count += 1
+print(count, session.scan(limit=2), session.close())
+"""
+
+
+def interrupts_leave_a_session_free():
+    """Ctrl-C, at many places of calls by the extension and by ctypes: no call takes the session for good."""
+    for pure in "01":
+        code = INTERRUPTED.format(path=str(TOP / "clients/python"))
+        settings = {**os.environ, "BETABLE_LIBRARY": library(), "BETABLE_PURE": pure}
+        ended = subprocess.run([sys.executable, "-B", "-c", code], capture_output=True, text=True, env=settings)
+        expect((pure, ended.returncode, ended.stderr), (pure, 0, ""))
+        count, rest = ended.stdout.split(" ", 1)
+        expect((pure, int(count) > 1_400, rest), (pure, True, "[(0, 0), (1, 1)] None\n"))
+
+
 @both_ways
 def threads_without_a_lock_get_their_own_replies_or_a_fault():
     session, wrong, refused, rows = betable().Session(), [], [], 2_000
@@ -698,9 +759,11 @@ def threads_without_a_lock_get_their_own_replies_or_a_fault():
         while time.monotonic() < is_over:
             key = (key + 7) % rows
             for call, wanted in (
-                (lambda: session.run(f"get {key}\nscan primary\nfrom {key}\nto {key + 1}\ngo\n")[1].rows, [(key, key)]), (lambda: session.get(key), (key, key)),
-                (lambda: session.scan("primary", (key,), (key + 1,)), [(key, key)]), (lambda: session.sums("primary", 1, "qty", (key,), (key + 1,)), [(1, key, key)]),
-            ):  # fmt: skip
+                (lambda: session.run(f"get {key}\nscan primary\nfrom {key}\nto {key + 1}\ngo\n")[1].rows, [(key, key)]),
+                (lambda: session.get(key), (key, key)),
+                (lambda: session.scan("primary", (key,), (key + 1,)), [(key, key)]),
+                (lambda: session.sums("primary", 1, "qty", (key,), (key + 1,)), [(1, key, key)]),
+            ):
                 try:
                     found = call()
                 except RuntimeError as fault:
@@ -938,10 +1001,12 @@ TESTS_OF_TEXTS = [
     messages_that_are_alike_differ_by_their_values,
     the_reason_is_that_of_the_least_refusal,
     out_of_memory_says_what_was_carried_out,
+    a_class_with_replies_of_its_own_runs_by_them,
     a_closed_session_raises,
     a_session_goes_through_a_pool_of_threads,
     a_session_works_in_the_threads_of_asyncio,
     a_call_during_another_one_is_refused,
+    interrupts_leave_a_session_free,
     threads_without_a_lock_get_their_own_replies_or_a_fault,
     a_session_that_another_thread_drops_is_closed,
     usage_has_names_and_is_refused_without_a_tree,

@@ -235,14 +235,14 @@ def no_memory_is_kept_after_calls():
         lambda: client.Session().table("id:int"),
     ]  # fmt: skip
     for call in calls:
-        for count in (20, 200):
+        for count in (20, 1_000):
             gc.collect()
             before = sys.getallocatedblocks()
             for _ in range(count):
                 fault_of(call)
             gc.collect()
             kept = sys.getallocatedblocks() - before
-        expect((kept < 100, kept), (True, kept))
+        expect((kept < 500, kept), (True, kept))
 
 
 def other_threads_run_during_long_calls():
@@ -309,7 +309,7 @@ def the_extension_by_itself_says_what_uses_it():
         ended = subprocess.run([sys.executable, "-B", "-c", f"{code}caller.{call}\n"], capture_output=True, text=True)
         expect((call, ended.returncode), (call, 1))
         expect_within("RuntimeError: betable._packed is used by betable.session", ended.stderr)
-    for call in ("_know({})", "_know(5)", "_connect(1)", "_connect(1, 2, 3)", "_connect(1, 2, (1,))"):
+    for call in ("_know({})", "_know(5)", "_connect(1)", "_connect(1, 2, 3)", "_connect(1, 2, (1,))", "_connect(1, 2, (1,) * 8, 3)"):
         ended = subprocess.run([sys.executable, "-B", "-c", f"{code}caller.{call}\n"], capture_output=True, text=True)
         expect((call, ended.returncode), (call, 1))
         expect_within("TypeError", ended.stderr)

@@ -11,8 +11,9 @@
  * call are its own (from `taken` to `kept`), `is_ready` is asked directly before the library is called, and a reply is read directly after. Values are borrowed
  * from their rows only while no object is made and nothing of Python is called.
  *
- * One call at a time uses a session, of any thread. `is_in_call` is written while the interpreter lock is held. It is set while other threads run during a call
- * of the library, and from `_take` to `_give`, between which the plain class calls it. A call that finds it set goes to the plain class, which raises the fault.
+ * One call at a time uses a session, of any thread. The lock of the session is a flag, which is written while the interpreter lock is held. It is set while other
+ * threads run during a call of the library, and in the contexts in which the plain class calls it. A call that finds it set goes to the plain class, which raises
+ * the fault.
  */
 #define Py_LIMITED_API 0x030B0000
 #define PY_SSIZE_T_CLEAN
@@ -57,13 +58,18 @@ typedef struct {
 
 typedef struct {
     PyObject_HEAD
+    int is_taken;
+} call_lock;
+
+typedef struct {
+    PyObject_HEAD
     PyObject *owner; /* of the session's memory */
     betable_session *session;
     packed_call *apply, *get, *page, *sums;
     length_call *length, *reply_count;
     copy_call *copy;
     reply_call *reply;
-    int is_in_call;
+    call_lock *lock;
     PyObject *trees, *primary; /* the descriptions by their names, and that of the rows, or NULL */
     PyObject *shapes;          /* of upserts: the code and the column of each operation, as bytes */
     bytes_in_room room;
@@ -76,7 +82,7 @@ typedef struct {
     size_t name_length; /* with its byte of length */
 } tree;
 
-static PyObject *plain, *message_type;
+static PyObject *plain, *message_type, *lock_type;
 static PyObject *word_name, *shape_name, *values_name, *put_word, *del_word, *ups_word, *plan_name, *out_of_memory_name;
 static PyObject *names_of_scan[4], *names_of_sums[5];
 
@@ -605,7 +611,7 @@ static PyObject *as_columns(reader reply, const tree *there)
 
 static int is_ready(const caller *self)
 {
-    return !self->is_in_call && self->session != NULL && self->session->is_open;
+    return self->session != NULL && !self->lock->is_taken && self->session->is_open;
 }
 
 /* Calls the library. A call that is refused is for the plain class, which says why. */
@@ -616,11 +622,11 @@ static outcome called(caller *self, packed_call *call, const bytes_in_room *byte
     betable_fault fault;
     betable_status status;
     if (lets_others_run) {
-        self->is_in_call = 1;
+        self->lock->is_taken = 1;
         Py_BEGIN_ALLOW_THREADS
         status = call(self->session, bytes->at, bytes->length, &fault);
         Py_END_ALLOW_THREADS
-        self->is_in_call = 0;
+        self->lock->is_taken = 0;
     } else {
         status = call(self->session, bytes->at, bytes->length, &fault);
     }
@@ -1015,22 +1021,6 @@ static PyObject *call_sums(PyObject *object, PyObject *const *args, Py_ssize_t c
 
 /* ---- scripts ---- */
 
-static PyObject *take(PyObject *object, PyObject *none)
-{
-    (void)none;
-    caller *self = (caller *)object;
-    const int is_free = !self->is_in_call;
-    self->is_in_call = 1;
-    return PyBool_FromLong(is_free);
-}
-
-static PyObject *give(PyObject *object, PyObject *none)
-{
-    (void)none;
-    ((caller *)object)->is_in_call = 0;
-    Py_RETURN_NONE;
-}
-
 /* The places of the replies to the last script: of each its begin, its end, and whether its command was refused. */
 static PyObject *places_of_replies(PyObject *object, PyObject *none)
 {
@@ -1049,15 +1039,48 @@ static PyObject *places_of_replies(PyObject *object, PyObject *none)
     return places;
 }
 
-/* ---- the type ---- */
+/* ---- the types ---- */
 
-/* _connect(owner, address, addresses): the session, and the calls in the order of CALLS. */
+static PyObject *enter(PyObject *object, PyObject *none)
+{
+    (void)none;
+    call_lock *self = (call_lock *)object;
+    if (self->is_taken) {
+        PyErr_SetString(PyExc_RuntimeError, "the session is in a call, which another thread has just begun: one call at a time may use it");
+        return NULL;
+    }
+    self->is_taken = 1;
+    return Py_NewRef(object);
+}
+
+static PyObject *leave(PyObject *object, PyObject *const *args, Py_ssize_t count)
+{
+    (void)args;
+    (void)count;
+    ((call_lock *)object)->is_taken = 0;
+    Py_RETURN_NONE;
+}
+
+static PyObject *locked(PyObject *object, PyObject *none)
+{
+    (void)none;
+    return PyBool_FromLong(((call_lock *)object)->is_taken);
+}
+
+static void dealloc_lock(PyObject *object)
+{
+    PyTypeObject *type = Py_TYPE(object);
+    ((freefunc)PyType_GetSlot(type, Py_tp_free))(object);
+    Py_DECREF(type);
+}
+
+/* _connect(owner, address, addresses, lock): the session, the calls in the order of CALLS, and the lock of the session. */
 static PyObject *connect(PyObject *object, PyObject *const *args, Py_ssize_t count)
 {
     caller *self = (caller *)object;
     uintptr_t found[CALL_COUNT];
-    if (count != 3 || !PyTuple_Check(args[2]) || PyTuple_Size(args[2]) != CALL_COUNT) {
-        PyErr_SetString(PyExc_TypeError, "_connect takes the owner of a session, its address, and the addresses of CALLS");
+    if (count != 4 || !PyTuple_Check(args[2]) || PyTuple_Size(args[2]) != CALL_COUNT || (PyObject *)Py_TYPE(args[3]) != lock_type) {
+        PyErr_SetString(PyExc_TypeError, "_connect takes the owner of a session, its address, the addresses of CALLS, and a lock");
         return NULL;
     }
     betable_session *session = PyLong_AsVoidPtr(args[1]);
@@ -1066,8 +1089,9 @@ static PyObject *connect(PyObject *object, PyObject *const *args, Py_ssize_t cou
     PyObject *shapes = PyErr_Occurred() ? NULL : PyDict_New();
     if (shapes == NULL)
         return NULL;
-    PyObject *owner = self->owner, *earlier = self->shapes;
+    PyObject *owner = self->owner, *earlier = self->shapes, *lock = (PyObject *)self->lock;
     self->owner = Py_NewRef(args[0]);
+    self->lock = (call_lock *)Py_NewRef(args[3]);
     self->session = session;
     self->shapes = shapes;
     self->apply = (packed_call *)found[0];
@@ -1080,6 +1104,7 @@ static PyObject *connect(PyObject *object, PyObject *const *args, Py_ssize_t cou
     self->reply = (reply_call *)found[7];
     Py_XDECREF(owner);
     Py_XDECREF(earlier);
+    Py_XDECREF(lock);
     Py_RETURN_NONE;
 }
 
@@ -1112,6 +1137,7 @@ static void dealloc(PyObject *object)
     caller *self = (caller *)object;
     PyTypeObject *type = Py_TYPE(object);
     Py_XDECREF(self->owner);
+    Py_XDECREF((PyObject *)self->lock);
     Py_XDECREF(self->trees);
     Py_XDECREF(self->primary);
     Py_XDECREF(self->shapes);
@@ -1139,8 +1165,6 @@ static PyMethodDef methods[] = {
     {"_apply_columns", apply_columns, METH_O, "Whether the rows of columns were put, as one batch."},
     {"_scan_as_columns", FAST(scan_as_columns), METH_FASTCALL, "The columns of the rows of a scan: of ints their bytes, and lists of other values."},
     {"_page_rows", FAST(page_rows), METH_FASTCALL, "The rows of a page, of the name of its tree and its bytes, or None if it is refused."},
-    {"_take", take, METH_NOARGS, "Takes the session for calls of the library. Whether it was in none."},
-    {"_give", give, METH_NOARGS, "Ends what _take has begun."},
     {"_places", places_of_replies, METH_NOARGS, "The places of the replies to the last script."},
     {"_connect", FAST(connect), METH_FASTCALL, "Connects it with a session, by addresses."},
     {"_know", know, METH_O, "Takes the descriptions of all trees."},
@@ -1154,6 +1178,21 @@ static PyType_Slot slots[] = {
     {0, NULL},
 };
 
+static PyMethodDef methods_of_lock[] = {
+    {"__enter__", enter, METH_NOARGS, "Takes the lock."},
+    {"__exit__", FAST(leave), METH_FASTCALL, "Frees the lock."},
+    {"locked", locked, METH_NOARGS, "Whether the lock is taken."},
+    {NULL, NULL, 0, NULL},
+};
+
+static PyType_Slot slots_of_lock[] = {
+    {Py_tp_doc, (void *)(uintptr_t) "The lock of a session, as that of threading, which does not wait."},
+    {Py_tp_dealloc, dealloc_lock},
+    {Py_tp_methods, methods_of_lock},
+    {0, NULL},
+};
+
+static PyType_Spec spec_of_lock = {"betable._packed.Lock", sizeof(call_lock), 0, Py_TPFLAGS_DEFAULT, slots_of_lock};
 static PyType_Spec spec = {"betable._packed.Caller", sizeof(caller), 0, Py_TPFLAGS_DEFAULT | Py_TPFLAGS_BASETYPE, slots};
 
 /* ---- the module ---- */
@@ -1210,11 +1249,13 @@ PyMODINIT_FUNC PyInit__packed(void)
     plan_name = interned[6];
     out_of_memory_name = interned[7];
     PyObject *module = PyModule_Create(&definition), *type = PyType_FromSpec(&spec);
+    lock_type = PyType_FromSpec(&spec_of_lock);
     PyObject *calls =
         Py_BuildValue("(ssssssss)", "betable_apply", "betable_get", "betable_page", "betable_sums", "betable_replies_length", "betable_copy_replies",
                       "betable_reply_count", "betable_reply");
     /* With no object to add, an exception is set, as is wanted. */
-    if (module != NULL && (PyModule_AddObjectRef(module, "Caller", type) < 0 || PyModule_AddObjectRef(module, "CALLS", calls) < 0))
+    if (module != NULL && (PyModule_AddObjectRef(module, "Caller", type) < 0 || PyModule_AddObjectRef(module, "Lock", lock_type) < 0 ||
+                           PyModule_AddObjectRef(module, "CALLS", calls) < 0))
         Py_CLEAR(module);
     Py_XDECREF(type);
     Py_XDECREF(calls);

@@ -49,6 +49,12 @@ class Tree(NamedTuple):
 class Calls(ABC):
     """The calls on values. A class that derives from it gives `replies`, the bytes of the replies to a script, and `state`, what its scripts have made."""
 
+    def __init_subclass__(cls, **named: Any) -> None:
+        super().__init_subclass__(**named)
+        if "replies" in vars(cls) and "_replies_with_places" not in vars(cls):
+            # The library does not know replies that a class has of its own.
+            setattr(cls, "_replies_with_places", Calls._replies_with_places)
+
     @abstractmethod
     def replies(self, script: str | bytes) -> bytes:
         """The bytes of the replies to a script, whether commands are refused or not."""

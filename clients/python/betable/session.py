@@ -104,8 +104,8 @@ class PureSession(Calls):
     def __init__(self) -> None:
         global _library
         self._handle, self._fault, self._place = _Handle(), _Fault(), _ReplyPlace()
-        # While the library is in a call, the handle is the library's alone.
-        self._lock, self._is_open = threading.Lock(), False
+        # While the lock is taken, the handle is the library's alone.
+        self._lock, self._is_open = self._made_lock(), False
         self._state = State()
         self._room = ctypes.create_string_buffer(SHORT_REPLIES)
         _library = _library or _loaded_library()
@@ -122,7 +122,7 @@ class PureSession(Calls):
 
     def __del__(self) -> None:
         if self.__dict__.get("_is_open"):
-            self.close()
+            self._library.betable_close(self._handle)
 
     def __reduce__(self) -> tuple[Any, ...]:
         raise TypeError("a session cannot be copied or pickled: it is the owner of its table")
@@ -136,21 +136,19 @@ class PureSession(Calls):
         trees = [f"{name.decode()} ({'complete' if index.is_complete else 'building'})" for name, index in table.indexes.items()]
         return f"<betable.Session, open, {counted(len(table.columns), 'column')}{', indexes: ' + ', '.join(trees) if trees else ''}>"
 
-    def _begin(self) -> None:
-        """Begins calls of the library that belong together, up to `_give`: no other call may come in between."""
-        if not self._take():
+    def _made_lock(self) -> Any:
+        return threading.Lock()
+
+    def _calls(self) -> Any:
+        """The lock, for a `with` in which calls of the library that belong together are made. After `with` no interrupt leaves it taken."""
+        if self._lock.locked():
             raise RuntimeError("the session is in a call, of another thread or of this one: one call at a time may use it, so hold a lock during each")
+        return self._lock
+
+    def _open_handle(self) -> _Handle:
         if not self._is_open:
-            self._give()
             raise ValueError("the session is closed")
-
-    def _take(self) -> bool:
-        """Takes the session for a call, if it is in none."""
-        return self._lock.acquire(blocking=False)
-
-    def _give(self) -> None:
-        """Ends what `_take` has begun."""
-        self._lock.release()
+        return self._handle
 
     @property
     def state(self) -> State:
@@ -161,10 +159,9 @@ class PureSession(Calls):
     def close(self) -> None:
         """Drops the table. A session that is closed stays closed."""
         if self._is_open:
-            self._begin()
-            self._is_open = False
-            self._library.betable_close(self._handle)
-            self._give()
+            with self._calls():
+                self._is_open = False
+                self._library.betable_close(self._handle)
 
     def replies(self, script: str | bytes) -> bytes:
         """The bytes of the replies to a script, whether commands are refused or not."""
@@ -175,10 +172,10 @@ class PureSession(Calls):
 
     def _ran(self, script: bytes, with_places: bool) -> tuple[bytes, list[Place] | None]:
         """The bytes of the replies to a script, and their places if they are wanted."""
-        library, handle, places, is_lost = self._library, self._handle, None, False
+        library, places, is_lost = self._library, None, False
         defines = b"table" in script or b"index" in script or b"build" in script or b"drop" in script
-        self._begin()
-        try:
+        with self._calls():
+            handle = self._open_handle()
             status = library.betable_run(handle, script, len(script))
             replies = self._copied()
             if status != DONE:
@@ -187,8 +184,6 @@ class PureSession(Calls):
                 places = self._places()
             if defines:
                 self._note(script, replies, places)
-        finally:
-            self._give()
         if status != DONE:
             raise OutOfMemory(replies, status == REPLY_CUT, is_lost)
         return replies, places
@@ -225,10 +220,8 @@ class PureSession(Calls):
     @property
     def is_lost(self) -> bool:
         """Whether the table was lost as memory ran out."""
-        self._begin()
-        is_lost = bool(self._library.betable_is_lost(self._handle))
-        self._give()
-        return is_lost
+        with self._calls():
+            return bool(self._library.betable_is_lost(self._open_handle()))
 
     # ---- packed bytes ----
 
@@ -315,24 +308,21 @@ class PureSession(Calls):
     # Whether one batch was applied. If it was not, it cannot be packed or is refused, and nothing has changed.
 
     def _apply_rows(self, rows: list[Any]) -> bool:
-        return self._reply(self._library.betable_apply, packing(layout(self.state.table)).puts(rows)) is not None
+        return self._reply(self._library.betable_apply, packing(layout(self.state.table)).puts(rows), is_empty=True) is not None
 
     def _apply_messages(self, messages: list[Any]) -> bool:
-        return self._reply(self._library.betable_apply, packing(layout(self.state.table)).changes(messages)) is not None
+        return self._reply(self._library.betable_apply, packing(layout(self.state.table)).changes(messages), is_empty=True) is not None
 
     def _apply_columns(self, columns: list[Any]) -> bool:
         return self._apply_rows(rows_of_columns(columns))
 
-    def _reply(self, call: Callable[..., int], packed: bytes | None) -> bytes | None:
-        """The reply to a call on packed bytes. If there are none, or if they are refused, it is None, and nothing has changed."""
+    def _reply(self, call: Callable[..., int], packed: bytes | None, is_empty: bool = False) -> bytes | None:
+        """The reply to a call on packed bytes, which may be empty always. If there are no bytes, or if they are refused, it is None, and nothing has changed."""
         if packed is None:
             return None
-        self._begin()
-        try:
-            status = call(self._handle, packed, len(packed), self._fault)
-            reply = self._copied() if status == DONE else None
-        finally:
-            self._give()
+        with self._calls():
+            status = call(self._open_handle(), packed, len(packed), self._fault)
+            reply = None if status != DONE else b"" if is_empty else self._copied()
         if status == OUT_OF_MEMORY:
             self._raise_out_of_memory()
         return reply
@@ -413,7 +403,10 @@ else:
         def _connect_calls(self) -> None:
             """Gives the extension the calls of the library that ctypes has loaded."""
             addresses = [ctypes.cast(getattr(self._library, name), ctypes.c_void_p).value for name in _packed.CALLS]
-            self._connect(self._handle, ctypes.addressof(self._handle), tuple(addresses))
+            self._connect(self._handle, ctypes.addressof(self._handle), tuple(addresses), self._lock)
+
+        def _made_lock(self) -> Any:
+            return _packed.Lock()
 
         def _note(self, script: bytes, replies: bytes, places: list[Place] | None) -> None:
             super()._note(script, replies, places)

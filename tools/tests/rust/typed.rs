@@ -1,12 +1,14 @@
 //! Typed calls beside scripts that do the same, and wrong typed calls.
 //!
-//!     typed changes | reads | pages | sums | usage | wrong | allocations
+//!     typed changes | reads | pages | sums | usage | wrong | allocations | replies | threads
 //!
 //! The status is not 0 if what the word names does not hold, and a line says where.
 
 use betable::{Fault, FromValue, Group, Kind, Op, Packer, Refusal, Reply, Row, Session, Sum, Usage, Value, Values, quoted};
 use std::alloc::{GlobalAlloc, Layout, System};
 use std::sync::atomic::{AtomicUsize, Ordering};
+use std::sync::{Arc, Mutex};
+use std::thread;
 
 const TABLE: &str = "table 4 6 3 2 id:int city:text qty:int ok:flag hash:bytes\nindex by_city on city,hash include qty\nbuild by_city 1\n";
 const CITIES: [&str; 12] = ["", "Oslo", "Bergen, west", "\"", "a\"b", " x ", "\u{feff}", "end", "æøå", "\0", "\0\u{1}", "go"];
@@ -572,6 +574,88 @@ fn check_allocations() -> Result<(), Fault> {
     Ok(())
 }
 
+/// The replies to scripts, beside those to each command by itself: texts with line breaks and quotes, and words of replies inside of texts.
+fn check_replies() -> Result<(), Fault> {
+    let texts = ["rows 1", "a\nrows 2\nrow x", "q\"\nsums 3\n\"", "end\nend", "\nrow 1,x\nrows 1", "refused 1 Syntax"];
+    let commands = [
+        "scan primary\ngo\n",
+        "get 1\n",
+        "nothing\n",
+        "scan by_text\ngo\n",
+        "image primary\n",
+        "sums by_text 1 id\ngo\n",
+        "get 9\n",
+        "scan nope\ngo\n",
+        "drain primary\n",
+        "batch\nend\n",
+        "batch\nput x,y\nend\n",
+    ];
+    let records: String = texts.iter().enumerate().map(|(id, text)| format!("{id},{}\n", quoted(text))).collect();
+    let script = format!("table 4 64 16 1 id:int text:text\nload\nid,text\n{records}.\nindex by_text on text\nbuild by_text 10\n");
+    let (mut session, mut other, mut random) = (Session::new()?, Session::new()?, Random(7));
+    for one in [&mut session, &mut other] {
+        assert_eq!(one.run(script.as_bytes())?.iter().count(), 4);
+    }
+    assert_eq!(session.run(b"")?.iter().next(), None);
+    for _ in 0..100 {
+        let chosen: Vec<&str> = (0..random.below(8)).map(|_| random.of(&commands)).collect();
+        let found: Vec<Reply> = session.run(chosen.concat().as_bytes())?.iter().collect();
+        let mut alone = Vec::new();
+        for command in &chosen {
+            alone.extend(other.run(command.as_bytes())?.iter());
+        }
+        assert_eq!((found.len(), found), (chosen.len(), alone), "{chosen:?}");
+    }
+    let rows = |reply| match reply {
+        Some(Reply::Rows(rows)) => rows.into_iter().map(|row| row[1].clone()).collect(),
+        _ => Vec::new(),
+    };
+    assert_eq!(rows(session.run(b"scan primary\ngo\n")?.iter().next()), texts);
+    let refused: Vec<bool> = session.run(b"get 5\nget x\n")?.iter().map(|reply| matches!(reply, Reply::Refused(_))).collect();
+    assert_eq!(refused, [false, true]);
+    Ok(())
+}
+
+/// A session that is opened in one thread, used by four under a lock, and closed in another one.
+fn check_threads() -> Result<(), Fault> {
+    let opened = thread::spawn(|| -> Result<Session, Fault> {
+        let mut session = Session::new()?;
+        session.run(b"table 4 6 3 1 id:int count:int\nindex by_count on count\n")?;
+        Ok(session)
+    });
+    let shared = Arc::new(Mutex::new(opened.join().unwrap()?));
+    let threads: Vec<_> = (0..4)
+        .map(|number| {
+            let shared = Arc::clone(&shared);
+            thread::spawn(move || -> Result<(), Fault> {
+                for turn in 0..250i64 {
+                    let mut session = shared.lock().unwrap();
+                    session.upsert(&(turn % 7), &[Op::Add("count", 1)])?;
+                    session.put(&[(100 + 4 * turn + number, -turn)])?;
+                    session.run(b"build by_count 5\n")?;
+                }
+                Ok(())
+            })
+        })
+        .collect();
+    for one in threads {
+        one.join().unwrap()?;
+    }
+    let mut session = Arc::into_inner(shared).unwrap().into_inner().unwrap();
+    let closed = thread::spawn(move || -> Result<(), Fault> {
+        let mut rows = session.scan("primary", &(), &())?;
+        let (mut count, mut total) = (0, 0);
+        while let Some(row) = rows.next()? {
+            let (id, counted): (i64, i64) = row.try_into()?;
+            count += 1;
+            total += if id < 7 { counted } else { 0 };
+        }
+        assert_eq!((count, total), (1007, 1000));
+        Ok(())
+    });
+    closed.join().unwrap()
+}
+
 fn main() -> Result<(), Fault> {
     match std::env::args().nth(1).as_deref() {
         Some("changes") => check_changes(),
@@ -585,6 +669,8 @@ fn main() -> Result<(), Fault> {
             check_wrong_calls()
         }
         Some("allocations") => check_allocations(),
-        _ => panic!("changes, reads, pages, sums, usage, wrong or allocations"),
+        Some("replies") => check_replies(),
+        Some("threads") => check_threads(),
+        _ => panic!("changes, reads, pages, sums, usage, wrong, allocations, replies or threads"),
     }
 }
