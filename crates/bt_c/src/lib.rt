@@ -44,6 +44,13 @@ pub use session::{Question, Session};
 pub use status::Status;
 use std::alloc::Global;
 
+// A value that may go to another thread, as a handle may.
+fn sent<T: Send>(value: T) -> T
+    ensures { result ≡ value }
+{
+    value
+}
+
 /// Opens a session that has no table. A handle that has a session keeps it.
 #[unsafe(no_mangle)]
 pub extern "C" fn betable_open(alloc: Global, handle: &mut Handle) -> u32
@@ -58,7 +65,7 @@ pub extern "C" fn betable_open(alloc: Global, handle: &mut Handle) -> u32
     let Ok(session) = Box::new(alloc, Session::new(alloc)) else {
         return Status::OutOfMemory.code();
     };
-    *handle = Handle::of(session);
+    *handle = sent(Handle::of(session));
     Status::Done.code()
 }
 

@@ -15,10 +15,10 @@ use Rattle.bt_c.specs.Owned.{owned}
 use Rattle.bt_c.specs.contracts.session.Session as session
 use Rattle.bt_c.specs.contracts.slot.Slot.{the_row, the_type}
 use Rattle.bt_c.specs.declared.session.Session.{Session}
-use Rattle.bt_c.proofs.session.Session.TheSendSync.{the_send}
+use Rattle.bt_c.proofs.Crossing as crossing
 
 box_keyless : (at : Ptr) (heap : Global) (value : Session) → Keyless (box_owns (ghosts.dealloc_token heap) session.the_row at value)
-box_keyless (block_ptr b o) heap value = (part_keyless session.the_row the_send full_share value b o, frees.frees heap (raw (lone session.the_row.mir)) (block_ptr b o))
+box_keyless (block_ptr b o) heap value = (part_keyless session.the_row crossing.session full_share value b o, frees.frees heap (raw (lone session.the_row.mir)) (block_ptr b o))
 box_keyless null_ptr heap value = (tt, frees.frees heap (raw (lone session.the_row.mir)) null_ptr)
 
 owned_keyless : (at : Ptr) (heap : Global) (value : Option Session) → Keyless (owned at heap value)

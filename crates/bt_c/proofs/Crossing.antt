@@ -1,0 +1,49 @@
+-- A session may go to another thread: its table has trees of rows and of entries, which have no part that belongs to a thread. Serves the slot of a session.
+use denote.Param.Send.{IsSend, recorded_send, sendable, struct_send, view_send}
+use denote.Struct.Declared.{shape}
+use Rattle.std.proofs.Crossing.{Vec-send, crosses}
+use Rattle.bt_row.proofs.change.Change.TheSendSync as change
+use Rattle.bt_row.proofs.row.Row.TheSendSync as row
+use Rattle.bt_row.proofs.schema.Schema.TheSendSync as schema
+use Rattle.bt_row.specs.contracts.change.Change as Change
+use Rattle.bt_row.specs.contracts.row.Row as Row
+use Rattle.bt_keycode.proofs.key.Key.TheSendSync as key
+use Rattle.bt_messages.proofs.bins.Bins.TheSendSync as bins
+use Rattle.bt_messages.proofs.entry.Entry.TheSendSync as entry
+use Rattle.bt_messages.specs.contracts.entry.Entry as Entry
+use Rattle.bt_messages.specs.contracts.entry.EntryMerge.TheImpl as EntryMerge
+use Rattle.bt_messages.specs.contracts.message.RowMerge.TheImpl as RowMerge
+use Rattle.bt_node.proofs.form.node.Node.TheLaws.TheKnot as knot
+use Rattle.bt_node.proofs.form.rows.Rows.TheSendSync as rows
+use Rattle.bt_node.proofs.form.shape.Shape.TheSendSync as shape_of_nodes
+use Rattle.bt_node.specs.contracts.tree.Tree as Tree
+use Rattle.bt_table.proofs.index.IndexHead.TheSendSync as head
+use Rattle.bt_table.specs.contracts.index.IndexHead as IndexHead
+use Rattle.bt_table.specs.contracts.table.Table as Table
+use Rattle.bt_table.specs.contracts.table.Table.TheInside as inside
+use Rattle.bt_table.specs.contracts.trees.Trees as Trees
+use Rattle.bt_c.proofs.reply.ReplyMark.TheSendSync as mark
+use Rattle.bt_c.specs.contracts.reply.ReplyMark as ReplyMark
+use Rattle.bt_c.specs.contracts.session.Session as Session
+
+row_tree : IsSend (Tree.the_row Row.the_row Change.the_row RowMerge.ghosts)
+row_tree = search (crosses, knot.crosses, sendable, key.the_send, bins.the_send, rows.the_send, shape_of_nodes.the_send, change.the_send, row.the_send) depth 60 fits 20000
+
+entry_tree : IsSend (Tree.the_row Entry.the_row Entry.the_row EntryMerge.ghosts)
+entry_tree = search (crosses, knot.crosses, sendable, key.the_send, bins.the_send, rows.the_send, shape_of_nodes.the_send, entry.the_send) depth 60 fits 20000
+
+trees : IsSend Trees.the_row
+trees = recorded_send Trees.the_field.row _ _ (Trees.the_type).to_one (struct_send (shape Trees.the_type) (row_tree, (Vec-send _ entry_tree, tt)))
+
+parts : IsSend inside.the_row
+parts =
+    recorded_send inside.the_field.row _ _ (inside.the_type).to_one
+    (struct_send (shape inside.the_type) (schema.the_send, (Vec-send IndexHead.the_row head.the_send, (search (sendable, trees) depth 20, tt))))
+
+table : IsSend Table.the_row
+table = view_send _ _ _ _ _ parts
+
+pub session : IsSend Session.the_row
+session =
+    recorded_send Session.the_field.row _ _ (Session.the_type).to_one
+    (struct_send (shape Session.the_type) (search (sendable, table) depth 20, (search (crosses, sendable) depth 20, (search sendable, (Vec-send ReplyMark.the_row mark.the_send, tt)))))
