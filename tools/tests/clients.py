@@ -13,7 +13,7 @@ import threading
 from functools import cache, wraps
 from pathlib import Path
 
-from common import Failure, expect, expect_within, SECONDS, TOP
+from common import Failure, expect, expect_within, SECONDS, TOP, type_of_fault
 
 from betable import language
 
@@ -308,7 +308,7 @@ def rows_come_as_they_went():
         expect(session.scan(), sorted(rows))
         session.batch([client.upsert(row[0], min={"least": 1}, max={"greatest": 5}) for row in rows])
         expect([session.get(row[0])[1:] for row in rows], [(1, 5), (-1, 7), (0, 5)])
-        expect(fault_of(lambda: client.upsert(b"", most={"greatest": 1})), TypeError)
+        expect(type_of_fault(lambda: client.upsert(b"", most={"greatest": 1})), TypeError)
 
 
 def texts_that_no_line_has_are_told():
@@ -316,7 +316,7 @@ def texts_that_no_line_has_are_told():
     with client.Session() as session:
         session.run("table 16 64 16 1 id:text name:text\n")
         for call in (lambda: session.put([("a", "b\nc")]), lambda: session.get("\r"), lambda: session.load([("a", "b\n.\nc")])):
-            expect(fault_of(call), client.RowValueError)
+            expect(type_of_fault(call), client.RowValueError)
         expect(session.scan(), [])
 
 
@@ -332,17 +332,8 @@ def refusals_have_line_and_name():
             expect_within("line 3: refused 6 BadField 2", str(refused))
         else:
             expect("no fault", "Refused")
-        expect(fault_of(lambda: session.put([(1, "a"), (2**63, "b")])), client.Refused)
+        expect(type_of_fault(lambda: session.put([(1, "a"), (2**63, "b")])), client.Refused)
         expect(session.scan(), [])
-
-
-def fault_of(call):
-    """The type of what a call raises."""
-    try:
-        call()
-    except Exception as fault:
-        return type(fault)
-    return None
 
 
 def wrong_use_is_answered():
@@ -351,7 +342,7 @@ def wrong_use_is_answered():
     session = betable().Session()
     session.close()
     session.close()
-    expect([fault_of(lambda: session.run("get 1\n")), fault_of(lambda: session.is_lost)], [ValueError, ValueError])
+    expect([type_of_fault(lambda: session.run("get 1\n")), type_of_fault(lambda: session.is_lost)], [ValueError, ValueError])
 
 
 def moved_session():

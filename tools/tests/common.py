@@ -35,6 +35,19 @@ def expect_within(part, whole):
         raise Failure(f"no {part!r} in {whole!r}")
 
 
+def fault_of(call):
+    """What a call raises, or None."""
+    try:
+        call()
+    except Exception as fault:
+        return fault
+    return None
+
+
+def type_of_fault(call):
+    return type(fault_of(call))
+
+
 def run(*words, given=b"", folder=TOP, seconds=SECONDS):
     """The status, the standard output and the standard error of a command of the repository."""
     ended = subprocess.run([TOP / words[0], *words[1:]], input=given, capture_output=True, cwd=folder, timeout=seconds)

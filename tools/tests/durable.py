@@ -16,7 +16,7 @@ from contextlib import contextmanager
 from pathlib import Path
 
 from clients import betable, library
-from common import expect, expect_within, SECONDS, TOP
+from common import expect, expect_within, fault_of, SECONDS, TOP
 
 TABLE = "table 4 3 2 1 id:int city:text qty:int\n"
 ADD = "batch\nups 1,add,qty,1\nend\n"
@@ -43,15 +43,6 @@ def durable():
 def folder():
     with tempfile.TemporaryDirectory() as path:
         yield Path(path)
-
-
-def fault_of(call):
-    """What a call raises."""
-    try:
-        call()
-    except Exception as fault:
-        return fault
-    return None
 
 
 def expect_fault(kind, call, *words):

@@ -13,8 +13,8 @@ import tempfile
 from functools import cache
 from pathlib import Path
 
-from clients import fault_of, library
-from common import SECONDS, TOP, expect, expect_within, imported
+from clients import library
+from common import SECONDS, TOP, expect, expect_within, imported, type_of_fault
 
 PYTHON = "/usr/bin/python3"
 TABLE = "table 16 64 16 1 id:int city:text qty:int\n"
@@ -134,8 +134,8 @@ def bounds_are_keys_of_the_table():
             expect(table.replies("table 3 1 2 1 id:int\n"), b"refused 20 BadShape\n")
             expect_within(part, str(raised(package.sharded.NotSharded, lambda table=table: table.replies(TABLE))))
             expect(table.replies("get 1\n"), b"refused 3 NoTable\n")
-    expect(fault_of(lambda: package.sharded.Sharded([package.shards.LocalShard()], [(1,)])), ValueError)
-    expect(fault_of(lambda: package.sharded.Sharded([], [])), ValueError)
+    expect(type_of_fault(lambda: package.sharded.Sharded([package.shards.LocalShard()], [(1,)])), ValueError)
+    expect(type_of_fault(lambda: package.sharded.Sharded([], [])), ValueError)
 
 
 def calls_on_shards_are_those_of_a_session():
@@ -167,7 +167,7 @@ def a_killed_shard_loses_the_table():
         expect(table.replies("get 1\n"), b"none\n")
         lost = raised(package.sharded.ShardLost, lambda: table.replies("batch\nput 1,a,1\nput 11,a,1\nend\n"))
         expect((lost.shard, table.is_lost, pickle.loads(pickle.dumps(lost)).shard), (1, True, 1))
-        expect(fault_of(lambda: table.replies("get 1\n")), package.sharded.ShardLost)
+        expect(type_of_fault(lambda: table.replies("get 1\n")), package.sharded.ShardLost)
 
 
 def a_durable_table_makes_its_shards_again():
@@ -181,7 +181,7 @@ def shards_are_started_by_a_command():
     shard = package.shards.ProcessShard(["env", sys.executable, "-P", "-m", "betable.shard"])
     with package.sharded.Sharded([package.shards.LocalShard(), shard], [(10,)]) as table:
         expect(table.replies(TABLE + "batch\nput 1,a,1\nput 11,b,1\nend\nscan primary\ngo\n"), b"table 3\nbatch 2\nrow 1,a,1\nrow 11,b,1\nrows 2\n")
-    expect((fault_of(lambda: table.replies("get 1\n")), fault_of(table.scan)), (ValueError, ValueError))
+    expect((type_of_fault(lambda: table.replies("get 1\n")), type_of_fault(table.scan)), (ValueError, ValueError))
     for command in (["echo", "welcome"], ["echo", "done 5"], ["true"], ["cat"]):
         with package.sharded.Sharded([package.shards.LocalShard(), package.shards.ProcessShard(command)], [(10,)]) as table:
             expect((raised(package.sharded.ShardLost, lambda table=table: table.replies(TABLE)).shard, table.is_lost), (1, True))
@@ -267,7 +267,7 @@ def requests_are_run_once():
         one.replies(TABLE)
         wanted = b"batch 1\nrow 1,,1\n"
         expect([replica.once("r", add) for replica in (one, two, one)], [wanted] * 3)
-        expect(fault_of(lambda: two.once("r", "get 1\n")), package.durable.RequestReused)
+        expect(type_of_fault(lambda: two.once("r", "get 1\n")), package.durable.RequestReused)
         # The script is in the log, and the caller gets no reply. It sends the request again, to any replica.
         log.failures = [package.logs.Unreachable("gone")]
         fault = raised(package.replicas.Unanswered, lambda: two.replies(add))
@@ -283,7 +283,7 @@ def requests_are_run_once():
             expect(three.once("r", add), wanted)
             for number in range(package.replicas.MOST_OUTCOMES):
                 three.once(str(number), "get 1\n")
-            expect(fault_of(lambda: three.once("r", add)), package.replicas.ReplyForgotten)
+            expect(type_of_fault(lambda: three.once("r", add)), package.replicas.ReplyForgotten)
 
 
 def reads_see_what_they_say():
@@ -311,12 +311,12 @@ def a_log_that_lost_scripts_is_noticed():
     one.run(TABLE)
     one.put([(1, "a", 1)])
     log.scripts.pop()
-    expect(fault_of(one.catch_up), diverged)
-    expect((fault_of(lambda: one.put([(1, "a", 1)])), one.is_lost, len(log.scripts)), (diverged, True, 1))
+    expect(type_of_fault(one.catch_up), diverged)
+    expect((type_of_fault(lambda: one.put([(1, "a", 1)])), one.is_lost, len(log.scripts)), (diverged, True, 1))
     log, one, _ = prepared()
     one.run(TABLE)
     log.scripts.pop()
-    expect(fault_of(lambda: one.once("r", "drain primary\n")), diverged)
+    expect(type_of_fault(lambda: one.once("r", "drain primary\n")), diverged)
     # The log has lost a script, and another one is in its place: what comes next shows it.
     log, one, two = prepared()
     one.run(TABLE)
@@ -324,12 +324,12 @@ def a_log_that_lost_scripts_is_noticed():
     log.scripts.pop()
     two.replies("drain primary\n")
     two.put([(2, "b", 1)])
-    expect(fault_of(one.catch_up), diverged)
+    expect(type_of_fault(one.catch_up), diverged)
     # What was trimmed without a checkpoint.
     log, one, two = prepared()
     one.run(TABLE)
     log.trimmed = 1
-    expect(fault_of(two.catch_up), diverged)
+    expect(type_of_fault(two.catch_up), diverged)
 
 
 def a_replica_that_fails_begins_again():
@@ -356,7 +356,7 @@ def a_replica_that_fails_begins_again():
         expect((type(fault.__cause__), one.is_lost), (package.OutOfMemory, False))
         expect((one.get(1), len(sessions)), ((1, "a", 1), 2))
         expect(one.once(fault.request_id, "batch\nput 1,a,1\nend\n"), b"batch 1\n")
-    expect(fault_of(lambda: one.replies("get 1\n")), ValueError)
+    expect(type_of_fault(lambda: one.replies("get 1\n")), ValueError)
 
 
 def replicas_may_have_shards():
@@ -375,8 +375,8 @@ def replicas_may_have_shards():
 def logs_are_named_by_urls():
     log_of = betable().logs.log_of
     for url, name in (("http://127.0.0.1", "betable"), ("betable", "betable"), ("redis://127.0.0.1", "a b"), ("redis://127.0.0.1", "A")):
-        expect(fault_of(lambda url=url, name=name: log_of(url, name)), ValueError)
-    expect(fault_of(lambda: betable().replicas.Replicas(Log(), reads="old")), ValueError)
+        expect(type_of_fault(lambda url=url, name=name: log_of(url, name)), ValueError)
+    expect(type_of_fault(lambda: betable().replicas.Replicas(Log(), reads="old")), ValueError)
 
 
 def replicas_over_redis_are_killed_and_come_back():

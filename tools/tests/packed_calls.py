@@ -11,7 +11,7 @@ import struct
 import subprocess
 from textwrap import dedent
 
-from common import expect, expect_within, SECONDS, TOP
+from common import expect, expect_within, fault_of, SECONDS, TOP
 from clients import OtherLibrary, betable, both_ways, build_extension, c_program, HERE, is_installed, library, library_without_memory, worked_scripts
 
 from betable import language
@@ -921,14 +921,6 @@ def random_bytes_are_refused_or_answered_as_they_say():
 
 
 # ---- the client ----
-
-
-def fault_of(call):
-    try:
-        call()
-    except Exception as fault:
-        return fault
-    return None
 
 
 REFUSED_CALLS = [

@@ -22,7 +22,7 @@ import uuid
 from concurrent.futures import ThreadPoolExecutor
 from pathlib import Path
 
-from common import expect, expect_within, TABLE, TOP
+from common import expect, expect_within, fault_of, TABLE, TOP
 from clients import OtherLibrary, betable, both_ways, build_extension, library, library_without_memory
 
 SCHEMA = "table 16 64 16 1 id:int city:text ok:flag raw:bytes\nindex by_city on city include ok\nbuild by_city 100\n"
@@ -338,14 +338,6 @@ def names_are_never_a_piece_of_a_script():
                 kinds = [parameter.VAR_POSITIONAL, parameter.POSITIONAL_OR_KEYWORD] + [parameter.VAR_KEYWORD] * (name == "upsert")
                 expect((name, parameter.kind in kinds or parameter.name == "self"), (name, True))
             expect((name, fault_of(lambda: call(session)) is not None, content(session)), (name, True, before))
-
-
-def fault_of(call):
-    try:
-        call()
-    except Exception as fault:
-        return fault
-    return None
 
 
 # ---- values of all types ----

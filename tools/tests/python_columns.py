@@ -6,21 +6,13 @@ import tempfile
 from array import array
 from pathlib import Path
 
-from common import expect, expect_within
+from common import expect, expect_within, fault_of
 from clients import betable, both_ways, build_extension, library
 
 COLUMNS = "id:int city:text ok:flag raw:bytes qty:int"
 NAMES = ["id", "city", "ok", "raw", "qty"]
 TEXTS = ["", "Oslo", "Bergen, west", '"', ".", "\ufeff", "æ" * 127, "x" * 255]
 BINARIES = [b"", b"\0", b"\n", b"x" * 255]
-
-
-def fault_of(call):
-    try:
-        call()
-    except Exception as fault:
-        return fault
-    return None
 
 
 def installed(name):

@@ -14,7 +14,7 @@ import time
 from array import array
 from pathlib import Path
 
-from common import expect, expect_within, TOP
+from common import expect, expect_within, fault_of, TOP
 from clients import OtherLibrary, betable, build_extension, library, say_once
 
 ROWS = [(number, f"city{number % 7}", number % 2 == 0, bytes([number]), number - 5) for number in range(40)]
@@ -33,14 +33,6 @@ def filled():
     session.index("by_city", "city", "qty")
     session.put(ROWS)
     return session
-
-
-def fault_of(call):
-    try:
-        call()
-    except Exception as fault:
-        return fault
-    return None
 
 
 def reads(session):
