@@ -6,7 +6,10 @@
 //! columns, are a typed call in one session; every other command is run as it is. After each command both sessions have the same replies, and the same images
 //! of all trees. Prints the number of typed calls of each kind.
 
+mod fields;
+
 use betable::{Fault, Op, Reply, Row, Session, Sum, Value};
+use fields::field;
 use std::collections::BTreeSet;
 
 /// The columns of a table, as its line says.
@@ -64,10 +67,6 @@ fn bytes_of(digits: &str) -> Option<Vec<u8>> {
         _ => None,
     };
     digits.as_bytes().chunks(2).map(byte).collect::<Option<Vec<u8>>>().filter(|bytes| bytes.len() <= 255)
-}
-
-fn hexadecimal(bytes: &[u8]) -> String {
-    bytes.iter().map(|byte| format!("{byte:02x}")).collect()
 }
 
 fn values(owned: &[Owned]) -> Vec<Value<'_>> {
@@ -144,15 +143,6 @@ impl<'t> Table<'t> {
             bounds[place] = self.values(&fields, fields.len().min(self.keys))?;
         }
         Some(bounds)
-    }
-}
-
-fn field(value: Value<'_>) -> String {
-    match value {
-        Value::Int(number) => number.to_string(),
-        Value::Text(text) => text.to_string(),
-        Value::Flag(is_set) => is_set.to_string(),
-        Value::Bytes(bytes) => hexadecimal(bytes),
     }
 }
 

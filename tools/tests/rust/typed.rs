@@ -4,7 +4,10 @@
 //!
 //! The status is not 0 if what the word names does not hold, and a line says where.
 
+mod fields;
+
 use betable::{Fault, FromValue, Group, Kind, Op, Packer, Refusal, Reply, Row, Session, Sum, Usage, Value, Values, quoted};
+use fields::{field, hexadecimal};
 use std::alloc::{GlobalAlloc, Layout, System};
 use std::sync::atomic::{AtomicUsize, Ordering};
 use std::sync::{Arc, Mutex};
@@ -80,20 +83,6 @@ impl Values for City {
 impl City {
     fn key(self) -> (i64, &'static str) {
         (self.id, self.name)
-    }
-}
-
-fn hexadecimal(bytes: &[u8]) -> String {
-    bytes.iter().map(|byte| format!("{byte:02x}")).collect()
-}
-
-/// The text of a value in a reply.
-fn field(value: Value<'_>) -> String {
-    match value {
-        Value::Int(number) => number.to_string(),
-        Value::Text(text) => text.to_string(),
-        Value::Flag(is_set) => is_set.to_string(),
-        Value::Bytes(bytes) => hexadecimal(bytes),
     }
 }
 
