@@ -75,7 +75,7 @@ typedef struct {
     uint64_t column;
 } betable_fault;
 
-/* What a command of a script did. */
+/* What a command of a script did, or what it would do, after betable_check. */
 typedef enum {
     /* It was carried out, and is one that reads: get, scan, sums or image. */
     BETABLE_READ = 0,
@@ -90,7 +90,7 @@ typedef struct {
     /* The place of its first byte, counted from 0, and the number of its bytes. */
     uint64_t offset;
     uint64_t length;
-    /* What its command did: a betable_reply_kind. */
+    /* What its command did, or would do: a betable_reply_kind. */
     uint32_t kind;
 } betable_reply_place;
 
@@ -99,6 +99,13 @@ betable_status betable_open(betable_session *session) BETABLE_NOT_NULL;
 
 /* Carries out the commands of a script on the session's table. Their replies replace the previous ones. DONE, OUT_OF_MEMORY, REPLY_CUT or NOT_OPEN. */
 betable_status betable_run(betable_session *session, const unsigned char *script, size_t length) BETABLE_NOT_NULL;
+
+/* Finds which commands of a script would be refused, each by itself, on the table as it is. None is carried out, and nothing changes. So no command is judged
+ * with the effects of those before it: without a table, each command except `table` would be refused. Afterwards betable_reply_count is the number of commands.
+ * betable_reply has for each the kind that a run of this command alone would give it, with offset 0 and length 0. The replies are empty, and
+ * betable_refused_count is 0. The rows of a load are read, checked and dropped, so that the call takes as much memory as the load. DONE, OUT_OF_MEMORY or
+ * NOT_OPEN. After OUT_OF_MEMORY betable_reply_count is 0. */
+betable_status betable_check(betable_session *session, const unsigned char *script, size_t length) BETABLE_NOT_NULL;
 
 /* The calls on packed bytes do what commands do, without text in between. Packed bytes begin with the letters BTV, the version of the layout, 1, and a number of
  * four bytes. Numbers are little endian, there is no padding, and there are no pointers. A value has the kind of its column: an int is eight bytes; a text, or
@@ -144,20 +151,21 @@ betable_status betable_columns(betable_session *session, const unsigned char *na
    delete a row of a leaf, so the first number is not that of the tree's rows. All nodes are read. DONE, OUT_OF_MEMORY, NOT_OPEN or REFUSED. */
 betable_status betable_usage(betable_session *session, const unsigned char *name, size_t length, betable_fault *fault) BETABLE_NOT_NULL;
 
-/* The number of bytes of the replies to the last script, or to the last call on packed bytes. 0 if the session is not open. */
+/* The number of bytes of the replies to the last script, or to the last call on packed bytes. 0 after betable_check, and if the session is not open. */
 size_t betable_replies_length(betable_session *session) BETABLE_NOT_NULL;
 
 /* Copies the bytes of these replies from a place on, as many as there are and as fit, and returns their number. The replies are kept. */
 size_t betable_copy_replies(betable_session *session, size_t from, unsigned char *out, size_t room) BETABLE_NOT_NULL;
 
-/* The number of commands of the last script that were refused. 0 if the session is not open, and after a run that was not DONE. */
+/* The number of commands of the last script that were refused. 0 if the session is not open, after a run that was not DONE, and after betable_check. */
 size_t betable_refused_count(betable_session *session) BETABLE_NOT_NULL;
 
-/* The number of replies to the last script: one for each of its commands. 0 if the session is not open, after a run that was not DONE, and after a call on packed
-   bytes. */
+/* The number of replies to the last script, or of commands that betable_check has checked: one for each command. 0 if the session is not open, after a run or a
+   check that was not DONE, and after a call on packed bytes. */
 size_t betable_reply_count(betable_session *session) BETABLE_NOT_NULL;
 
-/* Tells where the reply at a place, counted from 0, is among these replies, and what its command did. False if there is none; then nothing is written. */
+/* Tells where the reply at a place, counted from 0, is among these replies, and what its command did, or would do. False if there is none; then nothing is
+   written. */
 bool betable_reply(betable_session *session, size_t place, betable_reply_place *reply) BETABLE_NOT_NULL;
 
 /* Whether the table was lost because an allocation failed while it was changed. A lost table stays lost, and each command on it except `table` has the reply

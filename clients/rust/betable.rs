@@ -65,6 +65,7 @@ struct ReplyPlace {
 extern "C" {
     fn betable_open(session: *mut Handle) -> u32;
     fn betable_run(session: *mut Handle, script: *const u8, length: usize) -> u32;
+    fn betable_check(session: *mut Handle, script: *const u8, length: usize) -> u32;
     fn betable_apply(session: *mut Handle, changes: *const u8, length: usize, fault: *mut CallFault) -> u32;
     fn betable_get(session: *mut Handle, key: *const u8, length: usize, fault: *mut CallFault) -> u32;
     fn betable_page(session: *mut Handle, page: *const u8, length: usize, fault: *mut CallFault) -> u32;
@@ -83,7 +84,7 @@ extern "C" {
 const DONE: u32 = 0;
 const REPLY_CUT: u32 = 2;
 const REFUSED: u32 = 5;
-/// What became of a command that was refused.
+/// What became of a command that was refused, or would be.
 const COMMAND_REFUSED: u32 = 2;
 
 /// The library ran out of memory.
@@ -145,7 +146,17 @@ impl Session {
         Ok(replies)
     }
 
-    /// Where the replies to the last script are. None if it was not done.
+    /// The places of the commands of a script that would be refused, counted from 0 as in the replies of `run`. Each is judged by itself on the table as it is:
+    /// none is carried out, and nothing changes. So no command is judged with the effects of those before it.
+    pub fn check(&mut self, script: &[u8]) -> Result<Vec<usize>, OutOfMemory> {
+        let status = unsafe { betable_check(&mut self.handle, script.as_ptr(), script.len()) };
+        if status != DONE {
+            return Err(OutOfMemory { replies: Replies::default(), is_cut: false, is_lost: self.is_lost() });
+        }
+        Ok(self.parts().iter().enumerate().filter(|(_, part)| part.is_refused).map(|(place, _)| place).collect())
+    }
+
+    /// Where the replies to the last script are, which was done or checked. None if it was not.
     fn parts(&mut self) -> Vec<Part> {
         let mut place = ReplyPlace { offset: 0, length: 0, kind: 0 };
         let count = unsafe { betable_reply_count(&mut self.handle) };

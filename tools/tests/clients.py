@@ -260,7 +260,8 @@ def sessions_of_two_threads_do_not_meet():
 
 def programs_of_the_document_print_what_they_say():
     """Those of docs/C.md and docs/PYTHON.md, by the lines that follow them."""
-    for page, language, ending, place in (("C.md", "c", ".c", 1), ("PYTHON.md", "python", ".py", 1), ("C.md", "rust", ".rs", 1), ("C.md", "rust", ".rs", 2)):
+    programs_of_pages = [("C.md", "c", ".c", 1), ("C.md", "c", ".c", 2), ("PYTHON.md", "python", ".py", 1), ("C.md", "rust", ".rs", 1), ("C.md", "rust", ".rs", 2)]
+    for page, language, ending, place in programs_of_pages:
         code, after = (TOP / "docs" / page).read_text().split(f"```{language}\n")[place].split("```\n", 1)
         source, wanted = Path(programs().name) / f"ten_lines{place}{ending}", after.split("```text\n")[1].split("```")[0]
         source.write_text(code)

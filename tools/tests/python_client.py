@@ -189,6 +189,8 @@ SHAPES = [
     (lambda c, s: s.run(None), "TypeError", "a script is a str or bytes, and not None of type NoneType"),
     (lambda c, s: s.run(["get 1\n"]), "TypeError", "a script is a str or bytes, and not ['get 1\\n'] of type list"),
     (lambda c, s: s.replies(5), "TypeError", "a script is a str or bytes, and not 5"),
+    (lambda c, s: s.check(5), "TypeError", "a script is a str or bytes, and not 5 of type int"),
+    (lambda c, s: s.check(["get 1\n"]), "TypeError", "a script is a str or bytes, and not ['get 1\\n'] of type list"),
     (lambda c, s: s.run("get \ud800\n"), "UnicodeEncodeError", "surrogates not allowed"),
 ]
 
@@ -305,6 +307,7 @@ def names_are_never_a_piece_of_a_script():
     text = "x\ngo\ndrop by_city\n"
     methods = {
         "batch": lambda s: s.batch([client.put(4, text, True, b"")]),
+        "check": None,
         "close": None,
         "columns": lambda s: s.columns(text),
         "delete": lambda s: s.delete(text),
@@ -618,6 +621,7 @@ CALLS = [
     lambda s: s.usage(),
     lambda s: s.run("get 1\n"),
     lambda s: s.replies("get 1\n"),
+    lambda s: s.check("get 1\n"),
     lambda s: s.is_lost,
 ]
 
@@ -837,7 +841,12 @@ def a_csv_file_of_any_size_is_put_in_batches():
         path.write_text(text, newline="")
         size = path.stat().st_size
         loaded.table("id:int city:text")
-        expect(loaded.load_csv(path), 301)
+        reader = sys.modules["betable.calls"]
+        try:
+            reader.BLOCK = 1_000
+            expect((loaded.load_csv(path, lambda *call: calls.append(call)), calls), (301, [(min(read, size), size) for read in range(1_000, size + 1_000, 1_000)]))
+        finally:
+            reader.BLOCK = block
         try:
             for module.BLOCK in (1, 7, 50, 51, 52, 53, 1_000, block):
                 for most in (1, 7, 301, client.MOST_MESSAGES):

@@ -16,7 +16,7 @@ where the Debian package has it. docs/SCRIPT.md has the language, and docs/PYTHO
 
 Without the extension `_packed`, or with BETABLE_PURE=1, ctypes makes all calls.
 
-Layers over sessions have the same calls, but for the limit of a scan, `iterate` and `columns`: `open` gives a table that is kept on disk (docs/DURABLE.md),
+Layers over sessions have the same calls, but for the limit of a scan, `iterate`, `columns`, `usage` and `check`: `open` gives a table that is kept on disk (docs/DURABLE.md),
 `Replicas` and `Sharded` one on several machines (docs/CLUSTER.md), and `python3 -m betable serve` serves one by HTTP (docs/SERVICE.md). They are imported when
 they are first used. `python3 -m betable shell` is a prompt (docs/HOW_TO.md).
 """

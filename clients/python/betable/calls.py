@@ -4,7 +4,6 @@ from __future__ import annotations
 
 import os
 import re
-import shutil
 import sys
 from abc import ABC, abstractmethod
 from array import array
@@ -123,16 +122,21 @@ class Calls(ABC):
             taken += len(some)
         return self._loaded("".join([*parts, ".\n"]).encode())
 
-    def load_csv(self, path: str | os.PathLike[str]) -> int:
+    def load_csv(self, path: str | os.PathLike[str], progress: Callable[[int, int], object] | None = None) -> int:
         """Fills a table that has no rows with the records of a CSV file, which is UTF-8 and has a header of the table's columns, and returns how many. The
-        bytes of the file are in memory once, and are handed over as they are. `put_csv` takes a file that is larger than memory allows."""
+        bytes of the file are in memory once, and are handed over as they are. `put_csv` takes a file that is larger than memory allows. While the file is read,
+        `progress` is called with the bytes that were read, and those of the file. The load itself is one call."""
         self._table()
         written = BytesIO()
         written.write(b"load\n")
         with open(path, "rb") as file:
+            size = os.fstat(file.fileno()).st_size
             _refuse_gzip(file.read(2), path)
             file.seek(0)
-            shutil.copyfileobj(file, written, BLOCK)
+            while block := file.read(BLOCK):
+                written.write(block)
+                if progress is not None:
+                    progress(file.tell(), size)
         end = written.tell()
         written.write(b"\n.\n")
         script = written.getvalue()

@@ -27,7 +27,7 @@ from .replies import Place, answered
 from .rows import UNKNOWN, ColumnValues, Layout, columns_of_rows, layout, rows_of_columns, shown, tuples_of_dicts
 
 DONE, OUT_OF_MEMORY, REPLY_CUT, NOT_OPEN, ALREADY_OPEN, REFUSED = range(6)
-# What became of a command.
+# What became of a command, or would.
 READ, CHANGED, COMMAND_REFUSED = range(3)
 # Replies of fewer bytes are copied by one call.
 SHORT_REPLIES = 4_096
@@ -72,6 +72,7 @@ def _loaded_library() -> ctypes.CDLL:
     calls: list[tuple[str, list[Any], Any]] = [
         ("betable_open", [handle], ctypes.c_uint),
         ("betable_run", [handle, ctypes.c_char_p, size], ctypes.c_uint),
+        ("betable_check", [handle, ctypes.c_char_p, size], ctypes.c_uint),
         ("betable_apply", of_packed, ctypes.c_uint),
         ("betable_get", of_packed, ctypes.c_uint),
         ("betable_page", of_packed, ctypes.c_uint),
@@ -167,6 +168,17 @@ class PureSession(Calls):
         """The bytes of the replies to a script, whether commands are refused or not."""
         return self._ran(as_script(script), False)[0]
 
+    def check(self, script: str | bytes) -> list[int]:
+        """The places of the commands of a script that would be refused, counted from 0 as in the list that `run` returns. Each is judged by itself on the table
+        as it is: none is carried out, and nothing changes. So no command is judged with the effects of those before it."""
+        given = as_script(script)
+        with self._calls():
+            status = self._library.betable_check(self._open_handle(), given, len(given))
+            places = self._places()
+        if status != DONE:
+            self._raise_out_of_memory()
+        return [number for number, (_, _, is_refused) in enumerate(places) if is_refused]
+
     def _replies_with_places(self, script: bytes) -> tuple[bytes, list[Place] | None]:
         return self._ran(script, True)
 
@@ -189,7 +201,7 @@ class PureSession(Calls):
         return replies, places
 
     def _places(self) -> list[Place]:
-        """The places of the replies to the last script, which was done."""
+        """The places of the replies to the last script, which was done or checked."""
         library, handle, place = self._library, self._handle, self._place
         found = []
         for number in range(library.betable_reply_count(handle)):

@@ -1,7 +1,7 @@
 -- Where the replies to the commands of a script are among their bytes.
 use Rattle.std.specs.Prelude.{ℕ, ◌-◌, ◌==◌, ◌++◌, ◌∷◌, List, [], Option, Some, None, option_map, slice_get, if◌then◌else◌}
 use Rattle.bt_script.specs.Commands.{Answer}
-use Rattle.bt_shell.specs.Logs.{logged}
+use Rattle.bt_shell.specs.Logs.{checked, logged}
 use Rattle.bt_shell.specs.Steps.{State}
 use Rattle.bt_shell.specs.declared.log.ReplyKind.{ReplyKind}
 use Rattle.bt_shell.specs.declared.log.ReplyKind.TheVariants.{Changed, Read, Refused}
@@ -15,6 +15,10 @@ mark end kind = record { end = end; kind = kind }
 -- the marks of commands carried out one after the other, from a table on
 abbrev pub marks_of : State → List Answer → List ReplyMark
 marks_of state answers = logged (λ (marks : List ReplyMark) end kind. marks ++ mark end kind ∷ []) [] 0 state answers
+
+-- the marks of commands that are not carried out: what each would do to a table; there are no replies
+abbrev pub checked_marks : State → List Answer → List ReplyMark
+checked_marks state answers = checked (λ (marks : List ReplyMark) end kind. marks ++ mark end kind ∷ []) [] state answers
 
 -- the code in C of what a command did
 abbrev pub code_of_kind : ReplyKind → ℕ

@@ -21,7 +21,7 @@ ghost use Rattle.bt_shell.specs.Steps.{State};
 ghost use Rattle.bt_table.specs.Standing.{CompleteIndexesHold, IsSoundUnlessLost};
 ghost use Rattle.bt_table.specs.Tables.{Lost};
 ghost use Rattle.bt_packed.specs.Calls.{got, packed_page, told_columns, told_sums, told_usage};
-ghost use Rattle.bt_c.specs.Replies.{marks_of, reply_at};
+ghost use Rattle.bt_c.specs.Replies.{checked_marks, marks_of, reply_at};
 ghost use Rattle.bt_c.specs.Sessions.{IsFault, StaysOpen, StaysOrIsLostIn, answer_of, applied_to, asked, code_of, fault_of, is_lost, session_of};
 ghost use Rattle.bt_c.specs.declared.status.Status.TheVariants as status;
 
@@ -42,7 +42,7 @@ pub use handle::Handle;
 pub use reply::{ReplyInC, ReplyMark};
 pub use session::{Question, Session};
 pub use status::Status;
-use std::alloc::Global;
+use std::alloc::{AllocError, Global};
 
 // A value that may go to another thread, as a handle may.
 fn sent<T: Send>(value: T) -> T
@@ -110,6 +110,28 @@ pub extern "C" fn betable_run(alloc: Global, handle: &mut Handle, script: &[u8])
         Err(RunFault::Write) => Status::ReplyCut.code(),
         // A run reads no stream.
         Err(RunFault::Read) => unreachable!(),
+    }
+}
+
+/// Finds which commands of a script would be refused, each by itself on the table as it is. None is carried out. [`betable_reply`] has what each would do; the
+/// replies are empty.
+#[unsafe(no_mangle)]
+pub extern "C" fn betable_check(alloc: Global, handle: &mut Handle, script: &[u8]) -> u32
+    ensures closed { session_of handle.old ≡ None → (result ≡ code_of status.NotOpen) × (session_of handle.new ≡ None) }
+    ensures ends { is_some (session_of handle.old) ≡ true → (result ≡ code_of status.Done) ⊎ (result ≡ code_of status.OutOfMemory) }
+    ensures done { result ≡ code_of status.Done → StaysOpen handle.old handle.new (λ old new. new.marks.items ≡ checked_marks old.table (commands script.now)) }
+    ensures memory { result ≡ code_of status.OutOfMemory → IfSome (session_of handle.new) (λ session. session.marks.items ≡ []) }
+    ensures unanswered { IfSome (session_of handle.new) (λ session. (session.text.items ≡ []) × (session.refused ≡ 0)) }
+    ensures table { is_some (session_of handle.old) ≡ true → StaysOpen handle.old handle.new (λ old new. new.table ≡ old.table) }
+{
+    let Some(mut session) = handle.take(alloc) else {
+        return Status::NotOpen.code();
+    };
+    let ended = session.check(alloc, script);
+    *handle = Handle::of(session);
+    match ended {
+        Ok(()) => Status::Done.code(),
+        Err(AllocError) => Status::OutOfMemory.code(),
     }
 }
 

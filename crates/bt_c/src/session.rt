@@ -5,7 +5,7 @@ ghost use Rattle.bt_shell.specs.Faults.{StopsBetweenReplies, StopsWithinReply, l
 ghost use Rattle.bt_shell.specs.Runs.{after_commands, refused_count, replies};
 ghost use Rattle.bt_table.specs.Standing.{CompleteIndexesHold, IsSoundUnlessLost};
 ghost use Rattle.bt_table.specs.Tables.{Lost};
-ghost use Rattle.bt_c.specs.Replies.{marks_of};
+ghost use Rattle.bt_c.specs.Replies.{checked_marks, marks_of};
 ghost use Rattle.bt_c.specs.Sessions.{StaysOrIsLostIn, answer_of, applied_to, asked, is_lost};
 
 use crate::reply::{ReplyMark, ReplyMarks};
@@ -13,10 +13,10 @@ use bt_packed::{
     Fault, apply_packed, columns_packed, get_packed, page_packed, sums_packed, usage_packed,
 };
 use bt_script::{Counted, RunFault};
-use bt_shell::run_commands;
+use bt_shell::{check_commands, run_commands};
 use bt_table::{Alone, Table};
 use bt_value::Refusal;
-use std::alloc::Global;
+use std::alloc::{AllocError, Global};
 use std::mem;
 
 /// The table, if there is one; the replies to the last script, the number of its commands that were refused, and where the reply to each of them ends.
@@ -135,6 +135,23 @@ impl Session {
             marks: mem::replace(&mut self.marks, Vec::new(alloc)),
         };
         self.refused = run_into(alloc, script, &mut self.table, &mut self.text, &mut log)?;
+        self.marks = log.marks;
+        Ok(())
+    }
+
+    /// Keeps of each command of a script what it would do, by itself, to the table as it is. The replies are emptied.
+    pub fn check(&mut self, alloc: Global, script: &[u8]) -> Result<(), AllocError>
+        ensures marks { OnOk result (self.new.marks.items ≡ checked_marks self.old.table (commands script.now)) }
+        ensures unmarked { OnErr result (self.new.marks.items ≡ []) }
+        ensures table { self.new.table ≡ self.old.table }
+        ensures text { self.new.text.items ≡ [] }
+        ensures refused { self.new.refused ≡ 0 }
+    {
+        self.clear();
+        let mut log = ReplyMarks {
+            marks: mem::replace(&mut self.marks, Vec::new(alloc)),
+        };
+        check_commands(alloc, script, &self.table, &mut log)?;
         self.marks = log.marks;
         Ok(())
     }

@@ -1,6 +1,6 @@
 //! Reads a tree with a crew. Each portion of the tree is shown to its own visitor, and the visitors are joined in the order of the
 //! portions.
-ghost use Rattle.std.specs.Prelude.{◌≡◌, IfOk, fold, map};
+ghost use Rattle.std.specs.Prelude.{◌≡◌, ◌<◌, IfOk, IfSome, fold, length, map};
 ghost use Rattle.std.specs.Option.{option_copied};
 ghost use Rattle.bt_messages.specs.Effects.{effect_of};
 ghost use Rattle.bt_messages.specs.Weights.{weigh_of};
@@ -9,14 +9,15 @@ ghost use Rattle.bt_node.specs.Fits.{HasShape};
 ghost use Rattle.bt_node.specs.Flushes.{holds};
 ghost use Rattle.bt_node.specs.Laws.{HoldsTheSame};
 ghost use Rattle.bt_node.specs.Messages.{between};
-ghost use Rattle.bt_node.specs.Portions.{all_rows};
+ghost use Rattle.bt_node.specs.Walks.{children_of};
 
 use crate::round_tree::has_shape;
 use bt_gang::{Crew, Gate, Work, job_values};
 use bt_keycode::Key;
 use bt_messages::Merge;
-use bt_node::{Copies, ForkVisitor, Portion, Tree, Visitor, pack};
+use bt_node::{Copies, ForkVisitor, Portion, Tree, Visitor, Walk, pack};
 use std::alloc::{AllocError, Global};
+use std::cmp::Ordering;
 use std::marker::PhantomData;
 use std::sync::{Mutex, Wait};
 use std::thread::Threads;
@@ -102,19 +103,50 @@ fn read_alone<V: Merge, S: Visitor<V>>(
     Ok(visitor)
 }
 
-// Shows the rows of the portions to the visitor on the caller's thread, one portion after the other.
-fn read_in_turn<V: Merge, S: Visitor<V>>(
-    alloc: Global,
-    portions: Vec<Portion<'_, V>>,
-    visitor: S,
-) -> Result<S, AllocError>
-    ensures { IfOk result (λ after. after ≡ fold S.visited visitor (all_rows (effect_of V.terms.merged) portions.entry.items)) }
+// The only child of an inner node that the rows between two bounds can be in, counted from 0, or `None` if there are several.
+fn only_child<V: Merge>(node: &Walk<'_, V>, from: Option<&Key>, to: Option<&Key>) -> Option<usize>
+    ensures { IfSome result (λ place. place < length (children_of node.now)) }
 {
-    let mut visitor = visitor;
-    for portion in portions {
-        portion.visit(alloc, &mut visitor)?;
+    let last = node.child_count().checked_sub(1)?;
+    let mut place = 0;
+    if let Some(from) = from {
+        let mut high = last;
+        'halving: while place < high {
+            let middle = high - (high - place) / 2;
+            if node.pivot(middle).compare(from) == Ordering::Greater {
+                high = middle - 1;
+            } else {
+                place = middle;
+            }
+        }
     }
-    Ok(visitor)
+    if place == last {
+        return Some(place);
+    }
+    match to {
+        Some(to) if node.pivot(place + 1).compare(to) != Ordering::Less => Some(place),
+        _ => None,
+    }
+}
+
+// Whether the rows between two bounds are in one portion of a tree at a depth. It decides who shows them, and not which they are.
+fn is_one_portion<V: Merge>(
+    tree: &Tree<V>,
+    depth: usize,
+    from: Option<&Key>,
+    to: Option<&Key>,
+) -> bool {
+    let mut node = tree.walk();
+    for _ in 0..depth {
+        if node.is_leaf() {
+            return true;
+        }
+        let Some(place) = only_child(&node, from, to) else {
+            return false;
+        };
+        node = node.child(place);
+    }
+    true
 }
 
 /// Shows a visitor the rows with a key at or past `from` and before `to`, in rising order, when all messages have had their effect.
@@ -122,8 +154,8 @@ fn read_in_turn<V: Merge, S: Visitor<V>>(
 ///
 /// The jobs are the portions of the tree at the crew's depth, with any number of rows. Each is shown to a fork of the visitor. The
 /// caller makes the forks before the first job and joins them after the last. There is at most one worker for each portion. If the
-/// crew has one worker, or the range has at most one portion, no thread starts and no fork is made: the caller shows the rows to
-/// the visitor. An `Err` comes from a visitor or from a failed allocation. By then every worker has ended, and the visitor is
+/// crew has one worker, or the range lies in one portion, no thread starts and no fork is made: the caller shows the rows to the
+/// visitor. An `Err` comes from a visitor or from a failed allocation. By then every worker has ended, and the visitor is
 /// dropped. The tree is only read.
 pub fn read<
     V: Merge + Send + Sync,
@@ -143,13 +175,10 @@ where
     V::Delta: Send + Sync,
     ensures { IfOk result (λ after. after ≡ fold S.visited visitor (between (option_copied from.entry) (option_copied to.entry) (holds (effect_of V.terms.merged) tree.now.1))) }
 {
-    if crew.workers == 1 {
+    if crew.workers == 1 || is_one_portion(tree, crew.cut, from, to) {
         return read_alone(alloc, tree, from, to, visitor);
     }
     let portions = tree.walk().portions(alloc, crew.cut, from, to)?;
-    if portions.len() <= 1 {
-        return read_in_turn(alloc, portions, visitor);
-    }
     let jobs = with_forks(alloc, portions, &visitor)?;
     let work = PortionVisits {
         portions: PhantomData,

@@ -29,7 +29,7 @@ free_name : (found : Option Refusal) (free : Result (Unit {0}) Refusal) → OnOk
 free_name found (Ok value) none some = ap (λ f. unless f tt) none
 free_name found (Err refusal) none some = λ _. ap (λ f. unless f tt) some
 
-mapped : {S T : Type 0} (f : S → T) (answer result : Result S Refusal) → Answers answer result → Answers (map_ok f answer) (map_ok f result)
+pub mapped : {S T : Type 0} (f : S → T) (answer result : Result S Refusal) → Answers answer result → Answers (map_ok f answer) (map_ok f result)
 mapped f answer (Ok value) is = ap (map_ok f) is
 mapped f answer (Err refusal) is = λ some. ap (map_ok f) (is some)
 

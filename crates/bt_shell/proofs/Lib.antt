@@ -1,3 +1,4 @@
+pub mod Checks
 pub mod Contents
 pub mod Definitions
 pub mod Faults

@@ -2,6 +2,7 @@
 use Rattle.std.specs.Io.Iter.{u64_saturate}
 use Rattle.std.specs.Prelude.{ℕ, ◌+◌, Bool, false, true, List, [], ◌∷◌, length, Result, Ok, Err}
 use Rattle.bt_value.specs.declared.refusal.Refusal.{Refusal}
+use Rattle.bt_value.specs.Results.{map_ok}
 use Rattle.bt_script.specs.Commands.{Answer}
 use Rattle.bt_script.specs.declared.command.Command.{Command}
 use Rattle.bt_script.specs.declared.command.Command.TheVariants.{Get, Image, Scan, Sums}
@@ -45,3 +46,13 @@ module _ {L : Type 0} (added : L → ℕ → ReplyKind → L) where
   logged log at state [] = log
   logged log at state (answer ∷ more) =
       logged (added log (end_of at (turn state answer).1) (kind_of state answer)) (end_of at (turn state answer).1) (turn state answer).0 more
+
+-- whether a command is carried out, or as what it is refused
+abbrev pub permitted : Result Done Refusal → Result (Unit {0}) Refusal
+permitted outcome = map_ok (λ _. tt) outcome
+
+-- a log of commands that are not carried out: of each, what it would do to the same table, while no reply is written
+module _ {L : Type 0} (added : L → ℕ → ReplyKind → L) where
+  unfoldable pub checked : L → State → List Answer → L
+  checked log state [] = log
+  checked log state (answer ∷ more) = checked (added log 0 (kind_of state answer)) state more

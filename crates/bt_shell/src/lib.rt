@@ -15,6 +15,7 @@
 //! commands.
 #![tactic(auto)]
 
+mod check;
 mod context;
 mod log;
 mod program_run;
@@ -30,6 +31,7 @@ pub use bt_script::{
     SCRIPT_LIMIT, SumsForm, TableForm, Words, WordsError, parse_command, read_words,
 };
 pub use bt_table::{Alone, Workforce};
+pub use check::check_commands;
 pub use log::{CommandLog, NoLog, ReplyKind};
 pub use program_run::{ProgramFault, program};
 pub use replies::Lines;

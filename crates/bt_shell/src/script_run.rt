@@ -66,7 +66,7 @@ fn laws(_script: &[u8])
 ///
 /// The replies are those that the definition `replies` gives for the commands from that table on, and the table afterwards is the one that the commands leave.
 /// So the runs of two scripts, one after the other, are the run of both as one script, if the first ends between two commands. `Write`: the writer failed.
-/// `OutOfMemory`: an allocation failed, and no byte of the reply to the current command is written.
+/// `OutOfMemory`: an allocation failed, and each reply of which a byte is written is whole.
 ///
 /// After a fault the table is the one after the commands with whole replies, the one after one more command, or lost. A lost table stays lost, and each command
 /// on it except `table` is refused as `Failed`.

@@ -26,8 +26,8 @@ use bt_table::{Reply, Table};
 use bt_value::{Refusal, Text};
 use std::alloc::{AllocError, Global};
 
-// A shape with buffers of this capacity, if it is within the limits.
-fn shape_of(fanout: u32, buffer: Capacity, leaf: u32) -> Result<Shape, Refusal>
+/// A shape with buffers of this capacity, if it is within the limits.
+pub(crate) fn shape_of(fanout: u32, buffer: Capacity, leaf: u32) -> Result<Shape, Refusal>
     ensures ok { IfOk result (λ shape. shape ≡ step.shape_of fanout buffer leaf) }
     ensures allowed { IfOk result (λ _. step.is_allowed (step.shape_of fanout buffer leaf) ≡ true) }
     ensures refused { IfErr result (λ e. (e ≡ Refusal.BadShape) × (step.is_allowed (step.shape_of fanout buffer leaf) ≡ false)) }
@@ -50,8 +50,8 @@ fn call_text(
     Ok(reply_text(alloc, reply?, room)?)
 }
 
-// The definition of a new index, or the smallest refusal of its name and of its parts.
-fn index_def(alloc: Global, table: &Table, form: &IndexForm) -> Result<IndexDef, Refusal>
+/// The definition of a new index, or the smallest refusal of its name and of its parts.
+pub(crate) fn index_def(alloc: Global, table: &Table, form: &IndexForm) -> Result<IndexDef, Refusal>
     ensures answer { Answers (step.definition_of table.now form.now) result }
     ensures suits { IfOk result (λ def. Suits table.now def) }
 {
@@ -217,8 +217,8 @@ fn refusal_answer(alloc: Global, refusal: Refusal) -> Result<CommandReply, Alloc
     })
 }
 
-// What a command does if it is carried out.
-fn kind_of_done(command: &Command<'_>) -> ReplyKind
+/// What a command does if it is carried out.
+pub(crate) fn kind_of_done(command: &Command<'_>) -> ReplyKind
     ensures { result ≡ logs.kind_of_done command.now }
 {
     match command {

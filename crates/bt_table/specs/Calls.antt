@@ -181,6 +181,10 @@ step (Intact table) (Load text) = map_ok (after_load table) (loaded_rows table t
 step (Intact table) (Drain name) = map_ok (λ after. (Intact after, Drained name)) (with_renewed Draining table name)
 step (Intact table) (Rebuild name) = map_ok (λ after. (Intact after, Rebuilt name)) (with_renewed Rebuilding table name)
 
+-- whether a call is carried out, or as what it is refused
+abbrev pub permitted : TableState → Call → Result (Unit {0}) Refusal
+permitted state call = map_ok (λ _. tt) (step state call)
+
 -- a batch of records is the text of its messages: unless it is refused, it does what they do
 abbrev pub IsTextOfMessages : TableState → List Item → Type 0
 IsTextOfMessages Lost items = Unit {0}

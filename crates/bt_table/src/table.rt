@@ -8,6 +8,7 @@ ghost use Rattle.bt_table.specs.Calls.{Apply, ApplyMessages, CreateIndex, DropIn
 ghost use Rattle.bt_table.specs.Standing.{CompleteIndexesHold, HasSchema, IsSoundUnlessLost, SuitMessages, Suits};
 ghost use Rattle.bt_table.specs.Tables.{Intact, Lost, empty_table};
 
+mod checks;
 mod load;
 mod upkeep;
 

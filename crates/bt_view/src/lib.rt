@@ -36,5 +36,5 @@ pub use groups::Sum;
 pub use range::KeyRange;
 pub use shown_columns::{TreeColumns, tree_columns};
 pub use tree_usage::TreeUsage;
-pub use view::{image, page, scan, scan_alone, sums, sums_alone, sums_between, usage};
+pub use view::{check_scan, image, page, scan, scan_alone, sums, sums_alone, sums_between, usage};
 pub use visitors::{RecordText, RowList};

@@ -68,6 +68,21 @@ pub fn scan_alone<S: Visitor<Row>>(
     Ok(show_alone(alloc, shown, visitor)?)
 }
 
+/// Whether [`scan`] would be refused, and as what. No row is read.
+pub fn check_scan(
+    alloc: Global,
+    table: &Table,
+    name: &Text,
+    from: Option<&RecordLine<'_>>,
+    to: Option<&RecordLine<'_>>,
+) -> Result<(), Refusal>
+    ensures { Answers (map_ok (λ _. tt) (spec.scan_with_keys table.now name.now (option_copied from.entry) (option_copied to.entry))) result }
+{
+    let shown = rows_to_show(alloc, table, name, from, to)?;
+    drop(shown);
+    Ok(())
+}
+
 /// Shows a visitor a page of the tree of this name: the first rows, at most `limit`, whose keys are in a range, in ascending order of their keys; each is
 /// shown with its key. The key of a row of the table is the code of its key columns, and that of a row of an index is the code of the columns that it is
 /// ordered by and of the table's key columns. If the last row of a page has a key, [`KeyRange::after`] is the range of the next page.

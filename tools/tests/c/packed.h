@@ -56,7 +56,7 @@ static void add_bytes(message *to, const char *bytes, size_t length) {
     to->length += length;
 }
 
-static void add_text(message *to, const char *text) { add_bytes(to, text, strlen(text)); }
+static inline void add_text(message *to, const char *text) { add_bytes(to, text, strlen(text)); }
 
 static void begin(message *to, uint32_t number) {
     memcpy(to->at, "BTV\1", 4);

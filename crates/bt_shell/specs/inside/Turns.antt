@@ -31,3 +31,7 @@ pub record IsTurn (old new : State) (all others : List Answer) (text : List ℕ)
 abbrev pub first_kind : State → List Answer → ReplyKind
 first_kind state [] = Read
 first_kind state (answer ∷ more) = kind_of state answer
+
+-- the first of these commands would do this to a table, and the others follow
+abbrev pub IsChecked : State → List Answer → List Answer → ReplyKind → Type 0
+IsChecked state all others kind = (answer : Answer) × (all ≡ answer ∷ others) × (kind ≡ kind_of state answer)

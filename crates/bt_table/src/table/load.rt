@@ -33,8 +33,8 @@ fn is_bare(tree: &Tree<Row>) -> bool
     root.is_leaf() && root.row_count() == 0
 }
 
-// Whether rows can be loaded into a table with these indexes and trees.
-fn check_load(heads: &[IndexHead], trees: &Trees) -> Result<(), Refusal>
+/// Whether rows can be loaded into a table with these indexes and trees.
+pub(crate) fn check_load(heads: &[IndexHead], trees: &Trees) -> Result<(), Refusal>
     requires { length trees.now.entries.items ≡ length heads.now }
     ensures free { OnOk result (least (spec.load_refusals (indexes_of heads.now trees.now.entries.items) trees.now.rows.1) ≡ None) }
     ensures refused { IfErr result (λ refusal. least (spec.load_refusals (indexes_of heads.now trees.now.entries.items) trees.now.rows.1) ≡ Some refusal) }
@@ -84,8 +84,8 @@ fn packed_rows<L: Loading>(
     Ok((trees, count))
 }
 
-// The packed trees of rows and of their entries, and the number of rows.
-fn packed_trees<L: Loading>(
+/// The packed trees of rows and of their entries, and the number of rows.
+pub(crate) fn packed_trees<L: Loading>(
     loading: &L,
     alloc: Global,
     shape: Shape,

@@ -17,8 +17,8 @@ use bt_node::Tree;
 use bt_value::{Refusal, Text};
 use std::alloc::Global;
 
-// The tree that has a name: that of the rows, or that of an index, with its place.
-fn find_tree<'a>(
+/// The tree that has a name: that of the rows, or that of an index, with its place.
+pub(crate) fn find_tree<'a>(
     heads: &'a [IndexHead],
     entries: &'a [Tree<Entry>],
     name: &Text,

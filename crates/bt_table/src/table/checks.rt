@@ -1,0 +1,101 @@
+//! Whether calls on a table would be refused. Nothing changes.
+#![tactic(auto, using(crate::proofs::offered::Steps::unless_lost_hold))]
+
+ghost use Rattle.std.specs.Prelude.{◌≡◌, ◌≢◌, ℕ};
+ghost use Rattle.bt_value.specs.Answers.{Answers};
+ghost use Rattle.bt_table.specs.Calls.{Apply, BuildStep, Drain, DropIndex, Load, Rebuild, permitted};
+
+use crate::index::{find_index, is_whole};
+use crate::table::Table;
+use crate::table::load::{check_load, packed_trees};
+use crate::table::upkeep::find_tree;
+use crate::workforce::Workforce;
+use bt_load::{Loading, read_records_by};
+use bt_rowtype::Item;
+use bt_value::{Refusal, Text};
+use std::alloc::Global;
+
+impl Table {
+    /// Whether [`Table::apply`] would be refused, and as what.
+    pub fn check_apply<T, W: Workforce<T>>(
+        &self,
+        rt: &T,
+        alloc: Global,
+        items: &[Item<'_>],
+        crew: &W,
+    ) -> Result<(), Refusal>
+        requires ready { W.accepts crew.now }
+        ensures { Answers (permitted self.now (Apply items.now)) result }
+    {
+        let schema = self.schema()?;
+        let packet = crew.read_packet(rt, alloc, schema, items)?;
+        drop(packet);
+        Ok(())
+    }
+
+    /// Whether [`Table::build_step`] would be refused, and as what.
+    pub fn check_build(&self, name: &Text) -> Result<(), Refusal>
+        ensures { (count : ℕ) → result ≡ permitted self.now (BuildStep name.now count) }
+    {
+        let Some(trees) = &self.trees else {
+            return Err(Refusal::Failed);
+        };
+        match find_index(self.heads.as_slice(), trees.entries.as_slice(), name) {
+            Some((_place, index)) if is_whole(&index.head.cover) => Err(Refusal::AlreadyComplete),
+            Some(_) => Ok(()),
+            None => Err(Refusal::NoSuchTree),
+        }
+    }
+
+    /// Whether [`Table::drop_index`] would be refused, and as what.
+    pub fn check_drop(&self, name: &Text) -> Result<(), Refusal>
+        ensures { result ≡ permitted self.now (DropIndex name.now) }
+    {
+        let Some(trees) = &self.trees else {
+            return Err(Refusal::Failed);
+        };
+        match find_index(self.heads.as_slice(), trees.entries.as_slice(), name) {
+            Some(_) => Ok(()),
+            None => Err(Refusal::NoSuchTree),
+        }
+    }
+
+    /// Whether [`Table::drain`] and [`Table::rebuild`] would be refused, and as what.
+    pub fn check_upkeep(&self, name: &Text) -> Result<(), Refusal>
+        ensures drain { result ≡ permitted self.now (Drain name.now) }
+        ensures rebuild { result ≡ permitted self.now (Rebuild name.now) }
+    {
+        let Some(trees) = &self.trees else {
+            return Err(Refusal::Failed);
+        };
+        let _found = find_tree(self.heads.as_slice(), trees.entries.as_slice(), name)?;
+        Ok(())
+    }
+
+    /// Whether [`Table::load_by`] would be refused, and as what. The trees of the load are made, and dropped.
+    pub fn check_load_by<L: Loading>(
+        &self,
+        loading: &L,
+        alloc: Global,
+        text: &[u8],
+    ) -> Result<(), Refusal>
+        requires ready { L.accepts loading.now }
+        ensures { Answers (permitted self.now (Load text.now)) result }
+    {
+        let Some(trees) = &self.trees else {
+            return Err(Refusal::Failed);
+        };
+        let rows = read_records_by(loading, alloc, text, &self.schema)?;
+        check_load(self.heads.as_slice(), trees)?;
+        let loaded = packed_trees(
+            loading,
+            alloc,
+            trees.rows.shape(),
+            self.heads.as_slice(),
+            rows,
+            &self.schema,
+        )?;
+        drop(loaded);
+        Ok(())
+    }
+}
