@@ -69,13 +69,28 @@ def pieces_of_a_batch_are_worked_by_two_threads():
         expect((by_two == alone, none, some), (True, 0, started))
 
 
-def a_load_by_one_worker_starts_no_thread():
-    """Records enough for several pieces. Two workers type them in threads, as many as the machine has processors."""
-    script = "\n".join([TABLE, INDEX, "load", "id,qty", *(f"{row * 7919 % 10_007},{row}" for row in range(10_000)), ".", "scan by_qty", "go", ""])
-    alone, none = run_and_threads(script, 1)
-    by_two, some = run_and_threads(script, 2)
-    expect(alone.split("\n")[3], "loaded 10000")
-    expect((by_two == alone, none, some > 0), (True, 0, True))
+def a_batch_has_five_rounds_for_any_number_of_indexes():
+    """Each round of two workers starts one thread: one round reads the lines, one merges them, two make the packets of all indexes, and one flushes all trees.
+    Without an index the middle two are left out."""
+    for indexes, rounds in ((0, 3), (1, 5), (3, 5), (16, 5)):
+        heads = [f"index i{place} on qty\nbuild i{place} 100000" for place in range(indexes)]
+        before = [TABLE, puts(range(0, 4_000, 2)), *heads]
+        _, some = run_and_threads("\n".join([*before, ""]), 2)
+        _, more = run_and_threads("\n".join([*before, puts(range(1, 4_000, 2))]), 2)
+        expect((indexes, more - some), (indexes, rounds))
+
+
+def a_load_is_read_by_the_workers_of_the_crew():
+    """Records enough for several pieces. Each worker but the caller is started twice, once to read a piece and once to merge a range. A record whose key an
+    earlier one has is named, although another worker may have read that one."""
+    rows = [f"{row * 7919 % 10_007},{row}" for row in range(10_000)]
+    for records, reply in ((rows, "loaded 10000"), ([*rows, rows[17]], "refused 14 DuplicateKey 10001"), ([*rows, "x,1", *rows, "7"], "refused 6 BadField 10001")):
+        script = "\n".join([TABLE, INDEX, "load", "id,qty", *records, ".", ""])
+        alone, none = run_and_threads(script, 1)
+        expect((alone.split("\n")[3], none), (reply, 0))
+        for workers in (2, 3, 5):
+            replies, started = run_and_threads(script, workers)
+            expect((replies == alone, workers, started), (True, workers, (workers - 1) * (1 if "BadField" in reply else 2)))
 
 
 def a_worker_goes_down_a_deep_tree():
@@ -108,7 +123,8 @@ TESTS = [
     worked_scripts_have_the_same_replies_by_all_crews,
     every_crew_finds_other_replies,
     pieces_of_a_batch_are_worked_by_two_threads,
-    a_load_by_one_worker_starts_no_thread,
+    a_batch_has_five_rounds_for_any_number_of_indexes,
+    a_load_is_read_by_the_workers_of_the_crew,
     a_worker_goes_down_a_deep_tree,
     a_crew_frees_what_it_takes,
 ]

@@ -58,6 +58,10 @@ messages_of schema items = filter_map result_ok (read_batch schema 1 items)
 abbrev pub most_messages : ℕ
 most_messages = 65536
 
+-- the refusals of records, the first of which is item 1
+abbrev pub record_refusals : Schema → List Item → List Refusal
+record_refusals schema items = filter_map result_err (read_batch schema 1 items)
+
 -- the refusals that apply to a batch: those of its records, and that of too many messages
 abbrev pub batch_refusals : Schema → List Item → List Refusal
-batch_refusals schema items = filter_map result_err (read_batch schema 1 items) ++ one_if (nat_lt most_messages (length items)) TooMany
+batch_refusals schema items = record_refusals schema items ++ one_if (nat_lt most_messages (length items)) TooMany

@@ -140,15 +140,18 @@ module _ {K : Type 0} (seen : K → List ℕ) (cover : Cover) (ms : Messages Row
   pub keys_rise : AreRising (map seen keys)
   keys_rise = subst AreRising (sym is_keys) (groups_rise cover [] ms sorted)
 
+  pub as_many : length others ≡ length keys
+  as_many =
+      let gs = groups_within cover ms in
+      ap length is_others ∙ length-map gs (λ g. g.1) ∙ sym (length-map gs (λ g. g.0)) ∙ ap length (sym is_keys) ∙ length-map keys seen
+
   -- with the rows of these keys they have the effects of the packet
   module _ (rows : Rows (List Value)) (found : List (Option (List Value))) (is_found : found ≡ map (λ k. find key_cmp (seen k) rows) keys) where
     pub row_each : length keys ≡ length found
     row_each = sym (ap length is_found ∙ length-map keys (λ k. find key_cmp (seen k) rows))
 
     pub number_each : length others ≡ length found
-    number_each =
-        let gs = groups_within cover ms in
-        ap length is_others ∙ length-map gs (λ g. g.1) ∙ sym (length-map gs (λ g. g.0)) ∙ ap length (sym is_keys) ∙ length-map keys seen ∙ row_each
+    number_each = as_many ∙ row_each
 
     pub effects_are : effects_in (map seen keys) others found ms ≡ effects_within cover ms rows
     effects_are =

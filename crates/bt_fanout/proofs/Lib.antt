@@ -1,6 +1,7 @@
 pub mod Batches
 pub mod BuildPackets
 pub mod Builds
+pub mod EffectJobs
 pub mod Entries
 pub mod GroupEffects
 pub mod Groups
@@ -9,8 +10,10 @@ pub mod Naming
 pub mod NextKeys
 pub mod offered
 pub mod Owners
+pub mod PacketGroups
 pub mod Picking
 pub mod PiecePackets
+pub mod PortionPuts
 pub mod RowsRead
 pub mod Sendings
 pub mod SortedEntries

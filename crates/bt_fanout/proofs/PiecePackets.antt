@@ -14,19 +14,13 @@ use Rattle.bt_fanout.specs.declared.effect.Effect.{Effect}
 -- ---- what is true of each item is true of each item of a piece
 
 module _ {X : Type 0} (P : X → Type 0) where
-  front : (xs ys : List X) → All P (xs ++ ys) → All P xs
+  pub front : (xs ys : List X) → All P (xs ++ ys) → All P xs
   front [] ys all = All-nil P
   front (x ∷ xs) ys all = All-cons P x xs (All-head P x (xs ++ ys) all) (front xs ys (All-tail P x (xs ++ ys) all))
 
-  behind : (xs ys : List X) → All P (xs ++ ys) → All P ys
+  pub behind : (xs ys : List X) → All P (xs ++ ys) → All P ys
   behind [] ys all = all
   behind (x ∷ xs) ys all = behind xs ys (All-tail P x (xs ++ ys) all)
-
-  pub each_piece : {B : Type 0} (items : B → List X) (pieces : List B) → All P (flat_map items pieces) → All (λ piece. All P (items piece)) pieces
-  each_piece items [] all = All-nil (λ piece. All P (items piece))
-  each_piece items (p ∷ ps) all =
-      let others = flat_map items ps in
-      All-cons (λ piece. All P (items piece)) p ps (front (items p) others all) (each_piece items ps (behind (items p) others all))
 
 -- ---- what the pieces send
 

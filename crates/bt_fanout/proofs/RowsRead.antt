@@ -69,10 +69,10 @@ module _ (def : Definition) (columns : ℕ) where
 -- ---- what is kept of rows
 
 module _ (def : Definition) where
-  abbrev HasPlaces : List ℕ × List Value → Type 0
+  abbrev pub HasPlaces : List ℕ × List Value → Type 0
   HasPlaces row = IsWithin def (length row.1)
 
-  entry_is : (row : List Value) → IsWithin def (length row) → entry_within def row ≡ own_entry def (Some row)
+  pub entry_is : (row : List Value) → IsWithin def (length row) → entry_within def row ≡ own_entry def (Some row)
   entry_is row h = ap (λ b. if b then own_entry def (Some row) else None) (within_true def (length row) h)
 
   messages_read : (read : RowsRead) (rows : Rows (List Value)) → All HasPlaces rows → (fold (after_row def) read rows).messages ≡ read.messages ++ own_puts def rows

@@ -2,6 +2,7 @@
 pub mod Builds
 pub mod Covers
 pub mod Definitions
+pub mod Mapped
 pub mod Packets
 pub mod Standing
 pub mod Suiting

@@ -29,9 +29,13 @@ wider (UpTo last) (UpTo later) = if is_before last later then UpTo later else Up
 wider (UpTo last) Whole = Whole
 wider Whole other = Whole
 
+-- the rows that aren't covered
+abbrev pub uncovered : {X : Type 0} → Cover → Rows X → Rows X
+uncovered cover rows = covered (λ k. not (is_covered cover k)) rows
+
 -- the rows that a step of building reads: the first n that aren't covered
 abbrev pub next_rows : {X : Type 0} → ℕ → Cover → Rows X → Rows X
-next_rows n cover rows = take n (covered (λ k. not (is_covered cover k)) rows)
+next_rows n cover rows = take n (uncovered cover rows)
 
 -- the last key of rows, or this key if there are no rows
 abbrev pub last_key : {X : Type 0} → Key → Rows X → Key

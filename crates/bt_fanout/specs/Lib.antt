@@ -4,4 +4,5 @@ pub mod Effects
 pub mod Entries
 pub mod Promises
 pub mod Selections
+pub mod Targets
 pub mod inside

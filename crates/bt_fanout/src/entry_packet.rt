@@ -113,8 +113,8 @@ fn add_effect(
     add_between(messages, old, new)
 }
 
-/// The packet of an index for the effects of a batch, made by the caller without workers.
-pub fn index_packet_alone(
+/// The packet of an index for the effects of a batch.
+pub fn index_packet(
     alloc: Global,
     def: &IndexDef,
     cover: &Cover,

@@ -14,9 +14,12 @@
 //! let def = IndexDef::new(alloc, &schema, &on, &include, Some(&filter))?;
 //! // how a packet changes the rows, worked out before the tree of rows has the packet, and the messages of the index for that
 //! let effects = effects(&rt, alloc, &rows, &packet, &Cover::Whole, &crew)?;
-//! let entries = index_packet(&rt, alloc, &def, &Cover::Whole, effects.as_slice(), &crew)?;
+//! let entries = index_packet(alloc, &def, &Cover::Whole, effects.as_slice())?;
+//! // the same of several indexes, by the workers of a crew
+//! let indexes = [IndexTarget { def: &def, cover: &Cover::Whole }, IndexTarget { def: &other, cover: &part }];
+//! let packets = index_packets(&rt, alloc, &rows, &packet, &Cover::Whole, &indexes, &crew)?;
 //! // the messages of a step of building that reads the first hundred rows not covered yet, and the cover after it
-//! let BuildStep { packet, cover, read } = build_step(alloc, &def, &cover, &rows, 100)?;
+//! let BuildStep { packet, cover, read } = build_step(&rt, alloc, &def, &cover, &rows, 100, &crew)?;
 //! ```
 //!
 //! `specs` has the definitions. `Selections` says, for any kind of entries, what an index selects of a map and which messages a batch
@@ -28,21 +31,23 @@
 
 mod building;
 mod cover;
-mod crew_packet;
 mod definition;
 mod definition_parts;
 mod effect;
+mod effect_jobs;
 mod entry_packet;
+mod joint_packets;
 mod row_effects;
 mod selecting;
 mod step;
 
 pub use building::sorted_entries;
 pub use cover::{Cover, covers, wider};
-pub use crew_packet::index_packet;
 pub use definition::{Condition, IndexDef, MOST_INCLUDED, MOST_ON};
 pub use effect::Effect;
-pub use entry_packet::index_packet_alone;
-pub use row_effects::{effects, effects_alone};
+pub use effect_jobs::effects;
+pub use entry_packet::index_packet;
+pub use joint_packets::{IndexTarget, index_packets, index_packets_alone};
+pub use row_effects::effects_alone;
 pub use selecting::entry;
-pub use step::{BuildStep, build_step};
+pub use step::{BuildStep, build_step, build_step_alone};

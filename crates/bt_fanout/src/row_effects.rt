@@ -7,24 +7,20 @@ ghost use Rattle.bt_fanout.specs.inside.Groups.{behind_group, effects_in, group_
 
 use crate::cover::{Cover, covers};
 use crate::effect::Effect;
-use bt_gang::{Crew, Gate};
-use bt_gather::values;
 use bt_keycode::Key;
 use bt_messages::{BufferMessages, Message, Packet, effect_borrowed};
 use bt_node::Tree;
 use bt_row::{Row, copy_row};
 use std::alloc::{AllocError, Global};
 use std::cmp::Ordering;
-use std::sync::Wait;
-use std::thread::Threads;
 
 // ---- the keys
 
-// The keys that a packet names, each once and in order, and for each key the number of its messages after the first.
+/// The keys that a packet names, each once and in order, and for each key the number of its messages after the first.
 #[derive(Drop)]
-struct NamedKeys<'a> {
-    keys: Vec<&'a Key>,
-    others: Vec<usize>,
+pub(crate) struct NamedKeys<'a> {
+    pub(crate) keys: Vec<&'a Key>,
+    pub(crate) others: Vec<usize>,
 }
 
 // The number of messages to this key that come next, and the first message to another key, if there is one. That message is taken from the iterator too.
@@ -46,8 +42,8 @@ fn messages_behind<'a>(
     (count, None)
 }
 
-// The keys that a packet names and that a cover covers. Messages after the first key that is not covered are not looked at.
-fn named_keys<'a>(
+/// The keys that a packet names and that a cover covers. Messages after the first key that is not covered are not looked at.
+pub(crate) fn named_keys<'a>(
     alloc: Global,
     packet: &'a Packet<Row>,
     cover: &Cover,
@@ -123,46 +119,31 @@ fn row_after(
     Ok(after)
 }
 
-// The effects of a packet on its keys, which have these rows before it. No keys are compared.
-fn effects_on(
+/// The effects of messages on their keys, which have these rows before them. No keys are compared.
+pub(crate) fn effects_on(
     alloc: Global,
-    packet: &Packet<Row>,
-    named: &NamedKeys<'_>,
+    messages: BufferMessages<'_, Row>,
+    keys: &[&Key],
+    others: &[usize],
     rows: Vec<Option<Row>>,
 ) -> Result<Vec<Effect>, AllocError>
-    requires keys { length named.now.keys.items ≡ length rows.items }
-    requires others { length named.now.others.items ≡ length rows.items }
-    ensures { IfOk result (λ effects. effects.items ≡ effects_in (map (λ k. k.now) named.now.keys.items) named.now.others.items rows.items packet.now) }
+    requires keys { length keys.now ≡ length rows.items }
+    requires others { length others.now ≡ length rows.items }
+    ensures { IfOk result (λ effects. effects.items ≡ effects_in (map (λ k. k.now) keys.now) others.now rows.items messages.entry) }
 {
     let mut effects = Vec::with_capacity(alloc, rows.len())?;
-    let mut messages = packet.iter();
+    let mut messages = messages;
     for before in rows {
         let place = effects.len();
-        let after = row_after(alloc, &before, named.others[place], &mut messages)?;
-        let key = named.keys[place].copy(alloc)?;
+        let after = row_after(alloc, &before, others[place], &mut messages)?;
+        let key = keys[place].copy(alloc)?;
         effects.push(Effect { key, before, after })?;
     }
     Ok(effects)
 }
 
 /// How the messages of a packet change the rows of a tree that does not have the messages yet: for each key that they name and that the cover covers, the row
-/// before and the row after, in order of the keys. A crew looks the rows up. Other keys are neither looked up nor copied.
-pub fn effects<G: Gate + Sync, T: Threads + Wait + Sync>(
-    rt: &T,
-    alloc: Global,
-    tree: &Tree<Row>,
-    packet: &Packet<Row>,
-    cover: &Cover,
-    crew: &Crew<G>,
-) -> Result<Vec<Effect>, AllocError>
-    ensures { IfOk result (λ effects. effects.items ≡ effects_within cover.now packet.now (holds row_effect tree.now.1)) }
-{
-    let named = named_keys(alloc, packet, cover)?;
-    let rows = values(rt, alloc, tree, named.keys.as_slice(), crew)?;
-    effects_on(alloc, packet, &named, rows)
-}
-
-/// The same effects, without workers: the caller looks the rows up in one pass through the tree that reads only the nodes of these keys.
+/// before and the row after, in order of the keys. The caller looks the rows up, in one pass through the tree that reads only the nodes of these keys.
 pub fn effects_alone(
     alloc: Global,
     tree: &Tree<Row>,
@@ -171,7 +152,13 @@ pub fn effects_alone(
 ) -> Result<Vec<Effect>, AllocError>
     ensures { IfOk result (λ effects. effects.items ≡ effects_within cover.now packet.now (holds row_effect tree.now.1)) }
 {
-    let named = named_keys(alloc, packet, cover)?;
-    let rows = tree.walk().values(alloc, named.keys.as_slice())?;
-    effects_on(alloc, packet, &named, rows)
+    let NamedKeys { keys, others } = named_keys(alloc, packet, cover)?;
+    let rows = tree.walk().values(alloc, keys.as_slice())?;
+    effects_on(
+        alloc,
+        packet.iter(),
+        keys.as_slice(),
+        others.as_slice(),
+        rows,
+    )
 }

@@ -1,7 +1,7 @@
 pub mod Eithers
 pub mod Fillings
-pub mod KeyShares
 pub mod Marks
+pub mod OwnedKeys
 pub mod RoundJobs
 pub mod RoundTrees
 pub mod Slots

@@ -9,9 +9,9 @@
 //! `bt_plan` cuts a tree. A worker runs each job with [`run_job`]. [`fill`] puts the pieces into the holes of the tree, one at each hole.
 //! [`sink`] and [`drain`] do all three steps.
 //!
-//! A crew also reads a tree. The portions at the crew's depth are jobs that borrow the tree. [`read`] shows each to a fork of a visitor,
-//! [`rebuild`] copies the rows and packs them into a new tree, and [`values`] looks up keys. Only this crate runs flushes and reads of trees on
-//! threads.
+//! A crew also reads a tree. The portions at the crew's depth are jobs that borrow the tree. [`read`] shows each to a fork of a visitor, and
+//! [`rebuild`] copies the rows and packs them into a new tree. [`owned_keys`] divides keys among the portions that own them, for jobs that look
+//! them up.
 //!
 //! Jobs are numbered tree by tree, those of the rows first. Each tree takes as many pieces as it has jobs, so the results of a run go back to
 //! their trees by number. Nodes and messages are moved, never copied. If an allocation fails, every worker has ended before the call returns.
@@ -31,7 +31,7 @@ mod either;
 mod filling;
 mod flush_work;
 mod hole_places;
-mod key_lookups;
+mod key_shares;
 mod misfit;
 mod portion_visits;
 mod round;
@@ -40,7 +40,7 @@ mod round_tree;
 pub use bt_node::Portion;
 pub use filling::{FillError, fill};
 pub use flush_work::run_job;
-pub use key_lookups::values;
+pub use key_shares::owned_keys;
 pub use misfit::Misfit;
 pub use portion_visits::{read, rebuild};
 pub use round::{drain, sink};

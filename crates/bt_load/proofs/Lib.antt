@@ -9,4 +9,5 @@ pub mod Repeats
 pub mod Rows
 pub mod RowsLeft
 pub mod Stands
+pub mod TextPuts
 pub mod WorkedRows

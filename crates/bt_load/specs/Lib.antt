@@ -1,4 +1,5 @@
 pub mod Loads
 pub mod Maps
+pub mod Puts
 pub mod Steps
 pub mod inside

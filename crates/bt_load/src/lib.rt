@@ -12,16 +12,25 @@
 //! let rows = read_records_by(&InTurn, alloc, text, &schema)?;
 //! let pairs = load_rows_by(&InThreads { rt: &rt }, alloc, rows, &schema)?;
 //! ```
+//!
+//! A crew reads a text as the puts of a batch, sorted by key:
+//!
+//! ```text
+//! let packet = read_puts(&rt, alloc, text, &schema, &crew)?;
+//! let Some(rows) = PutRows::new(packet) else { .. };      // two records have the same key
+//! ```
 #![tactic(auto)]
 
 mod loading;
 mod placed;
+mod puts;
 mod read;
 mod sort;
 mod sorted_rows;
 mod typing;
 
 pub use loading::{InThreads, InTurn, Loading};
+pub use puts::{PutRows, read_puts};
 pub use read::{read_records, read_records_by};
 pub use sort::{load_rows, load_rows_by, sorted_rows_by};
 pub use sorted_rows::SortedRows;

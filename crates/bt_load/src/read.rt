@@ -1,5 +1,5 @@
 //! The rows of a text.
-ghost use Rattle.std.specs.Prelude.{◌≡◌, IfOk};
+ghost use Rattle.std.specs.Prelude.{◌≡◌, ◌≢◌, Err, IfErr, IfOk};
 ghost use Rattle.std.specs.Result.{result_map_both};
 ghost use Rattle.bt_value.specs.Answers.{Answers};
 ghost use Rattle.bt_value.specs.Results.{all_read};
@@ -16,7 +16,28 @@ use std::alloc::{AllocError, Global};
 use std::thread::Threads;
 
 // The list of records starts with capacity for one record for every this many bytes, so that for most texts it isn't reallocated.
-const SHORT_RECORD: usize = 6;
+pub(crate) const SHORT_RECORD: usize = 6;
+
+/// The records of a CSV text after its header. `BadSchema` means that the header isn't the names of the columns in order.
+pub(crate) fn records_under_header<'a>(
+    alloc: Global,
+    text: &'a [u8],
+    schema: &Schema,
+) -> Result<Records<'a>, Refusal>
+    ensures records { IfOk result (λ records. text_rows schema.now.columns text.now ≡ all_read (typed_from schema.now.columns 1 records)) }
+    ensures refused { IfErr result (λ refusal. refusal ≢ Refusal.OutOfMemory → text_rows schema.now.columns text.now ≡ Err refusal) }
+{
+    let Some(mut records) = Records::new(text) else {
+        return Err(Refusal::BadSchema);
+    };
+    let Some(header) = records.next() else {
+        return Err(Refusal::BadSchema);
+    };
+    if !RecordReader::new(alloc).is_header(schema.columns(), &header)? {
+        return Err(Refusal::BadSchema);
+    }
+    Ok(records)
+}
 
 // The records that are left of a text of `len` bytes.
 fn all_left<'a>(
@@ -84,15 +105,7 @@ pub fn read_records_by<L: Loading>(
     ensures answer { Answers (text_rows schema.now.columns text.now) (result_map_both (λ rows. rows.items) (λ e. e) result) }
     ensures rows { IfOk result (λ rows. AreOf schema.now.columns rows.items) }
 {
-    let Some(mut records) = Records::new(text) else {
-        return Err(Refusal::BadSchema);
-    };
-    let Some(header) = records.next() else {
-        return Err(Refusal::BadSchema);
-    };
-    if !RecordReader::new(alloc).is_header(schema.columns(), &header)? {
-        return Err(Refusal::BadSchema);
-    }
+    let records = records_under_header(alloc, text, schema)?;
     let lines = all_left(alloc, records, text.len())?;
     rows_of_lines(loading, alloc, schema, lines.as_slice())
 }

@@ -16,7 +16,6 @@ const PIECE_SIZE: usize = 8_192;
 // The number of bytes that are allocated for a piece, although only a piece of them is used. The C library gives the end of its heap back to the system if
 // more is free than twice the largest block that it mapped on its own and gave back, 32 MiB at most. Without such a block it does so after each batch, and the
 // next batch has to get the pages again.
-// get the pages again.
 const ROOM_SIZE: usize = 33_488_896;
 
 /// Why a run ends early.

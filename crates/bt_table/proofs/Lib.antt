@@ -1,9 +1,9 @@
 pub mod Indexes
 pub mod Loads
-pub mod Mapped
 pub mod offered
 pub mod Sinks
 pub mod Sound
 pub mod Standing
 pub mod Steps
+pub mod Targets
 pub mod WorkedRows

@@ -7,7 +7,7 @@ use crate::reply::Reply;
 use crate::table::Table;
 use crate::workforce::Workforce;
 use bt_batch::read_packet_alone;
-use bt_fanout::{Cover, Effect, IndexDef, effects_alone, index_packet_alone};
+use bt_fanout::{BuildStep, Cover, IndexDef, IndexTarget, build_step_alone, index_packets_alone};
 use bt_load::InTurn;
 use bt_messages::{Entry, Merge, Packet};
 use bt_node::Tree;
@@ -49,26 +49,28 @@ impl<T> Workforce<T> for Alone {
         read_packet_alone(alloc, schema, items)
     }
 
-    fn effects(
+    fn index_packets(
         &self,
         _rt: &T,
         alloc: Global,
         tree: &Tree<Row>,
         packet: &Packet<Row>,
         cover: &Cover,
-    ) -> Result<Vec<Effect>, AllocError> {
-        effects_alone(alloc, tree, packet, cover)
+        indexes: &[IndexTarget<'_>],
+    ) -> Result<Vec<Packet<Entry>>, AllocError> {
+        index_packets_alone(alloc, tree, packet, cover, indexes)
     }
 
-    fn index_packet(
+    fn build_step(
         &self,
         _rt: &T,
         alloc: Global,
         def: &IndexDef,
         cover: &Cover,
-        effects: &[Effect],
-    ) -> Result<Packet<Entry>, AllocError> {
-        index_packet_alone(alloc, def, cover, effects)
+        tree: &Tree<Row>,
+        count: usize,
+    ) -> Result<BuildStep, AllocError> {
+        build_step_alone(alloc, def, cover, tree, count)
     }
 
     fn sink(

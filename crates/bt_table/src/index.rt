@@ -1,18 +1,19 @@
 //! The indexes of a table: the head of each index, and beside it the tree of its entries.
-ghost use Rattle.std.specs.Prelude.{◌≡◌, ◌<◌, ◌++◌, ◌∷◌, [], IfOk, IfSome, Some, if◌then◌else◌, is_ok, length, map, option_map, set, slice_get};
+ghost use Rattle.std.specs.Prelude.{◌≡◌, ◌<◌, ◌++◌, ◌∷◌, [], IfOk, IfSome, List, Some, if◌then◌else◌, is_ok, length, map, option_map, set, slice_get};
 ghost use Rattle.std.specs.List.{All, list_all};
 ghost use Rattle.bt_node.specs.Flushes.{holds};
 ghost use Rattle.bt_node.specs.Trees.{leaf};
 ghost use Rattle.bt_fanout.specs.Effects.{SuitsEffect, effects_of, row_effect};
+ghost use Rattle.bt_fanout.specs.declared.effect.Effect.{Effect};
 ghost use Rattle.bt_fanout.specs.Covers.{is_whole};
 ghost use Rattle.bt_fanout.specs.Promises.{SuitsRows};
 ghost use Rattle.bt_table.specs.Indexes as spec;
 ghost use Rattle.bt_table.specs.Indexes.{index_of_ref, indexes_of};
-ghost use Rattle.bt_table.specs.inside.IndexTrees.{covers_all, empty_head, entry_tree, packet_for, count_for, widest, with_cover};
+ghost use Rattle.bt_table.specs.inside.IndexTrees.{covers_all, empty_head, entry_tree, packet_for, count_for, of_head, of_target, widest, with_cover};
 
 use crate::reply::SentCount;
 use crate::workforce::Workforce;
-use bt_fanout::{Cover, Effect, IndexDef, sorted_entries, wider};
+use bt_fanout::{Cover, IndexDef, IndexTarget, sorted_entries, wider};
 use bt_keycode::Key;
 use bt_messages::{Entry, Packet};
 use bt_node::{Shape, Tree, pack};
@@ -107,30 +108,36 @@ pub(crate) struct FanOut {
     pub(crate) sent: Sequence<SentCount>,
 }
 
-// The packets that effects on rows mean for indexes.
-fn packets_for<T, W: Workforce<T>>(
-    rt: &T,
+// The indexes, as a batch is sent to them.
+fn targets_of<'a>(alloc: Global, heads: &'a [IndexHead]) -> Result<Vec<IndexTarget<'a>>, AllocError>
+    ensures { IfOk result (λ targets. map of_target targets.items ≡ map of_head heads.now) }
+{
+    let mut targets = Vec::new(alloc);
+    for head in heads {
+        targets.push(IndexTarget {
+            def: &head.def,
+            cover: &head.cover,
+        })?;
+    }
+    Ok(targets)
+}
+
+// The number of messages in the packet of each index.
+fn sent_counts(
     alloc: Global,
     heads: &[IndexHead],
-    effects: &[Effect],
-    workforce: &W,
-) -> Result<FanOut, AllocError>
-    requires ready { W.accepts workforce.now }
-    requires suits { All (λ head. All (SuitsEffect head.def) effects.now) heads.now }
-    ensures packets { IfOk result (λ out. out.packets.items ≡ map (packet_for effects.now) heads.now) }
-    ensures sent { IfOk result (λ out. out.sent ≡ map (count_for effects.now) heads.now) }
+    packets: &[Packet<Entry>],
+) -> Result<Sequence<SentCount>, AllocError>
+    requires { length packets.now ≡ length heads.now }
+    ensures { (effects : List Effect) → packets.now ≡ map (packet_for effects) heads.now → IfOk result (λ sent. sent ≡ map (count_for effects) heads.now) }
 {
-    let mut packets = Vec::new(alloc);
     let mut sent = Sequence::new(alloc);
-    for head in heads {
-        packets.reserve(1)?;
-        let packet = workforce.index_packet(rt, alloc, &head.def, &head.cover, effects)?;
-        let count = packet.len();
-        packets.push_reserved(packet);
+    for (place, head) in heads.iter().enumerate() {
         let name = head.name.copy(alloc)?;
+        let count = packets[place].len();
         sent.push(SentCount { name, count })?;
     }
-    Ok(FanOut { packets, sent })
+    Ok(sent)
 }
 
 // The widest of a cover and those of indexes: it covers each key that one of them covers.
@@ -144,8 +151,7 @@ fn widest_cover<'a>(cover: &'a Cover, heads: &'a [IndexHead]) -> &'a Cover
     widest
 }
 
-/// What a packet of rows sends to the indexes of a table with this tree of rows. A key that none of them covers is not looked up, and if they cover no key at
-/// all, the tree is not read.
+/// What a packet of rows sends to the indexes of a table with this tree of rows. A key that none of them covers is not looked up.
 pub(crate) fn fan_out<T, W: Workforce<T>>(
     rt: &T,
     alloc: Global,
@@ -161,11 +167,10 @@ pub(crate) fn fan_out<T, W: Workforce<T>>(
 {
     let nothing = Cover::Nothing;
     let cover = widest_cover(&nothing, heads);
-    if matches!(cover, Cover::Nothing) {
-        return packets_for(rt, alloc, heads, &[], workforce);
-    }
-    let effects = workforce.effects(rt, alloc, tree, packet, cover)?;
-    packets_for(rt, alloc, heads, effects.as_slice(), workforce)
+    let targets = targets_of(alloc, heads)?;
+    let packets = workforce.index_packets(rt, alloc, tree, packet, cover, targets.as_slice())?;
+    let sent = sent_counts(alloc, heads, packets.as_slice())?;
+    Ok(FanOut { packets, sent })
 }
 
 /// Takes out the tree at a place, and leaves an empty one there.

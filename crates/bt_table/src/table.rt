@@ -19,7 +19,7 @@ use crate::index::{
 use crate::reply::Reply;
 use crate::trees::{TreeRoom, Trees, put_trees, sunk_all, sunk_one, take_trees};
 use crate::workforce::Workforce;
-use bt_fanout::{BuildStep, IndexDef, build_step};
+use bt_fanout::{BuildStep, IndexDef};
 use bt_keycode::{Key, encode_row};
 use bt_messages::Packet;
 use bt_node::{Shape, Tree};
@@ -279,7 +279,7 @@ impl Table {
             packet,
             cover,
             read,
-        } = build_step(alloc, &head.def, &head.cover, &trees.rows, count)?;
+        } = crew.build_step(rt, alloc, &head.def, &head.cover, &trees.rows, count)?;
         let complete = is_whole(&cover);
         let room = TreeRoom::new(alloc, 0, 1)?;
         let Trees { rows, mut entries } = take_trees(&mut self.trees);

@@ -1,11 +1,15 @@
 //! Who works on the calls of a table: the caller alone, or a crew.
-ghost use Rattle.std.specs.Prelude.{◌≡◌, ◌≢◌, ◌≤◌, ◌+◌, ◌++◌, IfErr, IfOk, IsErrOf, None, OnErr, OnOk, Some, length};
+ghost use Rattle.std.specs.Prelude.{◌≡◌, ◌≢◌, ◌≤◌, ◌+◌, ◌++◌, IfErr, IfOk, IsErrOf, None, OnErr, OnOk, Some, length, map};
 ghost use Rattle.std.specs.List.{All};
 ghost use Rattle.bt_messages.specs.Messages.{sorted_batch};
 ghost use Rattle.bt_node.specs.Drains.{drained, rebuilt};
 ghost use Rattle.bt_node.specs.Flushes.{holds};
 ghost use Rattle.bt_batch.specs.Batches.{batch_refusals, messages_of};
-ghost use Rattle.bt_fanout.specs.Effects.{SuitsEffect, effects_within, entry_effect, entry_meaning, row_effect, row_meaning, sent_for_all};
+ghost use Rattle.bt_fanout.specs.Covers.{cover_after, next_rows};
+ghost use Rattle.bt_fanout.specs.Effects.{effects_within, entry_effect, entry_meaning, row_effect, row_meaning};
+ghost use Rattle.bt_fanout.specs.Entries.{IsWithin};
+ghost use Rattle.bt_fanout.specs.Promises.{BuildsFrom, own_puts};
+ghost use Rattle.bt_fanout.specs.Targets.{SuitAll, packet_of};
 ghost use Rattle.bt_gather.specs.Rounds.{all_sunk};
 ghost use Rattle.bt_value.specs.Refusals.{least};
 ghost use Rattle.bt_value.specs.declared.refusal.Refusal.TheVariants as refusal;
@@ -16,10 +20,11 @@ ghost use Rattle.bt_table.specs.Tables.{Lost};
 use crate::reply::Reply;
 use crate::table::Table;
 use bt_batch::read_packet;
-use bt_fanout::{Cover, Effect, IndexDef, effects, index_packet};
+use bt_fanout::{
+    BuildStep, Cover, IndexDef, IndexTarget, build_step, build_step_alone, index_packets,
+};
 use bt_gang::{Crew, Gate, NoGate};
 use bt_gather::{MOST_TREES, drain, rebuild, sink};
-use bt_load::InTurn;
 use bt_messages::{Entry, Packet};
 use bt_node::Tree;
 use bt_row::{Row, Schema};
@@ -51,30 +56,36 @@ pub trait Workforce<T> {
         ensures allowed { OnOk result (least (batch_refusals schema.now items.now) ≡ None) }
         ensures refused { IfErr result (λ r. r ≢ refusal.OutOfMemory → least (batch_refusals schema.now items.now) ≡ Some r) };
 
-    /// How the messages of a packet change the rows of a tree, which does not have them yet, at the keys that a cover covers.
-    fn effects(
+    /// The packets of indexes for a packet of rows, which the tree does not have yet. Keys that the cover does not cover are not looked up.
+    fn index_packets(
         &self,
         rt: &T,
         alloc: Global,
         tree: &Tree<Row>,
         packet: &Packet<Row>,
         cover: &Cover,
-    ) -> Result<Vec<Effect>, AllocError>
+        indexes: &[IndexTarget<'_>],
+    ) -> Result<Vec<Packet<Entry>>, AllocError>
         requires ready { accepts self.now }
-        ensures effects { IfOk result (λ effects. effects.items ≡ effects_within cover.now packet.now (holds row_effect tree.now.1)) };
+        requires suits { SuitAll indexes.now (effects_within cover.now packet.now (holds row_effect tree.now.1)) }
+        ensures packets { IfOk result (λ packets. packets.items ≡ map (packet_of (effects_within cover.now packet.now (holds row_effect tree.now.1))) indexes.now) };
 
-    /// The packet of an index for effects on rows.
-    fn index_packet(
+    /// A step of building an index, which reads at most `count` rows of a tree that the index does not cover yet.
+    fn build_step(
         &self,
         rt: &T,
         alloc: Global,
         def: &IndexDef,
         cover: &Cover,
-        effects: &[Effect],
-    ) -> Result<Packet<Entry>, AllocError>
+        tree: &Tree<Row>,
+        count: usize,
+    ) -> Result<BuildStep, AllocError>
         requires ready { accepts self.now }
-        requires suits { All (SuitsEffect def.now) effects.now }
-        ensures packet { IfOk result (λ packet. packet ≡ sorted_batch (sent_for_all def.now cover.now effects.now)) };
+        requires within { All (λ row. IsWithin def.now (length row.1)) (holds row_effect tree.now.1) }
+        ensures packet { IfOk result (λ step. step.packet ≡ sorted_batch (own_puts def.now (next_rows count cover.now (holds row_effect tree.now.1)))) }
+        ensures builds { IfOk result (λ step. BuildsFrom def.now (next_rows count cover.now (holds row_effect tree.now.1)) step.packet) }
+        ensures cover { IfOk result (λ step. step.cover ≡ cover_after count cover.now (holds row_effect tree.now.1)) }
+        ensures read { IfOk result (λ step. step.read ≡ length (next_rows count cover.now (holds row_effect tree.now.1))) };
 
     /// Each tree after its packet. An `Err` keeps nothing of them.
     fn sink(
@@ -130,26 +141,29 @@ pub trait Workforce<T> {
         ensures sound { IsSoundUnlessLost table.new };
 }
 
-// Loads the rows of a CSV text into a table, as [`Table::load`] says: a single worker one part after the other, several workers in threads.
-fn load_by_workers<T: Threads + Sync>(
+// A step of building for fewer rows is not divided, because starting threads would take longer than the workers gain.
+const FEW_ROWS: usize = 16_384;
+
+// A step of building by a crew, or by the caller alone if it is small.
+fn crew_step<G: Gate + Sync, T: Threads + Wait + Sync>(
     rt: &T,
     alloc: Global,
-    table: &mut Table,
-    text: &[u8],
-    workers: usize,
-) -> Result<Reply, Refusal>
-    ensures done { IfOk result (IsStep table.old table.new (Load text.now)) }
-    ensures refused { IfErr result (IsRefused table.old table.new (Load text.now)) }
-    ensures unchanged { OnErr result (table.new ≡ table.old) }
-    ensures failed { table.old ≡ Lost → IsErrOf result Refusal.Failed }
-    ensures complete { CompleteIndexesHold table.new }
-    ensures sound { IsSoundUnlessLost table.new }
+    def: &IndexDef,
+    cover: &Cover,
+    tree: &Tree<Row>,
+    count: usize,
+    crew: &Crew<G>,
+) -> Result<BuildStep, AllocError>
+    requires { All (λ row. IsWithin def.now (length row.1)) (holds row_effect tree.now.1) }
+    ensures packet { IfOk result (λ step. step.packet ≡ sorted_batch (own_puts def.now (next_rows count cover.now (holds row_effect tree.now.1)))) }
+    ensures builds { IfOk result (λ step. BuildsFrom def.now (next_rows count cover.now (holds row_effect tree.now.1)) step.packet) }
+    ensures cover { IfOk result (λ step. step.cover ≡ cover_after count cover.now (holds row_effect tree.now.1)) }
+    ensures read { IfOk result (λ step. step.read ≡ length (next_rows count cover.now (holds row_effect tree.now.1))) }
 {
-    if workers == 1 {
-        table.load_by(&InTurn, alloc, text)
-    } else {
-        table.load(rt, alloc, text)
+    if count < FEW_ROWS {
+        return build_step_alone(alloc, def, cover, tree, count);
     }
+    build_step(rt, alloc, def, cover, tree, count, crew)
 }
 
 impl<T: Threads + Wait + Sync> Workforce<T> for Crew<NoGate> {
@@ -167,26 +181,28 @@ impl<T: Threads + Wait + Sync> Workforce<T> for Crew<NoGate> {
         read_packet(rt, alloc, schema, items, self)
     }
 
-    fn effects(
+    fn index_packets(
         &self,
         rt: &T,
         alloc: Global,
         tree: &Tree<Row>,
         packet: &Packet<Row>,
         cover: &Cover,
-    ) -> Result<Vec<Effect>, AllocError> {
-        effects(rt, alloc, tree, packet, cover, self)
+        indexes: &[IndexTarget<'_>],
+    ) -> Result<Vec<Packet<Entry>>, AllocError> {
+        index_packets(rt, alloc, tree, packet, cover, indexes, self)
     }
 
-    fn index_packet(
+    fn build_step(
         &self,
         rt: &T,
         alloc: Global,
         def: &IndexDef,
         cover: &Cover,
-        effects: &[Effect],
-    ) -> Result<Packet<Entry>, AllocError> {
-        index_packet(rt, alloc, def, cover, effects, self)
+        tree: &Tree<Row>,
+        count: usize,
+    ) -> Result<BuildStep, AllocError> {
+        crew_step(rt, alloc, def, cover, tree, count, self)
     }
 
     fn sink(
@@ -237,7 +253,7 @@ impl<T: Threads + Wait + Sync> Workforce<T> for Crew<NoGate> {
         table: &mut Table,
         text: &[u8],
     ) -> Result<Reply, Refusal> {
-        load_by_workers(rt, alloc, table, text, self.workers)
+        table.load_by_crew(rt, alloc, text, self)
     }
 }
 
@@ -256,26 +272,28 @@ impl<T: Threads + Wait + Sync> Workforce<T> for Crew<&(dyn Gate + Sync)> {
         read_packet(rt, alloc, schema, items, self)
     }
 
-    fn effects(
+    fn index_packets(
         &self,
         rt: &T,
         alloc: Global,
         tree: &Tree<Row>,
         packet: &Packet<Row>,
         cover: &Cover,
-    ) -> Result<Vec<Effect>, AllocError> {
-        effects(rt, alloc, tree, packet, cover, self)
+        indexes: &[IndexTarget<'_>],
+    ) -> Result<Vec<Packet<Entry>>, AllocError> {
+        index_packets(rt, alloc, tree, packet, cover, indexes, self)
     }
 
-    fn index_packet(
+    fn build_step(
         &self,
         rt: &T,
         alloc: Global,
         def: &IndexDef,
         cover: &Cover,
-        effects: &[Effect],
-    ) -> Result<Packet<Entry>, AllocError> {
-        index_packet(rt, alloc, def, cover, effects, self)
+        tree: &Tree<Row>,
+        count: usize,
+    ) -> Result<BuildStep, AllocError> {
+        crew_step(rt, alloc, def, cover, tree, count, self)
     }
 
     fn sink(
@@ -326,6 +344,6 @@ impl<T: Threads + Wait + Sync> Workforce<T> for Crew<&(dyn Gate + Sync)> {
         table: &mut Table,
         text: &[u8],
     ) -> Result<Reply, Refusal> {
-        load_by_workers(rt, alloc, table, text, self.workers)
+        table.load_by_crew(rt, alloc, text, self)
     }
 }

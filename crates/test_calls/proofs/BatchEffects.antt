@@ -1,5 +1,5 @@
 -- A definition of the two columns suits the three rows and the effects of the batch on them, so `build_step` may be called with these rows, and
--- `index_packet_alone` with these effects.
+-- `index_packet` with these effects.
 use Rattle.std.proofs.Common.{◌≡◌, ap, length, refl, take}
 use Rattle.std.specs.Prelude.{ℤ}
 use Rattle.std.specs.List.{All}

@@ -11,7 +11,7 @@ ghost use Rattle.bt_fanout.specs.Entries.{Definition, SuitsKinds};
 ghost use Rattle.test_calls.specs.Quantities as spec;
 
 use crate::samples::{is_text, short_text};
-use bt_fanout::{Cover, Effect, IndexDef, covers, effects_alone, entry, index_packet_alone};
+use bt_fanout::{Cover, Effect, IndexDef, covers, effects_alone, entry, index_packet};
 use bt_keycode::{Key, encode};
 use bt_messages::{Entry, Message, Packet};
 use bt_node::{Shape, Tree};
@@ -236,7 +236,7 @@ fn packet_text(alloc: Global, packet: &Packet<Entry>) -> Result<Vec<u8>, AllocEr
 fn sent_text(alloc: Global, on: &str, include: &str, cover: &Cover) -> Result<Vec<u8>, Refusal> {
     let effects = batch_effects(alloc)?;
     let def = index(alloc, on, include, None)?;
-    let packet = index_packet_alone(alloc, &def, cover, effects.as_slice());
+    let packet = index_packet(alloc, &def, cover, effects.as_slice());
     drop(def);
     Ok(packet_text(alloc, &packet?)?)
 }

@@ -44,3 +44,7 @@ moved_by cover (Some key) = UpTo key
 -- the cover after the rows that were read: whole, if more were to be read
 abbrev pub cover_behind : Cover → ℕ → Option Key → Cover
 cover_behind cover left last = if nat_lt 0 left then Whole else moved_by cover last
+
+-- after one more row, one less is to be read
+abbrev pub one_less : ℕ → Key × List Value → ℕ
+one_less left row = left - 1

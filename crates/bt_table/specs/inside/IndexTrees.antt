@@ -14,6 +14,7 @@ use Rattle.bt_fanout.specs.Selections.{select}
 use Rattle.bt_fanout.specs.declared.cover.Cover.{Cover}
 use Rattle.bt_fanout.specs.declared.cover.Cover.TheVariants.{Nothing}
 use Rattle.bt_fanout.specs.declared.effect.Effect.{Effect}
+use Rattle.bt_fanout.specs.declared.joint_packets.IndexTarget.{IndexTarget}
 use Rattle.bt_table.specs.Indexes.{EntryTree}
 use Rattle.bt_table.specs.declared.index.IndexHead.{IndexHead}
 use Rattle.bt_table.specs.declared.reply.SentCount.{SentCount}
@@ -38,6 +39,13 @@ abbrev pub covers_all : IndexHead → Bool
 covers_all head = is_whole head.cover
 
 -- ---- trees
+
+-- the definition and the cover of an index, by which a batch is sent to it
+abbrev pub of_head : IndexHead → Definition × Cover
+of_head head = (head.def, head.cover)
+
+abbrev pub of_target : IndexTarget → Definition × Cover
+of_target target = (target.def.now, target.cover.now)
 
 -- the packet that effects on rows mean for an index, and how many messages it is sent
 abbrev pub packet_for : List Effect → IndexHead → Messages EntryMessage

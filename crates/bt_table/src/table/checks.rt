@@ -3,14 +3,12 @@
 
 ghost use Rattle.std.specs.Prelude.{◌≡◌, ◌≢◌, ℕ};
 ghost use Rattle.bt_value.specs.Answers.{Answers};
-ghost use Rattle.bt_table.specs.Calls.{Apply, BuildStep, Drain, DropIndex, Load, Rebuild, permitted};
+ghost use Rattle.bt_table.specs.Calls.{Apply, BuildStep, Drain, DropIndex, Rebuild, permitted};
 
 use crate::index::{find_index, is_whole};
 use crate::table::Table;
-use crate::table::load::{check_load, packed_trees};
 use crate::table::upkeep::find_tree;
 use crate::workforce::Workforce;
-use bt_load::{Loading, read_records_by};
 use bt_rowtype::Item;
 use bt_value::{Refusal, Text};
 use std::alloc::Global;
@@ -69,33 +67,6 @@ impl Table {
             return Err(Refusal::Failed);
         };
         let _found = find_tree(self.heads.as_slice(), trees.entries.as_slice(), name)?;
-        Ok(())
-    }
-
-    /// Whether [`Table::load_by`] would be refused, and as what. The trees of the load are made, and dropped.
-    pub fn check_load_by<L: Loading>(
-        &self,
-        loading: &L,
-        alloc: Global,
-        text: &[u8],
-    ) -> Result<(), Refusal>
-        requires ready { L.accepts loading.now }
-        ensures { Answers (permitted self.now (Load text.now)) result }
-    {
-        let Some(trees) = &self.trees else {
-            return Err(Refusal::Failed);
-        };
-        let rows = read_records_by(loading, alloc, text, &self.schema)?;
-        check_load(self.heads.as_slice(), trees)?;
-        let loaded = packed_trees(
-            loading,
-            alloc,
-            trees.rows.shape(),
-            self.heads.as_slice(),
-            rows,
-            &self.schema,
-        )?;
-        drop(loaded);
         Ok(())
     }
 }

@@ -1,16 +1,19 @@
 //! Loading rows into a table that has none.
 #![tactic(auto, using(crate::proofs::offered::Steps::unless_lost_hold))]
 
-ghost use Rattle.std.specs.Prelude.{◌≡◌, ◌≢◌, [], Err, IfErr, IfOk, IsErrOf, None, Ok, OnErr, OnOk, Some, length};
+ghost use Rattle.std.specs.FinMap.{is_sorted};
+ghost use Rattle.std.specs.Prelude.{◌≡◌, ◌≢◌, [], Err, IfErr, IfOk, IfSome, IsErrOf, IsTrue, None, Ok, OnErr, OnOk, Some, length};
 ghost use Rattle.std.specs.List.{All};
 ghost use Rattle.bt_value.specs.Refusals.{least};
+ghost use Rattle.bt_keycode.specs.Keys.{key_cmp};
 ghost use Rattle.bt_keycode.specs.Standing.{RowMap};
+ghost use Rattle.bt_value.specs.Answers.{Answers};
 ghost use Rattle.bt_load.specs.Maps.{map_of};
 ghost use Rattle.bt_fanout.specs.Promises.{SuitsRows};
-ghost use Rattle.bt_table.specs.inside.Loads.{ArePackedOf};
+ghost use Rattle.bt_table.specs.inside.Loads.{AllSuitText, AreLoaded, ArePacked, ArePackedOf, rows_to_load};
 ghost use Rattle.bt_table.specs.Calls as spec;
 ghost use Rattle.bt_table.specs.Indexes.{indexes_of};
-ghost use Rattle.bt_table.specs.Calls.{IsRefused, IsStep, Load};
+ghost use Rattle.bt_table.specs.Calls.{IsRefused, IsStep, Load, permitted};
 ghost use Rattle.bt_table.specs.Standing.{CompleteIndexesHold, IsSoundUnlessLost};
 ghost use Rattle.bt_table.specs.Tables.{Lost};
 
@@ -18,12 +21,17 @@ use crate::index::{IndexHead, are_complete, pack_entries};
 use crate::reply::Reply;
 use crate::table::Table;
 use crate::trees::{Trees, put_trees};
+use bt_gang::{Crew, Gate};
 use bt_keycode::Key;
-use bt_load::{InThreads, Loading, SortedRows, load_rows_by, read_records_by, sorted_rows_by};
+use bt_load::{
+    InThreads, InTurn, Loading, PutRows, SortedRows, load_rows_by, read_puts, read_records_by,
+    sorted_rows_by,
+};
 use bt_node::{RowSource, Shape, Tree, pack, pack_source};
 use bt_row::{Row, Schema};
 use bt_value::Refusal;
-use std::alloc::Global;
+use std::alloc::{AllocError, Global};
+use std::sync::Wait;
 use std::thread::Threads;
 
 fn is_bare(tree: &Tree<Row>) -> bool
@@ -33,8 +41,8 @@ fn is_bare(tree: &Tree<Row>) -> bool
     root.is_leaf() && root.row_count() == 0
 }
 
-/// Whether rows can be loaded into a table with these indexes and trees.
-pub(crate) fn check_load(heads: &[IndexHead], trees: &Trees) -> Result<(), Refusal>
+// Whether rows can be loaded into a table with these indexes and trees.
+fn check_load(heads: &[IndexHead], trees: &Trees) -> Result<(), Refusal>
     requires { length trees.now.entries.items ≡ length heads.now }
     ensures free { OnOk result (least (spec.load_refusals (indexes_of heads.now trees.now.entries.items) trees.now.rows.1) ≡ None) }
     ensures refused { IfErr result (λ refusal. least (spec.load_refusals (indexes_of heads.now trees.now.entries.items) trees.now.rows.1) ≡ Some refusal) }
@@ -62,21 +70,32 @@ impl RowSource<Row> for LoadedRows {
     }
 }
 
+// Rows that a crew read, from which a tree is packed.
+#[derive(Drop)]
+struct ReadRows {
+    rows: PutRows,
+}
+
+impl RowSource<Row> for ReadRows {
+    ghost left = { λ read. read.rows };
+
+    fn next_row(&mut self) -> Option<(Key, Row)> {
+        self.rows.next_row()
+    }
+}
+
 // The packed tree of rows of a table without indexes, and the number of rows.
-fn packed_rows<L: Loading>(
-    loading: &L,
+fn packed_source<S: RowSource<Row>>(
     alloc: Global,
     shape: Shape,
-    rows: Vec<Row>,
-    schema: &Schema,
-) -> Result<(Trees, usize), Refusal>
-    requires ready { L.accepts loading.now }
-    ensures packed { IfOk result (λ made. ArePackedOf shape schema.now rows.items [] made.0 made.1) }
-    ensures refused { IfErr result (λ refusal. refusal ≢ Refusal.OutOfMemory → map_of schema.now.keys rows.items ≡ Err refusal) }
+    count: usize,
+    rows: S,
+) -> Result<(Trees, usize), AllocError>
+    requires counted { count ≡ length (S.left rows) }
+    requires sorted { IsTrue (is_sorted key_cmp (S.left rows)) }
+    ensures { IfOk result (λ made. ArePacked shape (S.left rows) [] made.0 made.1) }
 {
-    let count = rows.len();
-    let sorted = sorted_rows_by(loading, alloc, rows, schema)?;
-    let tree = pack_source(alloc, shape, count, LoadedRows { rows: sorted })?;
+    let tree = pack_source(alloc, shape, count, rows)?;
     let trees = Trees {
         rows: tree,
         entries: Vec::new(alloc),
@@ -84,8 +103,29 @@ fn packed_rows<L: Loading>(
     Ok((trees, count))
 }
 
-/// The packed trees of rows and of their entries, and the number of rows.
-pub(crate) fn packed_trees<L: Loading>(
+// The packed trees of rows and of their entries, and the number of rows.
+fn packed_pairs(
+    alloc: Global,
+    shape: Shape,
+    heads: &[IndexHead],
+    pairs: Vec<(Key, Row)>,
+) -> Result<(Trees, usize), AllocError>
+    requires sorted { IsTrue (is_sorted key_cmp pairs.items) }
+    requires suit { All (λ head. SuitsRows head.def pairs.items) heads.now }
+    ensures { IfOk result (λ made. ArePacked shape pairs.items heads.now made.0 made.1) }
+{
+    let count = pairs.len();
+    let entries = pack_entries(alloc, shape, heads, pairs.as_slice())?;
+    let tree = pack(alloc, shape, pairs)?;
+    let trees = Trees {
+        rows: tree,
+        entries,
+    };
+    Ok((trees, count))
+}
+
+// The packed trees of typed rows and of their entries, and the number of rows.
+fn packed_trees<L: Loading>(
     loading: &L,
     alloc: Global,
     shape: Shape,
@@ -99,17 +139,97 @@ pub(crate) fn packed_trees<L: Loading>(
     ensures refused { IfErr result (λ refusal. refusal ≢ Refusal.OutOfMemory → map_of schema.now.keys rows.items ≡ Err refusal) }
 {
     if heads.is_empty() {
-        return packed_rows(loading, alloc, shape, rows, schema);
+        let count = rows.len();
+        let sorted = sorted_rows_by(loading, alloc, rows, schema)?;
+        return Ok(packed_source(alloc, shape, count, LoadedRows { rows: sorted })?);
     }
     let pairs = load_rows_by(loading, alloc, rows, schema)?;
-    let count = pairs.len();
-    let entries = pack_entries(alloc, shape, heads, pairs.as_slice())?;
-    let tree = pack(alloc, shape, pairs)?;
-    let trees = Trees {
-        rows: tree,
-        entries,
+    Ok(packed_pairs(alloc, shape, heads, pairs)?)
+}
+
+// The packed trees of rows that a crew read, and of their entries, and the number of rows.
+fn packed_puts(
+    alloc: Global,
+    shape: Shape,
+    heads: &[IndexHead],
+    rows: PutRows,
+) -> Result<(Trees, usize), AllocError>
+    requires sorted { IsTrue (is_sorted key_cmp rows) }
+    requires suit { All (λ head. SuitsRows head.def rows) heads.now }
+    ensures { IfOk result (λ made. ArePacked shape rows heads.now made.0 made.1) }
+{
+    if heads.is_empty() {
+        let count = rows.len();
+        return packed_source(alloc, shape, count, ReadRows { rows });
+    }
+    let pairs = rows.into_pairs(alloc)?;
+    packed_pairs(alloc, shape, heads, pairs)
+}
+
+// The trees of a text that is loaded into a table with these indexes and trees, and the number of rows.
+fn loaded_trees<L: Loading>(
+    loading: &L,
+    alloc: Global,
+    schema: &Schema,
+    heads: &[IndexHead],
+    trees: &Trees,
+    text: &[u8],
+) -> Result<(Trees, usize), Refusal>
+    requires ready { L.accepts loading.now }
+    requires whole { length trees.now.entries.items ≡ length heads.now }
+    requires suit { AllSuitText schema.now heads.now text.now }
+    ensures loaded { IfOk result (λ made. AreLoaded schema.now heads.now trees.now text.now made.0 made.1) }
+    ensures refused { IfErr result (λ refusal. refusal ≢ Refusal.OutOfMemory → rows_to_load schema.now heads.now trees.now text.now ≡ Err refusal) }
+{
+    let rows = read_records_by(loading, alloc, text, schema)?;
+    check_load(heads, trees)?;
+    packed_trees(loading, alloc, trees.rows.shape(), heads, rows, schema)
+}
+
+// The same, read and sorted by the workers of a crew, or nothing if two records have the same key.
+fn read_trees<G: Gate + Sync, T: Threads + Wait + Sync>(
+    rt: &T,
+    alloc: Global,
+    schema: &Schema,
+    heads: &[IndexHead],
+    trees: &Trees,
+    text: &[u8],
+    crew: &Crew<G>,
+) -> Result<Option<(Trees, usize)>, Refusal>
+    requires whole { length trees.now.entries.items ≡ length heads.now }
+    requires suit { AllSuitText schema.now heads.now text.now }
+    ensures loaded { IfOk result (λ found. IfSome found (λ made. AreLoaded schema.now heads.now trees.now text.now made.0 made.1)) }
+    ensures refused { IfErr result (λ refusal. refusal ≢ Refusal.OutOfMemory → rows_to_load schema.now heads.now trees.now text.now ≡ Err refusal) }
+{
+    let packet = read_puts(rt, alloc, text, schema, crew)?;
+    check_load(heads, trees)?;
+    let Some(rows) = PutRows::new(packet) else {
+        return Ok(None);
     };
-    Ok((trees, count))
+    Ok(Some(packed_puts(alloc, trees.rows.shape(), heads, rows)?))
+}
+
+// The same by a crew. If two records have the same key, one worker finds the first such record.
+fn crew_trees<G: Gate + Sync, T: Threads + Wait + Sync>(
+    rt: &T,
+    alloc: Global,
+    schema: &Schema,
+    heads: &[IndexHead],
+    trees: &Trees,
+    text: &[u8],
+    crew: &Crew<G>,
+) -> Result<(Trees, usize), Refusal>
+    requires whole { length trees.now.entries.items ≡ length heads.now }
+    requires suit { AllSuitText schema.now heads.now text.now }
+    ensures loaded { IfOk result (λ made. AreLoaded schema.now heads.now trees.now text.now made.0 made.1) }
+    ensures refused { IfErr result (λ refusal. refusal ≢ Refusal.OutOfMemory → rows_to_load schema.now heads.now trees.now text.now ≡ Err refusal) }
+{
+    if crew.workers > 1 {
+        if let Some(made) = read_trees(rt, alloc, schema, heads, trees, text, crew)? {
+            return Ok(made);
+        }
+    }
+    loaded_trees(&InTurn, alloc, schema, heads, trees, text)
 }
 
 impl Table {
@@ -152,18 +272,74 @@ impl Table {
         let Some(trees) = &self.trees else {
             return Err(Refusal::Failed);
         };
-        let rows = read_records_by(loading, alloc, text, &self.schema)?;
-        check_load(self.heads.as_slice(), trees)?;
-        let (loaded, count) = packed_trees(
+        let (loaded, count) = loaded_trees(
             loading,
             alloc,
-            trees.rows.shape(),
-            self.heads.as_slice(),
-            rows,
             &self.schema,
+            self.heads.as_slice(),
+            trees,
+            text,
         )?;
         put_trees(&mut self.trees, loaded);
         self.soundness();
         Ok(Reply::Loaded(count))
+    }
+
+    /// The same as [`Table::load`], by a crew. With several workers the records are typed and sorted as those of a batch. With one
+    /// worker no thread starts. After an `Err` every worker has ended.
+    pub fn load_by_crew<G: Gate + Sync, T: Threads + Wait + Sync>(
+        &mut self,
+        rt: &T,
+        alloc: Global,
+        text: &[u8],
+        crew: &Crew<G>,
+    ) -> Result<Reply, Refusal>
+        ensures done { IfOk result (IsStep self.old self.new (Load text.now)) }
+        ensures refused { IfErr result (IsRefused self.old self.new (Load text.now)) }
+        ensures unchanged { OnErr result (self.new ≡ self.old) }
+        ensures failed { self.old ≡ Lost → IsErrOf result Refusal.Failed }
+        ensures complete { CompleteIndexesHold self.new }
+        ensures sound { IsSoundUnlessLost self.new }
+    {
+        let Some(trees) = &self.trees else {
+            return Err(Refusal::Failed);
+        };
+        let (loaded, count) = crew_trees(
+            rt,
+            alloc,
+            &self.schema,
+            self.heads.as_slice(),
+            trees,
+            text,
+            crew,
+        )?;
+        put_trees(&mut self.trees, loaded);
+        self.soundness();
+        Ok(Reply::Loaded(count))
+    }
+
+    /// Whether [`Table::load_by`] would be refused, and as what. The trees of the load are made, and dropped.
+    pub fn check_load_by<L: Loading>(
+        &self,
+        loading: &L,
+        alloc: Global,
+        text: &[u8],
+    ) -> Result<(), Refusal>
+        requires ready { L.accepts loading.now }
+        ensures { Answers (permitted self.now (Load text.now)) result }
+    {
+        let Some(trees) = &self.trees else {
+            return Err(Refusal::Failed);
+        };
+        let loaded = loaded_trees(
+            loading,
+            alloc,
+            &self.schema,
+            self.heads.as_slice(),
+            trees,
+            text,
+        )?;
+        drop(loaded);
+        Ok(())
     }
 }

@@ -7,7 +7,7 @@ use Rattle.bt_fanout.proofs.row_effects.effects_on.Given as goal
 abbrev pub invariant-loop-before : goal.invariant-loop-before
 invariant-loop-before l = record {
   many : length l.effects.items + length (into_iter_items l.before-iterator) ≡ length l.fn.rows.items;
-  effects : effects_in (map (λ k. k.now) l.named.keys.items) l.named.others.items l.fn.rows.items l.packet
-      ≡ l.effects.items ++ effects_in (map (λ k. k.now) (drop (length l.effects.items) l.named.keys.items))
-      (drop (length l.effects.items) l.named.others.items) (into_iter_items l.before-iterator) l.messages;
+  effects : effects_in (map (λ k. k.now) l.keys) l.others l.fn.rows.items l.fn.messages
+      ≡ l.effects.items ++ effects_in (map (λ k. k.now) (drop (length l.effects.items) l.keys))
+      (drop (length l.effects.items) l.others) (into_iter_items l.before-iterator) l.messages;
 }

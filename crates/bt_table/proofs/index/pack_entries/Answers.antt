@@ -1,7 +1,7 @@
 use Rattle.std.proofs.Common.{◌∙◌, ◌++◌, ◌∷◌, [], ap, arith, subst, sym}
 use Rattle.bt_fanout.specs.Promises.{SuitsRows}
 use Rattle.bt_table.specs.inside.IndexTrees.{entry_tree}
-use Rattle.bt_table.proofs.Mapped.{mapped_next}
+use Rattle.bt_fanout.proofs.offered.Mapped.{mapped_next}
 use Rattle.bt_table.proofs.index.pack_entries.Goals as goal
 
 pub packed_entries-requires : goal.packed_entries-requires

@@ -3,7 +3,7 @@ use Rattle.std.specs.List.{All}
 use Rattle.bt_fanout.specs.Effects.{SuitsEffect}
 use Rattle.test_calls.proofs.indexes.sent_text.Goals as goal
 
-pub index_packet_alone-packet-requires : goal.index_packet_alone-packet-requires
-index_packet_alone-packet-requires c =
+pub index_packet-packet-requires : goal.index_packet-packet-requires
+index_packet-packet-requires c =
     let def = c.in_ok-def in
     subst (All (SuitsEffect def.def)) (sym c.as_slice.ensures.value) (c.in_ok-effects.ensures def.def def.ensures.suits def.ensures.keys)

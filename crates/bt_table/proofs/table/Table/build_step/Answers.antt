@@ -8,8 +8,8 @@ pub find_index-requires : goal.find_index-requires
 find_index-requires g c = rw (c.as_slice.ensures.value, c.as_slice-2.ensures.value)
     (each_has_tree c.self.inside.schema c.self.inside.heads.items c.self.inside.trees c.in-Some.trees c.in-Some.is c.self.invariant)
 
-pub build_step-requires : goal.build_step-requires
-build_step-requires g c =
+pub build_step-requires-clause-within : goal.build_step-requires-clause-within
+build_step-requires-clause-within g c =
     let found = sym (rw (c.as_slice.ensures.value, c.as_slice-2.ensures.value) at c.in-Some-find_index.ensures.found) in
     found_within c.self.inside.schema c.self.inside.heads.items c.self.inside.trees c.in-Some.trees c.in-Some.is c.self.invariant c.args.self.now
     c.self.view_is c.args.name.now c.in-Some-find_index.place c.in-Some-find_index.index found

@@ -1,0 +1,16 @@
+use Rattle.std.proofs.Common.{◌∙◌, ap, subst, sym}
+use Rattle.bt_messages.specs.Messages.{sorted_batch}
+use Rattle.bt_node.specs.Flushes.{holds}
+use Rattle.bt_fanout.specs.Covers.{next_rows}
+use Rattle.bt_fanout.specs.Effects.{row_effect}
+use Rattle.bt_fanout.specs.Promises.{BuildsFrom}
+use Rattle.bt_fanout.proofs.BuildPackets.{builds_from}
+use Rattle.bt_fanout.proofs.step.build_step_alone.Goals as goal
+
+pub returns-clause-packet : goal.returns-clause-packet
+returns-clause-packet c = c.in_ok-packet.ensures.messages ∙ ap sorted_batch c.in_ok-messages.ensures.messages
+
+pub returns-clause-builds : goal.returns-clause-builds
+returns-clause-builds c =
+    let read = next_rows c.args.count c.args.cover.now (holds row_effect c.args.tree.now.1) in
+    subst (BuildsFrom c.args.def.now read) (sym (c.in_ok-packet.ensures.messages ∙ ap sorted_batch c.in_ok-messages.ensures.messages)) (builds_from c.args.def.now read)
