@@ -1,5 +1,5 @@
 -- A step of building sends the entries that the rows it reads add to the index.
-use Rattle.std.proofs.Common.{◌≡◌, ℕ, zero, suc, ◌<◌, Bool, true, false, cond, not, ◌&&◌, T, List, [], ◌∷◌, ◌++◌, length, take}
+use Rattle.std.proofs.Common.{◌≡◌, ℕ, zero, suc, ◌<◌, Bool, true, false, cond, not, T, List, [], ◌∷◌, ◌++◌, length, take}
 use Rattle.std.proofs.Common.{refl, sym, ap, subst, ◌∙◌, Option, Some, None, is_some, if◌then◌else◌, true≢false, arith}
 use Rattle.std.specs.Prelude.{nat_lt}
 use borrow.Author.Tests.{ltb-true}
@@ -26,7 +26,7 @@ module _ {X : Type 0} where
   below_less j k [] l h = tt
   below_less j k (r ∷ rows) l h = t_both _ _ (t_true _ (before_chain j k r.0 l (true_t _ (t_first _ _ h)))) (below_less j k rows l (t_second _ _ h))
 
-  below_take : (k : List ℕ) (n : ℕ) (rows : Rows X) → T (below_all key_cmp k rows) → T (below_all key_cmp k (take n rows))
+  pub below_take : (k : List ℕ) (n : ℕ) (rows : Rows X) → T (below_all key_cmp k rows) → T (below_all key_cmp k (take n rows))
   below_take k zero rows h = tt
   below_take k (suc n) [] h = tt
   below_take k (suc n) (r ∷ rows) h = t_both _ _ (t_first _ _ h) (below_take k n rows (t_second _ _ h))
@@ -36,7 +36,7 @@ module _ {X : Type 0} where
   sorted_take (suc n) [] h = tt
   sorted_take (suc n) (r ∷ rows) h = t_both _ _ (below_take r.0 n rows (t_first _ _ h)) (sorted_take n rows (t_second _ _ h))
 
-  last_later : (j k : List ℕ) (rows : Rows X) → is_before j k ≡ true → T (below_all key_cmp j rows) → is_before j (last_key k rows) ≡ true
+  pub last_later : (j k : List ℕ) (rows : Rows X) → is_before j k ≡ true → T (below_all key_cmp j rows) → is_before j (last_key k rows) ≡ true
   last_later j k [] l h = l
   last_later j k (r ∷ rows) l h = last_later j r.0 rows (true_t _ (t_first _ _ h)) (t_second _ _ h)
 
@@ -68,7 +68,7 @@ module _ {X : Type 0} where
         | false ↦ λ b. front k n v vs (t_second _ _ h)
       ] refl
 
-  short : (n : ℕ) (rows : Rows X) → length (take n rows) < n → take n rows ≡ rows
+  pub short : (n : ℕ) (rows : Rows X) → length (take n rows) < n → take n rows ≡ rows
   short zero rows h = absurd (omega arith)
   short (suc n) [] h = refl
   short (suc n) (r ∷ rows) h = ap (λ rs. r ∷ rs) (short n rows (omega arith))
@@ -97,11 +97,11 @@ module _ {X : Type 0} where
 
   -- ---- the rows that were not covered
 
-  abbrev AllOut : Cover → Rows X → Type 0
+  abbrev pub AllOut : Cover → Rows X → Type 0
   AllOut cover [] = Unit {0}
   AllOut cover (r ∷ rows) = (is_covered cover r.0 ≡ false) × AllOut cover rows
 
-  out_covered : (cover : Cover) (rows : Rows X) → AllOut cover (covered (λ k. not (is_covered cover k)) rows)
+  pub out_covered : (cover : Cover) (rows : Rows X) → AllOut cover (covered (λ k. not (is_covered cover k)) rows)
   out_covered cover [] = tt
   out_covered cover (r ∷ rows) = elim (is_covered cover r.0) as (λ b. is_covered cover r.0 ≡ b
       → AllOut cover (cond (not b) (r ∷ covered (λ k. not (is_covered cover k)) rows) (covered (λ k. not (is_covered cover k)) rows))) [

@@ -2,6 +2,7 @@ pub mod Batches
 pub mod BuildPackets
 pub mod Builds
 pub mod EffectJobs
+pub mod EntryPuts
 pub mod Entries
 pub mod GroupEffects
 pub mod Groups
@@ -13,7 +14,7 @@ pub mod Owners
 pub mod PacketGroups
 pub mod Picking
 pub mod PiecePackets
-pub mod PortionPuts
+pub mod RowsBetween
 pub mod RowsRead
 pub mod Sendings
 pub mod SortedEntries

@@ -12,17 +12,17 @@ use Rattle.std.specs.List.Sorted.{IsStableBy, ties}
 use Rattle.std.specs.Option.{option_to_list}
 use Rattle.std.specs.Ordering.{eq_by_cmp, is_eq}
 use Rattle.std.specs.declared.cmp.Ordering.TheVariants.{Less, Equal, Greater}
-use Rattle.bt_value.specs.declared.value.Kind.{Kind}
 use Rattle.bt_value.specs.declared.value.Value.{Value}
 use Rattle.bt_keycode.specs.Keys.{AllFrom, IsSorted, is_before, key_cmp}
 use Rattle.bt_keycode.proofs.offered.Order.{not_after}
 use Rattle.bt_keycode.proofs.offered.Truths.{t_first, t_second, true_t}
 use Rattle.bt_messages.specs.Effects.{Rows}
+use Rattle.bt_messages.specs.Messages.{sorted_batch}
 use Rattle.bt_messages.proofs.offered.Stable.{earlier, stable_is_sorted_batch, tied_key}
-use Rattle.bt_fanout.specs.Entries.{Definition, StandsUnder, entry_of, own_entry}
+use Rattle.bt_fanout.specs.Entries.{Definition, StandsUnder, entry_of}
 use Rattle.bt_fanout.specs.Promises.{SuitsRows}
 use Rattle.bt_fanout.specs.Selections.{AreApart, EachStands, entry_in, select, with_entry}
-use Rattle.bt_fanout.specs.inside.RowEntries.{own_entries}
+use Rattle.bt_fanout.specs.inside.RowEntries.{entries_of}
 use Rattle.bt_fanout.proofs.Entries.{apart}
 use Rattle.bt_fanout.proofs.Lookups.{equal_itself, find-select, find_below, is_at, sorted-select, value_at}
 use Rattle.bt_fanout.proofs.Owners.{owns}
@@ -111,10 +111,6 @@ module _ {E : Type 0} where
 -- ---- the entries of rows
 
 module _ {X E : Type 0} (entry : List ℕ → X → Option (List ℕ × E)) where
-  abbrev entries_of : Rows X → Rows E
-  entries_of [] = []
-  entries_of (r ∷ rows) = option_to_list (entry r.0 r.1) ++ entries_of rows
-
   module _ (Stands : List ℕ → X → Type 0) (are_apart : AreApart Stands entry) where
     -- later rows have no entry with the key of that of a row
     new_key : (r : List ℕ × X) (rows : Rows X) (a : List ℕ × E) → T (is_sorted key_cmp (r ∷ rows)) → EachStands Stands (r ∷ rows) → entry r.0 r.1 ≡ Some a → find key_cmp a.0 (select entry rows) ≡ None
@@ -122,44 +118,47 @@ module _ {X E : Type 0} (entry : List ℕ → X → Option (List ℕ × E)) wher
         find-select entry a.0 r.0 rows (t_second _ _ sorted) (owns entry Stands are_apart a.0 r.0 r.1 stand.0 (ap (is_at a.0) e ∙ equal_itself a.0) rows stand.1)
         ∙ ap (λ x. value_at a.0 (entry_in entry r.0 x)) (find_below r.0 rows (t_first _ _ sorted))
 
-    selects_in_order : (rows : Rows X) → T (is_sorted key_cmp rows) → EachStands Stands rows → IsStableBy earlier (entries_of rows) (select entry rows)
+    selects_in_order : (rows : Rows X) → T (is_sorted key_cmp rows) → EachStands Stands rows → IsStableBy earlier (entries_of entry rows) (select entry rows)
     selects_in_order [] sorted stand x = refl
     selects_in_order (r ∷ rows) sorted stand x =
-        elim (entry r.0 r.1) as (λ o. entry r.0 r.1 ≡ o → filter (ties earlier x) (with_entry o (select entry rows)) ≡ filter (ties earlier x) (option_to_list o ++ entries_of rows)) [
+        elim (entry r.0 r.1) as (λ o. entry r.0 r.1 ≡ o → filter (ties earlier x) (with_entry o (select entry rows)) ≡ filter (ties earlier x) (option_to_list o ++ entries_of entry rows)) [
           | None ↦ λ e. selects_in_order rows (t_second _ _ sorted) stand.1 x
           | Some a ↦ λ e.
               put_in_order x a.0 a.1 (select entry rows) (new_key r rows a sorted stand e)
               ∙ ap (λ zs. cond (ties earlier x a) (a ∷ zs) zs) (selects_in_order rows (t_second _ _ sorted) stand.1 x)
         ] refl
 
+    selected_are_sorted : (rows : Rows X) → T (is_sorted key_cmp rows) → EachStands Stands rows → select entry rows ≡ sorted_batch (entries_of entry rows)
+    selected_are_sorted rows sorted stand =
+        stable_is_sorted_batch (entries_of entry rows) (select entry rows) (in_order (select entry rows) (sorted-select entry rows)) (selects_in_order rows sorted stand)
+
     -- so entries have only one order by rising key
-    reordered_are_selected : (rows : Rows X) (es : Rows E) → T (is_sorted key_cmp rows) → EachStands Stands rows → IsPermutation (entries_of rows) es → IsSorted es → es ≡ select entry rows
+    reordered_are_selected : (rows : Rows X) (es : Rows E) → T (is_sorted key_cmp rows) → EachStands Stands rows → IsPermutation (entries_of entry rows) es → IsSorted es → es ≡ select entry rows
     reordered_are_selected rows es sorted stand moved up =
-        stable_is_sorted_batch (entries_of rows) es up
-        (λ x. one_kept (ties earlier x) (entries_of rows) es moved
+        stable_is_sorted_batch (entries_of entry rows) es up
+        (λ x. one_kept (ties earlier x) (entries_of entry rows) es moved
         (subst (λ kept. length kept ≤ 1) (selects_in_order rows sorted stand x) (few_tied x (select entry rows) (sorted-select entry rows))))
-        ∙ sym (stable_is_sorted_batch (entries_of rows) (select entry rows) (in_order (select entry rows) (sorted-select entry rows)) (selects_in_order rows sorted stand))
+        ∙ sym (selected_are_sorted rows sorted stand)
 
-own_entries-are : (def : Definition) (kinds : List Kind) (rows : Rows (List Value)) → EachStands (StandsUnder def kinds) rows → own_entries def rows ≡ entries_of (entry_of def) rows
-own_entries-are def kinds [] stand = refl
-own_entries-are def kinds (r ∷ rows) stand =
-    ap (λ k. option_to_list (entry_of def k r.1) ++ own_entries def rows) stand.0.under ∙ ap (λ es. option_to_list (entry_of def r.0 r.1) ++ es) (own_entries-are def kinds rows stand.1)
+pub select-sorted : (def : Definition) (rows : Rows (List Value)) → SuitsRows def rows → select (entry_of def) rows ≡ sorted_batch (entries_of (entry_of def) rows)
+select-sorted def rows suits = selected_are_sorted (entry_of def) (StandsUnder def suits.kinds) (apart def suits.kinds) rows suits.sorted suits.stand
 
-pub sorted_entries-are : (def : Definition) (rows sorted : Rows (List Value)) → SuitsRows def rows → IsPermutation (own_entries def rows) sorted → IsSorted sorted → sorted ≡ select (entry_of def) rows
+pub sorted_entries-are : (def : Definition) (rows sorted : Rows (List Value)) → SuitsRows def rows → IsPermutation (entries_of (entry_of def) rows) sorted → IsSorted sorted
+    → sorted ≡ select (entry_of def) rows
 sorted_entries-are def rows sorted suits moved up =
-    reordered_are_selected (entry_of def) (StandsUnder def suits.kinds) (apart def suits.kinds) rows sorted suits.sorted suits.stand
-    (subst (λ es. IsPermutation es sorted) (own_entries-are def suits.kinds rows suits.stand) moved) up
+    reordered_are_selected (entry_of def) (StandsUnder def suits.kinds) (apart def suits.kinds) rows sorted suits.sorted suits.stand moved up
 
 -- ---- while they are collected
 
 -- the entry of one more row
 pub one_more : (def : Definition) (rows : Rows (List Value)) (i : ℕ) (row : List ℕ × List Value) (whole old new : Rows (List Value)) → i < length rows → row ≡ get_or rows i row →
-    whole ≡ old ++ own_entries def (drop i rows) → new ≡ old ++ option_to_list (own_entry def (Some row.1)) → whole ≡ new ++ own_entries def (drop (i + 1) rows)
+    whole ≡ old ++ entries_of (entry_of def) (drop i rows) → new ≡ old ++ option_to_list (entry_of def row.0 row.1) → whole ≡ new ++ entries_of (entry_of def) (drop (i + 1) rows)
 one_more def rows i row whole old new within is so more =
-    so ∙ ap (λ rs. old ++ own_entries def rs) (drop_more rows i row within ∙ ap (λ r. r ∷ drop (i + 1) rows) (sym is))
-    ∙ sym (append_assoc old (option_to_list (own_entry def (Some row.1))) (own_entries def (drop (i + 1) rows)))
-    ∙ ap (λ es. es ++ own_entries def (drop (i + 1) rows)) (sym more)
+    so ∙ ap (λ rs. old ++ entries_of (entry_of def) rs) (drop_more rows i row within ∙ ap (λ r. r ∷ drop (i + 1) rows) (sym is))
+    ∙ sym (append_assoc old (option_to_list (entry_of def row.0 row.1)) (entries_of (entry_of def) (drop (i + 1) rows)))
+    ∙ ap (λ es. es ++ entries_of (entry_of def) (drop (i + 1) rows)) (sym more)
 
 -- none are left
-pub all_collected : (def : Definition) (rows : Rows (List Value)) (i : ℕ) (whole entries : Rows (List Value)) → length rows ≤ i → whole ≡ entries ++ own_entries def (drop i rows) → entries ≡ whole
-all_collected def rows i whole entries past e = sym (e ∙ ap (λ rs. entries ++ own_entries def rs) (drop_of_length-le rows past) ∙ append-nil entries)
+pub all_collected : (def : Definition) (rows : Rows (List Value)) (i : ℕ) (whole entries : Rows (List Value)) → length rows ≤ i
+    → whole ≡ entries ++ entries_of (entry_of def) (drop i rows) → entries ≡ whole
+all_collected def rows i whole entries past e = sym (e ∙ ap (λ rs. entries ++ entries_of (entry_of def) rs) (drop_of_length-le rows past) ∙ append-nil entries)

@@ -14,7 +14,7 @@ use Rattle.bt_fanout.specs.Effects.{EntryMessage, RowMessage, entry_effect, row_
 use Rattle.bt_fanout.specs.Entries.{Definition, StandsUnder, SuitsKinds, entry_of, same_values}
 use Rattle.bt_fanout.specs.Promises.{index_of}
 use Rattle.bt_fanout.specs.Selections.{EachStands, index_messages}
-use Rattle.bt_fanout.specs.inside.Readings.{none_read, after_row}
+use Rattle.bt_fanout.specs.inside.Readings.{none_read, read_row, rows_between}
 use Rattle.bt_fanout.specs.declared.cover.Cover.{Cover}
 use Rattle.bt_fanout.specs.declared.cover.Cover.TheVariants.{Nothing, UpTo, Whole}
 use Rattle.bt_fanout.proofs.offered.Suiting.{all_more, all_none}
@@ -117,6 +117,11 @@ no_rows : (cover_after 0 Nothing rows ≡ Nothing) × (cover_after 0 (UpTo (k 2)
 unfolding eight_bytes
 no_rows = (refl, refl, refl, refl)
 
+-- and is what lies between the cover before it and the cover after it
+between_them : rows_between (UpTo (k 1)) (cover_after 1 (UpTo (k 1)) rows) rows ≡ (k 2, row 2 20) ∷ []
+unfolding eight_bytes
+between_them = refl
+
 -- the rows after the second one are those from its next key on
 behind : messages_between (Some (k 2 ++ 0 ∷ [])) None rows ≡ behind_two
 unfolding eight_bytes
@@ -127,11 +132,11 @@ abbrev from_15 : Definition
 from_15 = record { on = 1 ∷ []; include = []; condition = Some (record { place = 1; test = test.AtLeast; constant = value.Int (pos 15) }); keys = 1 }
 
 -- one by one: the first row has no entry and still moves the cover, the second one has an entry
-one_by_one : fold (after_row from_15) (none_read 1) (next_rows 1 Nothing rows) ≡ record { messages = []; left = 0; last = Some (k 1) }
+one_by_one : fold read_row (none_read 1, (from_15, [])) (next_rows 1 Nothing rows) ≡ (record { left = 0; last = Some (k 1) }, (from_15, []))
 unfolding eight_bytes
 one_by_one = refl
 
-two_by_one : fold (after_row from_15) (none_read 3) (next_rows 2 Nothing rows) ≡ record { messages = (k 20 ++ k 2, Put []) ∷ []; left = 1; last = None }
+two_by_one : fold read_row (none_read 3, (from_15, [])) (next_rows 2 Nothing rows) ≡ (record { left = 1; last = None }, (from_15, (k 20 ++ k 2, Put []) ∷ []))
 unfolding eight_bytes
 two_by_one = refl
 

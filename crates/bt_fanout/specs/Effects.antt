@@ -11,8 +11,8 @@ use Rattle.bt_messages.specs.Payloads.{entry_terms, row_terms}
 use Rattle.bt_messages.specs.declared.message.Message.{Message}
 use Rattle.bt_row.specs.Ops.{Change}
 use Rattle.bt_fanout.specs.Covers.{is_covered}
-use Rattle.bt_fanout.specs.Entries.{Definition, IsWithin, own_entry, same_values}
-use Rattle.bt_fanout.specs.Selections.{between, named}
+use Rattle.bt_fanout.specs.Entries.{Definition, IsWithin, entry_of, same_values}
+use Rattle.bt_fanout.specs.Selections.{between, entry_in, named}
 use Rattle.bt_fanout.specs.declared.cover.Cover.{Cover}
 use Rattle.bt_fanout.specs.declared.effect.Effect.{Effect}
 
@@ -61,7 +61,8 @@ SuitsEffect def effect = SuitsIn def effect.before × SuitsIn def effect.after
 
 -- what is sent to an index for one effect
 abbrev pub sent_for : Definition → Cover → Effect → Messages EntryMessage
-sent_for def cover effect = if is_covered cover effect.key then between same_values (own_entry def effect.before) (own_entry def effect.after) else []
+sent_for def cover effect =
+    if is_covered cover effect.key then between same_values (entry_in (entry_of def) effect.key effect.before) (entry_in (entry_of def) effect.key effect.after) else []
 
 -- for all effects
 abbrev pub sent_for_all : Definition → Cover → List Effect → Messages EntryMessage

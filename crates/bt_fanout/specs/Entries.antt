@@ -48,11 +48,6 @@ passes (Some condition) row = meets condition.test (value_cmp (value_in row cond
 abbrev pub entry_of : Definition → Key → List Value → Option (Key × List Value)
 entry_of def key row = if passes def.condition row then Some (code_of (picked def.on row) ++ key, picked def.include row) else None
 
--- the entry of a row under its own key, if there is a row
-abbrev pub own_entry : Definition → Option (List Value) → Option (Key × List Value)
-own_entry def None = None
-own_entry def (Some row) = entry_of def (row_key def.keys row) row
-
 -- a row of these kinds under the code of its key columns
 pub record StandsUnder (def : Definition) (kinds : List Kind) (key : Key) (row : List Value) : Type 0 where
   pub of_kinds : map kind_of row ≡ kinds

@@ -1,5 +1,5 @@
 -- What is promised about the messages of an index.
-use Rattle.std.specs.Prelude.{◌≡◌, ◌++◌, ℕ, List, [], ◌∷◌, Some, T, length}
+use Rattle.std.specs.Prelude.{◌≡◌, ℕ, List, T, length}
 use Rattle.std.specs.FinMap.{is_sorted}
 use Rattle.std.specs.List.{All}
 use Rattle.bt_value.specs.declared.value.Kind.{Kind}
@@ -7,12 +7,13 @@ use Rattle.bt_value.specs.declared.value.Value.{Value}
 use Rattle.bt_keycode.specs.Keys.{key_cmp}
 use Rattle.bt_messages.specs.Effects.{Rows, rows_after}
 use Rattle.bt_messages.specs.Messages.{Messages, sorted_batch}
-use Rattle.bt_fanout.specs.Covers.{cover_after, is_covered, next_rows, put_of_entry}
+use Rattle.bt_fanout.specs.Covers.{cover_after, is_covered, next_rows, puts_of}
 use Rattle.bt_fanout.specs.Effects.{EntryMessage, RowMessage, effects_of, entry_effect, row_effect}
-use Rattle.bt_fanout.specs.Entries.{Definition, IsWithin, StandsUnder, entry_of, own_entry, same_values}
+use Rattle.bt_fanout.specs.Entries.{Definition, IsWithin, StandsUnder, entry_of, same_values}
 use Rattle.bt_fanout.specs.Selections.{EachStands, covered, index_messages, select}
 use Rattle.bt_fanout.specs.declared.cover.Cover.{Cover}
 use Rattle.bt_fanout.specs.declared.effect.Effect.{Effect}
+use Rattle.bt_fanout.specs.declared.step.BuildStep.{BuildStep}
 
 -- the index of covered rows
 abbrev pub index_of : Definition → Cover → Rows (List Value) → Rows (List Value)
@@ -33,16 +34,18 @@ TurnsIndex def cover effects packet =
 
 -- ---- steps of building
 
--- the entries of rows under their own keys as puts
-abbrev pub own_puts : Definition → Rows (List Value) → Messages EntryMessage
-own_puts def [] = []
-own_puts def (r ∷ rows) = put_of_entry (own_entry def (Some r.1)) ++ own_puts def rows
-
 -- if the rows are those that a step of building reads, the packet changes the index of the rows covered before it to that of the rows covered after it
 abbrev pub BuildsFrom : Definition → Rows (List Value) → Messages EntryMessage → Type 0
 BuildsFrom def read packet =
     (kinds : List Kind) (n : ℕ) (cover : Cover) (rows : Rows (List Value)) → read ≡ next_rows n cover rows → T (is_sorted key_cmp rows) →
     EachStands (StandsUnder def kinds) rows → rows_after entry_effect packet (index_of def cover rows) ≡ index_of def (cover_after n cover rows) rows
+
+-- what a step that is to read n rows makes
+pub record IsBuildStep (def : Definition) (n : ℕ) (before : Cover) (rows : Rows (List Value)) (step : BuildStep) : Type 0 where
+  pub packet : step.packet ≡ sorted_batch (puts_of (entry_of def) (next_rows n before rows))
+  pub builds : BuildsFrom def (next_rows n before rows) step.packet
+  pub cover : step.cover ≡ cover_after n before rows
+  pub read : step.read ≡ length (next_rows n before rows)
 
 -- ---- loads
 

@@ -1,4 +1,4 @@
-//! The entries of rows that an index does not cover yet.
+//! The entries of all rows, and entries as messages.
 ghost use Rattle.std.specs.FinMap.{is_sorted};
 ghost use Rattle.std.specs.Prelude.{◌≡◌, ◌++◌, IfOk, IsTrue, OnOk, length};
 ghost use Rattle.std.specs.List.{All};
@@ -8,10 +8,10 @@ ghost use Rattle.bt_fanout.specs.Covers.{put_of_entry};
 ghost use Rattle.bt_fanout.specs.Entries.{IsWithin, entry_of};
 ghost use Rattle.bt_fanout.specs.Promises.{SuitsRows};
 ghost use Rattle.bt_fanout.specs.Selections.{select};
-ghost use Rattle.bt_fanout.specs.inside.RowEntries.{own_entries};
+ghost use Rattle.bt_fanout.specs.inside.RowEntries.{entries_of};
 
 use crate::definition::IndexDef;
-use crate::selecting::entry;
+use crate::selecting::entry_at;
 use bt_keycode::Key;
 use bt_messages::{Entry, Message};
 use bt_row::Row;
@@ -53,11 +53,11 @@ fn entries_in_order(
     rows: &[(Key, Row)],
 ) -> Result<Vec<(Key, Entry)>, AllocError>
     requires { All (λ row. IsWithin def.now (length row.1)) rows.now }
-    ensures { IfOk result (λ entries. entries.items ≡ own_entries def.now rows.now) }
+    ensures { IfOk result (λ entries. entries.items ≡ entries_of (entry_of def.now) rows.now) }
 {
     let mut entries = Vec::new(alloc);
     for row in rows {
-        add_entry(&mut entries, entry(alloc, def, &row.1)?)?;
+        add_entry(&mut entries, entry_at(alloc, def, &row.0, &row.1)?)?;
     }
     Ok(entries)
 }

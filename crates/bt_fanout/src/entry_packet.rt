@@ -7,13 +7,13 @@ ghost use Rattle.bt_messages.specs.declared.message.Message.TheVariants.{Del, Pu
 ghost use Rattle.bt_fanout.specs.Effects.{SuitsEffect, SuitsIn, sent_for, sent_for_all};
 ghost use Rattle.bt_fanout.specs.Entries as spec;
 ghost use Rattle.bt_fanout.specs.Promises.{TurnsIndex};
-ghost use Rattle.bt_fanout.specs.Selections.{between};
+ghost use Rattle.bt_fanout.specs.Selections.{between, entry_in};
 
 use crate::building::add_put;
 use crate::cover::{Cover, covers};
 use crate::definition::IndexDef;
 use crate::effect::Effect;
-use crate::selecting::entry;
+use crate::selecting::entry_at;
 use bt_keycode::Key;
 use bt_messages::{Entry, Message, Packet};
 use bt_row::{Row, same_values};
@@ -79,18 +79,19 @@ fn add_between(
     }
 }
 
-// The entry of a row, if there is a row that has one.
-fn own_entry(
+// The entry of the row that a key has, if there is a row that has one.
+fn entry_in(
     alloc: Global,
     def: &IndexDef,
+    key: &Key,
     row: &Option<Row>,
 ) -> Result<Option<(Key, Entry)>, AllocError>
     requires { SuitsIn def.now row.now }
-    ensures { IfOk result (λ entry. entry ≡ spec.own_entry def.now row.now) }
+    ensures { IfOk result (λ entry. entry ≡ entry_in (spec.entry_of def.now) key.now row.now) }
 {
     match row {
         None => Ok(None),
-        Some(row) => entry(alloc, def, row),
+        Some(row) => entry_at(alloc, def, key, row),
     }
 }
 
@@ -108,8 +109,8 @@ fn add_effect(
     if !covers(cover, &effect.key) {
         return Ok(());
     }
-    let old = own_entry(alloc, def, &effect.before)?;
-    let new = own_entry(alloc, def, &effect.after)?;
+    let old = entry_in(alloc, def, &effect.key, &effect.before)?;
+    let new = entry_in(alloc, def, &effect.key, &effect.after)?;
     add_between(messages, old, new)
 }
 

@@ -20,13 +20,15 @@
 //! let packets = index_packets(&rt, alloc, &rows, &packet, &Cover::Whole, &indexes, &crew)?;
 //! // the messages of a step of building that reads the first hundred rows not covered yet, and the cover after it
 //! let BuildStep { packet, cover, read } = build_step(&rt, alloc, &def, &cover, &rows, 100, &crew)?;
+//! // the entries of all rows, from which the tree of an index is packed
+//! let puts = entry_puts(&rt, alloc, &def, &rows, &crew)?;
 //! ```
 //!
 //! `specs` has the definitions. `Selections` says, for any kind of entries, what an index selects of a map and which messages a batch
 //! sends to it. `Entries` defines the entry of a row, `Definitions` the meaning of names and filters, and `Covers` which keys a building
 //! index covers and which rows a step of building reads. `Effects` defines how a batch changes rows, and `Promises` what the messages of
-//! an index do. `inside/Readings` has what a step of building keeps of the rows while it reads them, and `inside/RowEntries` the entries
-//! of rows before they are sorted.
+//! an index do. `inside/Readings` says which rows a step of building reads, one by one and between two covers, and `inside/RowEntries` has
+//! the entries of rows before they are sorted.
 #![tactic(auto)]
 
 mod building;
@@ -37,6 +39,7 @@ mod effect;
 mod effect_jobs;
 mod entry_packet;
 mod joint_packets;
+mod puts;
 mod row_effects;
 mod selecting;
 mod step;
@@ -48,6 +51,7 @@ pub use effect::Effect;
 pub use effect_jobs::effects;
 pub use entry_packet::index_packet;
 pub use joint_packets::{IndexTarget, index_packets, index_packets_alone};
+pub use puts::entry_puts;
 pub use row_effects::effects_alone;
-pub use selecting::entry;
+pub use selecting::{entry, entry_at};
 pub use step::{BuildStep, build_step, build_step_alone};

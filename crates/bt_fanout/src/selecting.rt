@@ -1,12 +1,12 @@
 //! The entry of a row.
-ghost use Rattle.std.specs.Prelude.{◌≡◌, ◌<◌, ◌++◌, IfOk, OnOk, length, take};
+ghost use Rattle.std.specs.Prelude.{◌≡◌, ◌<◌, ◌++◌, IfOk, OnOk, length};
 ghost use Rattle.std.specs.List.{All};
 ghost use Rattle.bt_keycode.specs.Codes.{code_of};
 ghost use Rattle.bt_keycode.specs.Standing.{row_key};
 ghost use Rattle.bt_fanout.specs.Entries.{HasPlace, IsWithin, entry_of, meets, passes, picked};
 
 use crate::definition::{Condition, IndexDef};
-use bt_keycode::{CodeBuilder, Key};
+use bt_keycode::{CodeBuilder, Key, encode_row};
 use bt_messages::Entry;
 use bt_row::{Row, Test, compare_values};
 use std::alloc::{AllocError, Global};
@@ -66,25 +66,14 @@ fn add_picked_codes(code: &mut CodeBuilder, row: &Row, places: &[usize]) -> Resu
     Ok(())
 }
 
-// Adds the codes of the first values of a row, or of all values if there are fewer.
-fn add_first_codes(code: &mut CodeBuilder, row: &Row, count: usize) -> Result<(), AllocError>
-    ensures { OnOk result (code.new ≡ code.old ++ code_of (take count row.now)) }
-{
-    let mut rest = row.first_values(count);
-    while let Some(value) = rest.next() {
-        code.add(value)?;
-    }
-    Ok(())
-}
-
-// The key of the entry of a row: the code of the columns that the index is ordered by, and of the key.
-fn entry_key(alloc: Global, def: &IndexDef, row: &Row) -> Result<Key, AllocError>
+// The key of the entry of a row: the code of the columns that the index is ordered by, and the key of the row.
+fn entry_key(alloc: Global, def: &IndexDef, key: &Key, row: &Row) -> Result<Key, AllocError>
     requires { IsWithin def.now (length row.now) }
-    ensures { IfOk result (λ key. key ≡ code_of (picked def.now.on row.now) ++ row_key def.now.keys row.now) }
+    ensures { IfOk result (λ entry_key. entry_key ≡ code_of (picked def.now.on row.now) ++ key.now) }
 {
     let mut code = CodeBuilder::new(alloc);
     add_picked_codes(&mut code, row, def.on())?;
-    add_first_codes(&mut code, row, def.keys())?;
+    code.add_code(key)?;
     code.finish()
 }
 
@@ -98,16 +87,30 @@ fn included_values(alloc: Global, def: &IndexDef, row: &Row) -> Result<Entry, Al
     Ok(Entry::new(values))
 }
 
-/// The entry of a row, if it passes the filter: its key and its value.
-pub fn entry(alloc: Global, def: &IndexDef, row: &Row) -> Result<Option<(Key, Entry)>, AllocError>
+/// The entry of a row under a key, if the row passes the filter: its key and its value. The key of the row is not encoded again.
+pub fn entry_at(
+    alloc: Global,
+    def: &IndexDef,
+    key: &Key,
+    row: &Row,
+) -> Result<Option<(Key, Entry)>, AllocError>
     requires { IsWithin def.now (length row.now) }
-    ensures { IfOk result (λ entry. entry ≡ entry_of def.now (row_key def.now.keys row.now) row.now) }
+    ensures { IfOk result (λ entry. entry ≡ entry_of def.now key.now row.now) }
 {
     if !meets_condition(def.condition(), row) {
         return Ok(None);
     }
     Ok(Some((
-        entry_key(alloc, def, row)?,
+        entry_key(alloc, def, key, row)?,
         included_values(alloc, def, row)?,
     )))
+}
+
+/// The entry of a row as returned by [`entry_at`], under the code of the row's key columns.
+pub fn entry(alloc: Global, def: &IndexDef, row: &Row) -> Result<Option<(Key, Entry)>, AllocError>
+    requires { IsWithin def.now (length row.now) }
+    ensures { IfOk result (λ entry. entry ≡ entry_of def.now (row_key def.now.keys row.now) row.now) }
+{
+    let key = encode_row(alloc, row, def.keys())?;
+    entry_at(alloc, def, &key, row)
 }

@@ -11,6 +11,7 @@ pub mod PieceShares
 pub mod PiecesAtHoles
 pub mod PlaceSearch
 pub mod Placing
+pub mod PutLeaves
 pub mod SeenPieces
 pub mod SunkTrees
 pub mod offered

@@ -1,5 +1,6 @@
 pub mod Eithers
 pub mod Fillings
+pub mod LeafJobs
 pub mod Marks
 pub mod OwnedKeys
 pub mod RoundJobs

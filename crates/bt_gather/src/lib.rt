@@ -13,6 +13,8 @@
 //! [`rebuild`] copies the rows and packs them into a new tree. [`owned_keys`] divides keys among the portions that own them, for jobs that look
 //! them up.
 //!
+//! [`pack_puts`] builds a tree from a packet of puts. A worker makes some of the leaves, and the caller puts the inner nodes above them.
+//!
 //! Jobs are numbered tree by tree, those of the rows first. Each tree takes as many pieces as it has jobs, so the results of a run go back to
 //! their trees by number. Nodes and messages are moved, never copied. If an allocation fails, every worker has ended before the call returns.
 //!
@@ -21,10 +23,11 @@
 //! let (rows, entries) = sink(&rt, alloc, rows, entries, &crew)?;
 //! let rows = drain(&rt, alloc, tree, &crew)?;
 //! let copies = read(&rt, alloc, &rows, Some(&from), None, Copies::new(alloc), &crew)?;
+//! let packed = pack_puts(&rt, alloc, shape, puts, &crew)?;
 //! ```
 //!
 //! The definitions are in `specs`. `Rounds` defines the result for several trees. `Misfits` says which pieces don't fit a tree in pieces. `Laws`
-//! says what [`fill`] requires and what it refuses.
+//! says what [`fill`] requires and what it refuses. `Puts` defines the rows that messages put.
 #![tactic(auto)]
 
 mod either;
@@ -33,6 +36,7 @@ mod flush_work;
 mod hole_places;
 mod key_shares;
 mod misfit;
+mod packing;
 mod portion_visits;
 mod round;
 mod round_tree;
@@ -42,6 +46,7 @@ pub use filling::{FillError, fill};
 pub use flush_work::run_job;
 pub use key_shares::owned_keys;
 pub use misfit::Misfit;
+pub use packing::pack_puts;
 pub use portion_visits::{read, rebuild};
 pub use round::{drain, sink};
 pub use round_tree::MOST_TREES;

@@ -80,6 +80,15 @@ impl CodeBuilder {
         }
     }
 
+    /// Adds a code that was made before. An `Err` changes nothing.
+    #[inline]
+    pub fn add_code(&mut self, code: &Key) -> Result<(), AllocError>
+        ensures ok { OnOk result (self.new ≡ self.old ++ code.now) }
+        ensures err { OnErr result (self.new ≡ self.old) }
+    {
+        self.push(code.as_slice(), &[])
+    }
+
     /// The key that encodes the values.
     pub fn finish(self) -> Result<Key, AllocError>
         ensures { IfOk result (λ key. key ≡ self) }

@@ -1,11 +1,9 @@
 -- The rows of a text, read as puts and sorted by key.
-use Rattle.std.proofs.Common.{◌≡◌, ◌≢◌, ℕ, ◌+◌, Bool, true, false, T, List, [], ◌∷◌, ◌++◌, map, refl, sym, ap, ◌∙◌, subst, arith, Option, Some, None}
-use Rattle.std.proofs.Common.{Result, Ok, Err, IfErr, IfOk, OnOk, if◌then◌else◌}
-use Rattle.std.proofs.lemmas.List.Sorted.{IsPermutation-append_right, IsPermutation-cons, IsPermutation-map, IsPermutation-refl, IsPermutation-swap, IsPermutation-trans}
+use Rattle.std.proofs.Common.{◌≡◌, ◌≢◌, ℕ, ◌+◌, T, List, [], ◌∷◌, map, refl, sym, ap, ◌∙◌, subst, Option, Some, None}
+use Rattle.std.proofs.Common.{Result, Ok, Err, IfErr, IfOk, OnOk}
 use Rattle.std.specs.FinMap.{is_sorted}
 use Rattle.std.specs.FinMap.Entries.{below_all}
 use Rattle.std.specs.List.{filter_map}
-use Rattle.std.specs.List.Sorted.{IsPermutation}
 use Rattle.std.specs.Ordering.{is_lt}
 use Rattle.std.specs.declared.cmp.Ordering.TheVariants.{Less}
 use Rattle.std.specs.Result.{result_err, result_ok}
@@ -20,14 +18,10 @@ use Rattle.bt_rowtype.specs.declared.item.Item.TheVariants as item
 use Rattle.bt_keycode.specs.Keys.{Key, is_before, key_cmp}
 use Rattle.bt_keycode.proofs.offered.Order.{is_less, total_keys}
 use Rattle.bt_keycode.proofs.offered.Truths.{t_both, t_first, t_second, t_true, true_t}
-use Rattle.bt_keycode.specs.Standing.{RowMap}
-use Rattle.bt_messages.specs.Messages.{sorted_batch, with_message, with_messages}
+use Rattle.bt_messages.specs.Messages.{Messages, sorted_batch}
 use Rattle.bt_batch.specs.Batches.{KeyedMessage, RowMessages, messages_of, put_of, read_batch, record_refusals}
 use Rattle.bt_load.specs.Loads.{text_rows, typed_from}
-use Rattle.bt_load.specs.Maps.{keyed_rows, map_of}
-use Rattle.bt_load.specs.Puts.{ArePutsOf, put_row, put_rows}
-use Rattle.bt_load.specs.inside.Rising.{keys_rise, rise_from}
-use Rattle.bt_load.proofs.Maps.{sorted_is_map}
+use Rattle.bt_load.specs.Puts.{ArePutsOf, keys_rise, rise_from}
 
 -- ---- the records as items of a batch
 
@@ -90,25 +84,26 @@ module _ (schema : Schema) (text : List ℕ) (records : List Fields) (items : Li
 
 -- ---- keys that strictly rise
 
-skipped : (first last : Key) (ms : RowMessages) → T (is_before first last) → T (rise_from last ms) → T (rise_from first ms)
-skipped first last [] before rise = tt
-skipped first last (m ∷ ms) before rise =
-    let near = t_first (is_before last m.0) (rise_from m.0 ms) rise in
-    let far : key_cmp first m.0 ≡ Less = total_keys.trans first last m.0 (is_less _ (true_t _ before)) (is_less _ (true_t _ near)) in
-    t_both (is_before first m.0) (rise_from m.0 ms) (t_true _ (ap is_lt far)) (t_second (is_before last m.0) (rise_from m.0 ms) rise)
+module _ {M : Type 0} where
+  skipped : (first last : Key) (ms : Messages M) → T (is_before first last) → T (rise_from last ms) → T (rise_from first ms)
+  skipped first last [] before rise = tt
+  skipped first last (m ∷ ms) before rise =
+      let near = t_first (is_before last m.0) (rise_from m.0 ms) rise in
+      let far : key_cmp first m.0 ≡ Less = total_keys.trans first last m.0 (is_less _ (true_t _ before)) (is_less _ (true_t _ near)) in
+      t_both (is_before first m.0) (rise_from m.0 ms) (t_true _ (ap is_lt far)) (t_second (is_before last m.0) (rise_from m.0 ms) rise)
 
-rise_below : (last : Key) (ms : RowMessages) → T (rise_from last ms) → T (below_all key_cmp last (put_rows ms))
-rise_below last [] rise = tt
-rise_below last (m ∷ ms) rise =
-    let near = t_first (is_before last m.0) (rise_from m.0 ms) rise in
-    t_both (is_before last m.0) (below_all key_cmp last (put_rows ms)) near (rise_below last ms (skipped last m.0 ms near (t_second (is_before last m.0) (rise_from m.0 ms) rise)))
+  rise_below : (last : Key) (ms : Messages M) → T (rise_from last ms) → T (below_all key_cmp last ms)
+  rise_below last [] rise = tt
+  rise_below last (m ∷ ms) rise =
+      let near = t_first (is_before last m.0) (rise_from m.0 ms) rise in
+      t_both (is_before last m.0) (below_all key_cmp last ms) near (rise_below last ms (skipped last m.0 ms near (t_second (is_before last m.0) (rise_from m.0 ms) rise)))
 
-rise_sorted : (last : Key) (ms : RowMessages) → T (rise_from last ms) → T (is_sorted key_cmp (put_rows ms))
-rise_sorted last [] rise = tt
-rise_sorted last (m ∷ ms) rise =
-    let others = t_second (is_before last m.0) (rise_from m.0 ms) rise in
-    t_both (below_all key_cmp m.0 (put_rows ms)) (is_sorted key_cmp (put_rows ms)) (rise_below m.0 ms others) (rise_sorted m.0 ms others)
+  rise_sorted : (last : Key) (ms : Messages M) → T (rise_from last ms) → T (is_sorted key_cmp ms)
+  rise_sorted last [] rise = tt
+  rise_sorted last (m ∷ ms) rise =
+      let others = t_second (is_before last m.0) (rise_from m.0 ms) rise in
+      t_both (below_all key_cmp m.0 ms) (is_sorted key_cmp ms) (rise_below m.0 ms others) (rise_sorted m.0 ms others)
 
-pub keys_rise-sorted : (ms : RowMessages) → T (keys_rise ms) → T (is_sorted key_cmp (put_rows ms))
-keys_rise-sorted [] rise = tt
-keys_rise-sorted (m ∷ ms) rise = t_both (below_all key_cmp m.0 (put_rows ms)) (is_sorted key_cmp (put_rows ms)) (rise_below m.0 ms rise) (rise_sorted m.0 ms rise)
+  pub keys_rise-sorted : (ms : Messages M) → T (keys_rise ms) → T (is_sorted key_cmp ms)
+  keys_rise-sorted [] rise = tt
+  keys_rise-sorted (m ∷ ms) rise = t_both (below_all key_cmp m.0 ms) (is_sorted key_cmp ms) (rise_below m.0 ms rise) (rise_sorted m.0 ms rise)

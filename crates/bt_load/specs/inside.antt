@@ -1,4 +1,3 @@
 -- Definitions that only private clauses cite: the steps of the code.
-pub mod Rising
 pub mod Sorts
 pub mod Typed

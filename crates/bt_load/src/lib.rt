@@ -17,7 +17,7 @@
 //!
 //! ```text
 //! let packet = read_puts(&rt, alloc, text, &schema, &crew)?;
-//! let Some(rows) = PutRows::new(packet) else { .. };      // two records have the same key
+//! keys_rise(&packet)                                      // whether no two records have the same key
 //! ```
 #![tactic(auto)]
 
@@ -30,7 +30,7 @@ mod sorted_rows;
 mod typing;
 
 pub use loading::{InThreads, InTurn, Loading};
-pub use puts::{PutRows, read_puts};
+pub use puts::{keys_rise, read_puts};
 pub use read::{read_records, read_records_by};
 pub use sort::{load_rows, load_rows_by, sorted_rows_by};
 pub use sorted_rows::SortedRows;

@@ -18,14 +18,14 @@ use Rattle.bt_node.specs.Flushes.{holds, sunk}
 use Rattle.bt_node.specs.Trees.{Shape}
 use Rattle.bt_node.proofs.offered.PackedTrees.{packed-has_shape, packed-holds}
 use Rattle.bt_node.proofs.offered.ShapedTrees.{sunk-has_shape, sunk-holds}
-use Rattle.bt_fanout.specs.Covers.{cover_after, is_covered, next_rows, wider}
+use Rattle.bt_fanout.specs.Covers.{cover_after, is_covered, wider}
 use Rattle.bt_fanout.specs.Definitions.{kinds_of}
 use Rattle.bt_fanout.specs.Effects.{EntryMessage, SuitsEffect, effects_of, effects_within, entry_effect, entry_meaning, row_effect, sent_for_all}
 use Rattle.bt_fanout.specs.Entries.{Definition, IsWithin, StandsUnder, SuitsKinds, entry_of}
-use Rattle.bt_fanout.specs.Promises.{SuitsRows, Turns, index_of, own_puts}
+use Rattle.bt_fanout.specs.Promises.{SuitsRows, Turns, index_of}
 use Rattle.bt_fanout.specs.Selections as selection
 use Rattle.bt_fanout.specs.Selections.{select}
-use Rattle.bt_fanout.proofs.offered.Builds.{sorted-select, step_builds, step_puts}
+use Rattle.bt_fanout.proofs.offered.Builds.{sorted-select, step_builds}
 use Rattle.bt_fanout.proofs.offered.Covers.{IsAmong, effects-nothing, entry_changes-within, first_among_wider, second_among_wider}
 use Rattle.bt_fanout.proofs.offered.Packets.{effects-sorted_batch}
 use Rattle.bt_fanout.proofs.offered.Standing.{stands_under}
@@ -145,10 +145,6 @@ holds_selection schema shape rows index sound = λ whole. sound.held ∙ of_whol
 module _ (schema : Schema) (shape : Shape) (rows : Rows (List Value)) (sorted : T (is_sorted key_cmp rows)) (stand_in : AllStand schema rows) where
   stands : (index : Index) → index.def.keys ≡ schema.keys → selection.EachStands (StandsUnder index.def (kinds_of schema.columns)) rows
   stands index keys = stand schema index.def keys rows stand_in
-
-  -- the packet of a step of building is that of the entries of the rows under their own keys
-  pub building_packet-is : (n : ℕ) (index : Index) → IsSoundIndex schema shape rows index → sorted_batch (own_puts index.def (next_rows n index.cover rows)) ≡ building_packet n rows index
-  building_packet-is n index sound = ap sorted_batch (step_puts index.def (kinds_of schema.columns) rows sorted (stands index sound.keys) n index.cover)
 
   pub built-sound : (n : ℕ) (index : Index) → IsSoundIndex schema shape rows index → IsSoundIndex schema shape rows (built_index n rows index)
   built-sound n index sound =

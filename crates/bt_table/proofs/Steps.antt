@@ -31,14 +31,14 @@ use Rattle.bt_rowtype.specs.declared.item.Item.{Item}
 use Rattle.bt_batch.specs.Batches.{RowMessages, batch_refusals, messages_of, read_key}
 use Rattle.bt_batch.proofs.offered.OfSchema.{batch_of_schema, length-batch, length-sorted_batch, sorted_of_schema}
 use Rattle.bt_fanout.specs.Entries.{Definition, IsWithin}
-use Rattle.bt_fanout.specs.Promises.{SuitsRows, own_puts}
+use Rattle.bt_fanout.specs.Promises.{SuitsRows}
 use Rattle.bt_fanout.specs.declared.cover.Cover.{Cover}
 use Rattle.bt_table.specs.Calls.{Apply, ApplyMessages, BuildStep, Call, CreateIndex, Drain, Draining, DropIndex, Get, GetAt, IsStep, IsTextOfMessages}
 use Rattle.bt_table.specs.Calls.{Load, Primary, Rebuild, Rebuilding, Secondary, ShowsIndex, ShowsRows, Upkeep, after_build, after_load, after_messages}
 use Rattle.bt_table.specs.Calls.{built, dropped, index_refusals, is_bare, is_primary, load_refusals, most_indexes, renewed_tree, renewed_index, secondary}
 use Rattle.bt_table.specs.Calls.{sent_counts, step, tree_named, unless_any, with_index, with_index_at, with_renewed}
 use Rattle.bt_table.specs.Calls.{with_renewed_index, with_renewed_rows, with_rows, without_index}
-use Rattle.bt_table.specs.Indexes.{EntryTree, Index, advanced, built_index, index_named, index_of_ref, index_with, indexes_of, is_complete}
+use Rattle.bt_table.specs.Indexes.{EntryTree, Index, advanced, building_packet, built_index, index_named, index_of_ref, index_with, indexes_of, is_complete}
 use Rattle.bt_table.specs.inside.IndexTrees.{empty_head, entry_tree, packet_for, count_for, sunk_tree, sunk_trees, with_cover}
 use Rattle.bt_table.specs.inside.Parts.{AreSoundParts}
 use Rattle.bt_table.specs.Standing.{AllStand, AreOfSchema, IsSoundIndex, IsSoundTable, SuitMessages, Suits}
@@ -49,7 +49,7 @@ use Rattle.bt_table.specs.declared.reply.Reply.{Reply}
 use Rattle.bt_table.specs.declared.reply.Reply.TheVariants.{Batch, Built, Created, Drained, Dropped, Loaded, Rebuilt, Row}
 use Rattle.bt_table.specs.declared.reply.SentCount.{SentCount}
 use Rattle.bt_table.specs.declared.trees.Trees.{Trees}
-use Rattle.bt_table.proofs.Indexes.{building_packet-is, counts-sorted, counts_are, each_suits, holds_selection, indexes_of-append, indexes_of-remove}
+use Rattle.bt_table.proofs.Indexes.{counts-sorted, counts_are, each_suits, holds_selection, indexes_of-append, indexes_of-remove}
 use Rattle.bt_table.proofs.Indexes.{indexes_of-set, indexes-sorted, indexes_suit, length-indexes_of, length-remove_same, length-sunk, put_again, rows_within, set_same, sunk_is}
 use Rattle.bt_table.proofs.Indexes.{with_entry_trees}
 use Rattle.bt_table.proofs.offered.KeyOrder.{keys_rise}
@@ -432,11 +432,9 @@ module _ (schema : Schema) (heads : List IndexHead) (kept : Option Trees) (trees
       pub found_within : All (λ row. IsWithin shown.def (length row.1)) before.rows
       found_within = rows_within schema before.shape before.rows (rows_sorted before was_sound) was_sound.rows shown index_found.suits index_found.keys
 
-      step_change : (n : ℕ) (packet : Messages EntryMessage) (cover : Cover) → packet ≡ sorted_batch (own_puts shown.def (next_rows n shown.cover before.rows))
+      step_change : (n : ℕ) (packet : Messages EntryMessage) (cover : Cover) → packet ≡ building_packet n before.rows shown
           → cover ≡ cover_after n shown.cover before.rows → index_with (with_cover index.head.now cover) (sunk_tree index.tree.now packet) ≡ built_index n before.rows shown
-      step_change n packet cover packet_is cover_is =
-          let sent = packet_is ∙ building_packet-is schema before.shape before.rows (rows_sorted before was_sound) was_sound.rows n shown index_found in
-          λ i. advanced shown (sent i) (cover_is i)
+      step_change n packet cover packet_is cover_is = λ i. advanced shown (packet_is i) (cover_is i)
 
       -- the index is changed in its place
       module _ (taken new : Trees) (took : kept ≡ Some taken) (after : Option Trees) (put : after ≡ Some new) (rows_are : new.rows ≡ taken.rows) (others
@@ -518,7 +516,7 @@ module _ (schema : Schema) (heads : List IndexHead) (kept : Option Trees) (trees
           drained_index_is_step = renewed_index_is_step taken new took after put rows_are heads index.head.now tree heads_stay back Draining drained_is
 
         module _ (n : ℕ) (packet : Messages EntryMessage) (cover : Cover) (packet_is
-            : packet ≡ sorted_batch (own_puts shown.def (next_rows n shown.cover before.rows))) (cover_is : cover ≡ cover_after n shown.cover before.rows)
+            : packet ≡ building_packet n before.rows shown) (cover_is : cover ≡ cover_after n shown.cover before.rows)
             (newer : List IndexHead) (newer_are : IfSome (slice_get heads place) (λ head. newer ≡ set heads place (with_cover head cover))) (tree_is : tree ≡ sunk_tree out packet) where
           newer_is : newer ≡ set heads place (with_cover index.head.now cover)
           newer_is = subst (λ o. IfSome o (λ head. newer ≡ set heads place (with_cover head cover))) head_there newer_are

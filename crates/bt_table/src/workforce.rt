@@ -5,10 +5,9 @@ ghost use Rattle.bt_messages.specs.Messages.{sorted_batch};
 ghost use Rattle.bt_node.specs.Drains.{drained, rebuilt};
 ghost use Rattle.bt_node.specs.Flushes.{holds};
 ghost use Rattle.bt_batch.specs.Batches.{batch_refusals, messages_of};
-ghost use Rattle.bt_fanout.specs.Covers.{cover_after, next_rows};
 ghost use Rattle.bt_fanout.specs.Effects.{effects_within, entry_effect, entry_meaning, row_effect, row_meaning};
 ghost use Rattle.bt_fanout.specs.Entries.{IsWithin};
-ghost use Rattle.bt_fanout.specs.Promises.{BuildsFrom, own_puts};
+ghost use Rattle.bt_fanout.specs.Promises.{IsBuildStep};
 ghost use Rattle.bt_fanout.specs.Targets.{SuitAll, packet_of};
 ghost use Rattle.bt_gather.specs.Rounds.{all_sunk};
 ghost use Rattle.bt_value.specs.Refusals.{least};
@@ -82,10 +81,7 @@ pub trait Workforce<T> {
     ) -> Result<BuildStep, AllocError>
         requires ready { accepts self.now }
         requires within { All (λ row. IsWithin def.now (length row.1)) (holds row_effect tree.now.1) }
-        ensures packet { IfOk result (λ step. step.packet ≡ sorted_batch (own_puts def.now (next_rows count cover.now (holds row_effect tree.now.1)))) }
-        ensures builds { IfOk result (λ step. BuildsFrom def.now (next_rows count cover.now (holds row_effect tree.now.1)) step.packet) }
-        ensures cover { IfOk result (λ step. step.cover ≡ cover_after count cover.now (holds row_effect tree.now.1)) }
-        ensures read { IfOk result (λ step. step.read ≡ length (next_rows count cover.now (holds row_effect tree.now.1))) };
+        ensures step { IfOk result (IsBuildStep def.now count cover.now (holds row_effect tree.now.1)) };
 
     /// Each tree after its packet. An `Err` keeps nothing of them.
     fn sink(
@@ -155,10 +151,7 @@ fn crew_step<G: Gate + Sync, T: Threads + Wait + Sync>(
     crew: &Crew<G>,
 ) -> Result<BuildStep, AllocError>
     requires { All (λ row. IsWithin def.now (length row.1)) (holds row_effect tree.now.1) }
-    ensures packet { IfOk result (λ step. step.packet ≡ sorted_batch (own_puts def.now (next_rows count cover.now (holds row_effect tree.now.1)))) }
-    ensures builds { IfOk result (λ step. BuildsFrom def.now (next_rows count cover.now (holds row_effect tree.now.1)) step.packet) }
-    ensures cover { IfOk result (λ step. step.cover ≡ cover_after count cover.now (holds row_effect tree.now.1)) }
-    ensures read { IfOk result (λ step. step.read ≡ length (next_rows count cover.now (holds row_effect tree.now.1))) }
+    ensures { IfOk result (IsBuildStep def.now count cover.now (holds row_effect tree.now.1)) }
 {
     if count < FEW_ROWS {
         return build_step_alone(alloc, def, cover, tree, count);

@@ -8,8 +8,8 @@ use Rattle.bt_messages.specs.Effects.{Rows}
 use Rattle.bt_messages.specs.Messages.{Messages}
 use Rattle.bt_fanout.specs.Covers.{is_covered, wider}
 use Rattle.bt_fanout.specs.Effects.{RowMessage, effects_of, effects_within, sent_for, sent_for_all}
-use Rattle.bt_fanout.specs.Entries.{Definition, own_entry, same_values}
-use Rattle.bt_fanout.specs.Selections.{between}
+use Rattle.bt_fanout.specs.Entries.{Definition, entry_of, same_values}
+use Rattle.bt_fanout.specs.Selections.{between, entry_in}
 use Rattle.bt_fanout.specs.declared.cover.Cover.{Cover}
 use Rattle.bt_fanout.specs.declared.cover.Cover.TheVariants.{Nothing, UpTo, Whole}
 use Rattle.bt_fanout.specs.declared.effect.Effect.{Effect}
@@ -73,7 +73,7 @@ effects-nothing batch rows = none (effects_of batch rows)
 not_sent : (def : Definition) (cover wide : Cover) → IsAmong cover wide → (effect : Effect) → is_covered wide effect.key ≡ false → sent_for def cover effect ≡ []
 not_sent def cover wide among effect none =
     elim (is_covered cover effect.key) as (λ b. is_covered cover effect.key ≡ b
-    → (if b then between {D = List Value} same_values (own_entry def effect.before) (own_entry def effect.after) else []) ≡ []) [
+    → (if b then between {D = List Value} same_values (entry_in (entry_of def) effect.key effect.before) (entry_in (entry_of def) effect.key effect.after) else []) ≡ []) [
       | true ↦ λ b. absurd (true≢false (sym (among effect.key b) ∙ none))
       | false ↦ λ b. refl
     ] refl

@@ -5,10 +5,10 @@ use Rattle.bt_value.specs.declared.value.Value.{Value}
 use Rattle.bt_keycode.specs.Keys.{Key}
 use Rattle.bt_messages.specs.Effects.{Rows}
 use Rattle.bt_messages.specs.Messages.{Messages}
-use Rattle.bt_fanout.specs.Covers.{put_of_entry}
+use Rattle.bt_fanout.specs.Covers.{put_of_entry, puts_of}
 use Rattle.bt_fanout.specs.Effects.{EntryMessage}
 use Rattle.bt_fanout.specs.Entries.{Definition}
-use Rattle.bt_fanout.specs.inside.Readings.{entry_within}
+use Rattle.bt_fanout.specs.inside.RowEntries.{entry_within}
 
 -- a definition, and messages of entries
 abbrev pub Puts : Type 0
@@ -16,18 +16,13 @@ Puts = Definition × Messages EntryMessage
 
 -- with that of the entry of one more row
 abbrev pub puts_after_row : Puts → Key × List Value → Puts
-puts_after_row puts row = (puts.0, puts.1 ++ put_of_entry (entry_within puts.0 row.1))
+puts_after_row puts row = (puts.0, puts.1 ++ put_of_entry (entry_within puts.0 row.0 row.1))
 
--- the messages of the entries of rows
-abbrev pub all_puts : Definition → Rows (List Value) → Messages EntryMessage
-all_puts def [] = []
-all_puts def (r ∷ rows) = put_of_entry (entry_within def r.1) ++ all_puts def rows
-
-pub puts_are : (puts : Puts) (rows : Rows (List Value)) → ◌≡◌ {A = Puts} (fold puts_after_row puts rows) (puts.0, puts.1 ++ all_puts puts.0 rows)
+pub puts_are : (puts : Puts) (rows : Rows (List Value)) → ◌≡◌ {A = Puts} (fold puts_after_row puts rows) (puts.0, puts.1 ++ puts_of (entry_within puts.0) rows)
 puts_are puts [] = ap (λ (ms : Messages EntryMessage). (puts.0, ms)) (sym (append-nil puts.1))
 puts_are puts (r ∷ rows) =
     puts_are (puts_after_row puts r) rows
-    ∙ ap (λ (ms : Messages EntryMessage). (puts.0, ms)) (append_assoc puts.1 (put_of_entry (entry_within puts.0 r.1)) (all_puts puts.0 rows))
+    ∙ ap (λ (ms : Messages EntryMessage). (puts.0, ms)) (append_assoc puts.1 (put_of_entry (entry_within puts.0 r.0 r.1)) (puts_of (entry_within puts.0) rows))
 
 -- a portion after another one
 pub puts_as_one : (puts : Puts) (rows later : Rows (List Value)) →

@@ -1,11 +1,16 @@
 -- The entries of rows as they are collected, before they are sorted.
-use Rattle.std.specs.Prelude.{List, [], ◌∷◌, ◌++◌, Some}
+use Rattle.std.specs.Prelude.{◌++◌, List, [], ◌∷◌, length, Option, None, if◌then◌else◌}
 use Rattle.std.specs.Option.{option_to_list}
 use Rattle.bt_value.specs.declared.value.Value.{Value}
+use Rattle.bt_keycode.specs.Keys.{Key}
 use Rattle.bt_messages.specs.Effects.{Rows}
-use Rattle.bt_fanout.specs.Entries.{Definition, own_entry}
+use Rattle.bt_fanout.specs.Entries.{Definition, entry_of, is_within}
 
--- the entries of rows under their own keys, in the order of the rows
-abbrev pub own_entries : Definition → Rows (List Value) → Rows (List Value)
-own_entries def [] = []
-own_entries def (r ∷ rows) = option_to_list (own_entry def (Some r.1)) ++ own_entries def rows
+-- the entries of rows, in the order of the rows
+abbrev pub entries_of : {X E : Type 0} → (Key → X → Option (Key × E)) → Rows X → Rows E
+entries_of entry [] = []
+entries_of entry (r ∷ rows) = option_to_list (entry r.0 r.1) ++ entries_of entry rows
+
+-- the entry of a row, if the row has all places of the definition
+abbrev pub entry_within : Definition → Key → List Value → Option (Key × List Value)
+entry_within def key row = if is_within def (length row) then entry_of def key row else None

@@ -1,18 +1,22 @@
 -- Rows that were read as puts are the map of the rows of their text, if their keys strictly rise.
 use Rattle.std.proofs.Common.{◌≡◌, ℕ, Bool, true, false, T, List, [], ◌∷◌, ◌++◌, append-nil, map, refl, sym, ap, ◌∙◌, subst, arith, Ok, if◌then◌else◌}
-use Rattle.std.proofs.lemmas.List.Sorted.{IsPermutation-append_right, IsPermutation-cons, IsPermutation-map, IsPermutation-refl, IsPermutation-swap, IsPermutation-trans}
+use Rattle.std.proofs.lemmas.List.Sorted.{IsPermutation-append_right, IsPermutation-cons, IsPermutation-refl, IsPermutation-swap, IsPermutation-trans}
 use Rattle.std.specs.FinMap.{is_sorted}
 use Rattle.std.specs.List.Sorted.{IsPermutation}
 use Rattle.bt_value.specs.declared.value.Value.{Value}
+use Rattle.bt_row.specs.Ops.{Change}
 use Rattle.bt_row.specs.Schemas.{Schema}
 use Rattle.bt_keycode.specs.Keys.{Key, is_before, key_cmp}
 use Rattle.bt_keycode.proofs.offered.Truths.{t_true}
 use Rattle.bt_keycode.specs.Standing.{RowMap}
 use Rattle.bt_messages.specs.Messages.{sorted_batch, with_message, with_messages}
+use Rattle.bt_gather.specs.Puts.{AllPuts, as_put, put_rows}
+use Rattle.bt_gather.proofs.offered.Puts.{all_puts, put_rows-puts, sorted_batch-puts, sorted_puts}
 use Rattle.bt_batch.specs.Batches.{RowMessages, put_of}
 use Rattle.bt_load.specs.Maps.{keyed_rows, map_of}
-use Rattle.bt_load.specs.Puts.{ArePutsOf, put_row, put_rows}
+use Rattle.bt_load.specs.Puts.{ArePutsOf, keys_rise}
 use Rattle.bt_load.proofs.Maps.{sorted_is_map}
+use Rattle.bt_load.proofs.TextPuts.{keys_rise-sorted}
 
 -- ---- a sorted batch has the messages of the batch
 
@@ -45,20 +49,34 @@ sorted_moves batch = subst (λ b. IsPermutation b (sorted_batch batch)) (append-
 
 -- ---- the map of the rows
 
-put_rows-put_of : (keys : ℕ) (rows : List (List Value)) → put_rows (map (put_of keys) rows) ≡ keyed_rows keys rows
-put_rows-put_of keys [] = refl
-put_rows-put_of keys (row ∷ rows) = ap (λ (pairs : RowMap). put_row (put_of keys row) ∷ pairs) (put_rows-put_of keys rows)
+module _ (schema : Schema) (text : List ℕ) (messages : RowMessages) (puts : ArePutsOf schema text messages) where
+  abbrev pairs : RowMap
+  pairs = keyed_rows schema.keys puts.rows
 
--- rows of a text that rise strictly are its map
-puts_are_map : (schema : Schema) (text : List ℕ) (messages : RowMessages) (puts : ArePutsOf schema text messages) → T (is_sorted key_cmp (put_rows messages))
-    → map_of schema.keys puts.rows ≡ Ok (put_rows messages)
-puts_are_map schema text messages puts rising =
-    let batch = map (put_of schema.keys) puts.rows in
-    let moved : IsPermutation batch messages = subst (IsPermutation batch) (sym puts.sorted) (sorted_moves batch) in
-    let pairs_moved = IsPermutation-map put_row batch messages moved in
-    sorted_is_map schema.keys puts.rows (put_rows messages) (subst (λ pairs. IsPermutation pairs (put_rows messages)) (put_rows-put_of schema.keys puts.rows) pairs_moved) rising
+  as_puts : (rows : List (List Value)) → map (put_of schema.keys) rows ≡ map as_put (keyed_rows schema.keys rows)
+  as_puts [] = refl
+  as_puts (row ∷ rows) = ap (λ (ms : RowMessages). put_of schema.keys row ∷ ms) (as_puts rows)
 
--- the rows that were read, one by one
-pub loaded_puts : (schema : Schema) (text : List ℕ) (messages : RowMessages) (puts : ArePutsOf schema text messages) (rows : RowMap) → rows ≡ put_rows messages → is_sorted key_cmp rows ≡ true
-    → map_of schema.keys puts.rows ≡ Ok rows
-loaded_puts schema text messages puts rows is rising = puts_are_map schema text messages puts (t_true _ (ap (is_sorted key_cmp) (sym is) ∙ rising)) ∙ ap Ok (sym is)
+  messages_are : messages ≡ map as_put (sorted_batch pairs)
+  messages_are = puts.sorted ∙ ap sorted_batch (as_puts puts.rows) ∙ sorted_batch-puts Change pairs
+
+  -- all messages are puts
+  pub text_puts : AllPuts messages
+  text_puts = subst AllPuts (sym messages_are) (all_puts Change (sorted_batch pairs))
+
+  rows_are : put_rows messages ≡ sorted_batch pairs
+  rows_are = ap put_rows messages_are ∙ put_rows-puts Change (sorted_batch pairs)
+
+  module _ (rise : keys_rise messages ≡ true) where
+    -- if their keys rise, so do those of the rows
+    pub text_rows_rise : T (is_sorted key_cmp (put_rows messages))
+    text_rows_rise =
+        let sorted = keys_rise-sorted messages (t_true _ rise) in
+        subst (λ (rows : RowMap). T (is_sorted key_cmp rows)) (sym rows_are)
+        (sorted_puts Change (sorted_batch pairs) (subst (λ (ms : RowMessages). T (is_sorted key_cmp ms)) messages_are sorted))
+
+    -- which are the map of the rows of the text
+    pub loaded_puts : map_of schema.keys puts.rows ≡ Ok (put_rows messages)
+    loaded_puts =
+        sorted_is_map schema.keys puts.rows (put_rows messages)
+        (subst (λ (rows : RowMap). IsPermutation pairs rows) (sym rows_are) (sorted_moves pairs)) text_rows_rise

@@ -8,6 +8,7 @@ pub mod FirstChild
 pub mod FlushLoop
 pub mod GroupLoops
 pub mod LoadLoop
+pub mod LeafParts
 pub mod LeafPass
 pub mod LentMessages
 pub mod LookupPath
@@ -21,5 +22,4 @@ pub mod RowsLimited
 pub mod RowsOfChildren
 pub mod RowsShown
 pub mod SiblingParts
-pub mod SourceLeaves
 pub mod Together

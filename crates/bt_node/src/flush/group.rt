@@ -1,7 +1,5 @@
 //! Builds nodes from parts: deals rows into leaves and groups children under inner nodes.
-ghost use Rattle.std.specs.Prelude.{◌≡◌, ◌≤◌, [], IfOk, IsTrue, OnOk, drop, length, map, take};
-ghost use Rattle.std.specs.FinMap.{is_sorted};
-ghost use Rattle.bt_keycode.specs.Keys.{key_cmp};
+ghost use Rattle.std.specs.Prelude.{◌≡◌, ◌≤◌, [], IfOk, OnOk, drop, length, map, take};
 ghost use Rattle.bt_node.specs.Children.{AreDivided};
 ghost use Rattle.bt_node.specs.Deals.{even, parted};
 ghost use Rattle.bt_node.specs.Flushes.{first_key, gathered, grouped, leaves, pivot_first};
@@ -11,13 +9,12 @@ use crate::form::deal::size_at;
 use crate::form::node::{Node, Siblings};
 use crate::form::rows::Rows;
 use crate::form::shape::Shape;
-use crate::form::source::RowSource;
 use bt_keycode::Key;
 use bt_messages::Merge;
 use std::alloc::{AllocError, Global};
 
-// A copy of the smallest key of these rows, or the empty key if there are none.
-fn least_key<V: Merge>(alloc: Global, rows: &Rows<V>) -> Result<Key, AllocError>
+/// A copy of the smallest key of these rows, or the empty key if there are none.
+pub(crate) fn least_key<V: Merge>(alloc: Global, rows: &Rows<V>) -> Result<Key, AllocError>
     ensures { IfOk result (λ key. key ≡ first_key (λ r. r.0) rows.now) }
 {
     if rows.len() == 0 {
@@ -47,50 +44,6 @@ pub(crate) fn leaves<V: Merge>(
     };
     let mut siblings = Siblings::with_capacity(alloc, Node::leaf(first), count)?;
     for part in parts {
-        let pivot = least_key(alloc, &part)?;
-        siblings.push(pivot, Node::leaf(part))?;
-    }
-    Ok(siblings)
-}
-
-// The next `size` rows of a source.
-fn next_rows<V: Merge, S: RowSource<V>>(
-    alloc: Global,
-    source: &mut S,
-    size: usize,
-) -> Result<Rows<V>, AllocError>
-    requires enough { size ≤ length (S.left source.old) }
-    requires sorted { IsTrue (is_sorted key_cmp (take size (S.left source.old))) }
-    ensures rows { IfOk result (λ rows. rows ≡ take size (S.left source.old)) }
-    ensures rest { OnOk result (S.left source.new ≡ drop size (S.left source.old)) }
-{
-    let mut rows = Vec::with_capacity(alloc, size)?;
-    for _ in 0..size {
-        let Some(row) = source.next_row() else {
-            unreachable!()
-        };
-        rows.push_reserved(row);
-    }
-    Ok(Rows::from_sorted(rows))
-}
-
-/// Deals the rows of a source into leaves as [`leaves`] does. Each row moves into its leaf as it comes.
-pub(crate) fn source_leaves<V: Merge, S: RowSource<V>>(
-    alloc: Global,
-    shape: Shape,
-    count: usize,
-    rows: S,
-) -> Result<Siblings<V>, AllocError>
-    requires counted { count ≡ length (S.left rows) }
-    requires sorted { IsTrue (is_sorted key_cmp (S.left rows)) }
-    ensures { IfOk result (λ siblings. siblings ≡ leaves shape (S.left rows)) }
-{
-    let mut source = rows;
-    let many = count.div_ceil(shape.leaf()).max(1);
-    let first = next_rows(alloc, &mut source, size_at(0, count, many))?;
-    let mut siblings = Siblings::with_capacity(alloc, Node::leaf(first), many)?;
-    for place in 1..many {
-        let part = next_rows(alloc, &mut source, size_at(place, count, many))?;
         let pivot = least_key(alloc, &part)?;
         siblings.push(pivot, Node::leaf(part))?;
     }

@@ -8,6 +8,7 @@ ghost use Rattle.bt_value.specs.Refusals.{least};
 ghost use Rattle.bt_keycode.specs.Keys.{key_cmp};
 ghost use Rattle.bt_keycode.specs.Standing.{RowMap};
 ghost use Rattle.bt_value.specs.Answers.{Answers};
+ghost use Rattle.bt_gather.specs.Puts.{AllPuts, put_rows};
 ghost use Rattle.bt_load.specs.Maps.{map_of};
 ghost use Rattle.bt_fanout.specs.Promises.{SuitsRows};
 ghost use Rattle.bt_table.specs.inside.Loads.{AllSuitText, AreLoaded, ArePacked, ArePackedOf, rows_to_load};
@@ -17,16 +18,18 @@ ghost use Rattle.bt_table.specs.Calls.{IsRefused, IsStep, Load, permitted};
 ghost use Rattle.bt_table.specs.Standing.{CompleteIndexesHold, IsSoundUnlessLost};
 ghost use Rattle.bt_table.specs.Tables.{Lost};
 
-use crate::index::{IndexHead, are_complete, pack_entries};
+use crate::index::{IndexHead, are_complete, pack_entries, pack_tree_entries};
 use crate::reply::Reply;
 use crate::table::Table;
 use crate::trees::{Trees, put_trees};
 use bt_gang::{Crew, Gate};
+use bt_gather::pack_puts;
 use bt_keycode::Key;
 use bt_load::{
-    InThreads, InTurn, Loading, PutRows, SortedRows, load_rows_by, read_puts, read_records_by,
+    InThreads, InTurn, Loading, SortedRows, keys_rise, load_rows_by, read_puts, read_records_by,
     sorted_rows_by,
 };
+use bt_messages::Packet;
 use bt_node::{RowSource, Shape, Tree, pack, pack_source};
 use bt_row::{Row, Schema};
 use bt_value::Refusal;
@@ -64,20 +67,6 @@ struct LoadedRows {
 
 impl RowSource<Row> for LoadedRows {
     ghost left = { λ loaded. loaded.rows };
-
-    fn next_row(&mut self) -> Option<(Key, Row)> {
-        self.rows.next_row()
-    }
-}
-
-// Rows that a crew read, from which a tree is packed.
-#[derive(Drop)]
-struct ReadRows {
-    rows: PutRows,
-}
-
-impl RowSource<Row> for ReadRows {
-    ghost left = { λ read. read.rows };
 
     fn next_row(&mut self) -> Option<(Key, Row)> {
         self.rows.next_row()
@@ -147,23 +136,24 @@ fn packed_trees<L: Loading>(
     Ok(packed_pairs(alloc, shape, heads, pairs)?)
 }
 
-// The packed trees of rows that a crew read, and of their entries, and the number of rows.
-fn packed_puts(
+// The packed trees of the rows of puts and of their entries, made by the workers of a crew, and the number of rows.
+fn packed_puts<G: Gate + Sync, T: Threads + Wait + Sync>(
+    rt: &T,
     alloc: Global,
     shape: Shape,
     heads: &[IndexHead],
-    rows: PutRows,
+    packet: Packet<Row>,
+    crew: &Crew<G>,
 ) -> Result<(Trees, usize), AllocError>
-    requires sorted { IsTrue (is_sorted key_cmp rows) }
-    requires suit { All (λ head. SuitsRows head.def rows) heads.now }
-    ensures { IfOk result (λ made. ArePacked shape rows heads.now made.0 made.1) }
+    requires puts { AllPuts packet }
+    requires sorted { IsTrue (is_sorted key_cmp (put_rows packet)) }
+    requires suit { All (λ head. SuitsRows head.def (put_rows packet)) heads.now }
+    ensures { IfOk result (λ made. ArePacked shape (put_rows packet) heads.now made.0 made.1) }
 {
-    if heads.is_empty() {
-        let count = rows.len();
-        return packed_source(alloc, shape, count, ReadRows { rows });
-    }
-    let pairs = rows.into_pairs(alloc)?;
-    packed_pairs(alloc, shape, heads, pairs)
+    let count = packet.len();
+    let rows = pack_puts(rt, alloc, shape, packet, crew)?;
+    let entries = pack_tree_entries(rt, alloc, heads, &rows, crew)?;
+    Ok((Trees { rows, entries }, count))
 }
 
 // The trees of a text that is loaded into a table with these indexes and trees, and the number of rows.
@@ -186,7 +176,7 @@ fn loaded_trees<L: Loading>(
     packed_trees(loading, alloc, trees.rows.shape(), heads, rows, schema)
 }
 
-// The same, read and sorted by the workers of a crew, or nothing if two records have the same key.
+// The same, made by the workers of a crew, or nothing if two records have the same key.
 fn read_trees<G: Gate + Sync, T: Threads + Wait + Sync>(
     rt: &T,
     alloc: Global,
@@ -203,10 +193,11 @@ fn read_trees<G: Gate + Sync, T: Threads + Wait + Sync>(
 {
     let packet = read_puts(rt, alloc, text, schema, crew)?;
     check_load(heads, trees)?;
-    let Some(rows) = PutRows::new(packet) else {
+    if !keys_rise(&packet) {
         return Ok(None);
-    };
-    Ok(Some(packed_puts(alloc, trees.rows.shape(), heads, rows)?))
+    }
+    let shape = trees.rows.shape();
+    Ok(Some(packed_puts(rt, alloc, shape, heads, packet, crew)?))
 }
 
 // The same by a crew. If two records have the same key, one worker finds the first such record.
@@ -285,8 +276,8 @@ impl Table {
         Ok(Reply::Loaded(count))
     }
 
-    /// The same as [`Table::load`], by a crew. With several workers the records are typed and sorted as those of a batch. With one
-    /// worker no thread starts. After an `Err` every worker has ended.
+    /// The same as [`Table::load`], by a crew. With several workers the records are typed and sorted as those of a batch, and the
+    /// workers make the leaves and the entries of the indexes. With one worker no thread starts. After an `Err` every worker has ended.
     pub fn load_by_crew<G: Gate + Sync, T: Threads + Wait + Sync>(
         &mut self,
         rt: &T,

@@ -7,10 +7,8 @@ use Rattle.bt_fanout.specs.Promises.{BuildsFrom}
 use Rattle.bt_fanout.proofs.BuildPackets.{builds_from}
 use Rattle.bt_fanout.proofs.step.build_step.Goals as goal
 
-pub returns-clause-packet : goal.returns-clause-packet
-returns-clause-packet g c = c.in_ok-packet.ensures ∙ ap sorted_batch c.in_ok-messages.ensures.messages
-
-pub returns-clause-builds : goal.returns-clause-builds
-returns-clause-builds g c =
+pub returns : goal.returns
+returns g c =
     let read = next_rows c.args.count c.args.cover.now (holds row_effect c.args.tree.now.1) in
-    subst (BuildsFrom c.args.def.now read) (sym (c.in_ok-packet.ensures ∙ ap sorted_batch c.in_ok-messages.ensures.messages)) (builds_from c.args.def.now read)
+    let is = c.in_ok-packet.ensures ∙ ap sorted_batch c.in_ok-messages.ensures.messages in
+    record { packet = is; builds = subst (BuildsFrom c.args.def.now read) (sym is) (builds_from c.args.def.now read); cover = c.in_ok-messages.ensures.cover; read = c.in_ok-messages.ensures.read }

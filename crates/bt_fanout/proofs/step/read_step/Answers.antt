@@ -1,28 +1,32 @@
-use Rattle.std.proofs.Common.{◌∙◌}
-use Rattle.std.proofs.lemmas.Result.{IfOk-weaker}
+use Rattle.std.proofs.Common.{◌∙◌, ◌-◌, ap, arith}
 use Rattle.bt_node.specs.Flushes.{holds}
+use Rattle.bt_fanout.specs.Covers.{next_rows}
 use Rattle.bt_fanout.specs.Effects.{row_effect}
-use Rattle.bt_fanout.proofs.RowsRead.{count_is, cover_is, left-within, messages_are}
+use Rattle.bt_fanout.specs.inside.Portions.{Puts}
+use Rattle.bt_fanout.specs.inside.Readings.{RowsRead}
+use Rattle.bt_fanout.proofs.RowsRead.{count_is, counted, cover_is, left-within, messages_read, next_within, put_beside}
 use Rattle.bt_fanout.proofs.step.read_step.Goals as goal
 
-pub finish-requires : goal.finish-requires
-finish-requires c =
-    left-within c.args.def.now c.args.cover.now (holds row_effect c.args.tree.now.1) c.args.count c.new-builder.result c.read_next.new.visitor c.new-builder.ensures c.in_ok-read_next.ensures
+pub overflow_sub-read : goal.overflow_sub-read
+overflow_sub-read c =
+    let rows = holds row_effect c.args.tree.now.1 in
+    let next = next_rows c.args.count c.args.cover.now rows in
+    let read = counted c.args.def.now c.args.count next c.new.result c.new-2.result c.new.ensures c.new-2.ensures c.builder.inside.counter c.builder.inside.puts
+    (c.builder.view_is ∙ c.in_ok-read_next.ensures) in
+    omega (arith, ap (λ (r : RowsRead). r.left) c.counter.view_is, left-within c.args.count c.args.cover.now rows c.builder.inside.counter read)
 
-pub returns-clause-messages : goal.returns-clause-messages
-returns-clause-messages c =
-    let sent = messages_are c.args.def.now c.args.cover.now (holds row_effect c.args.tree.now.1) c.args.count c.new-builder.result c.read_next.new.visitor
-    c.new-builder.ensures c.in_ok-read_next.ensures c.requires in
-    IfOk-weaker c.finish.result _ _ (λ step e. e ∙ sent) c.finish.ensures.messages
-
-pub returns-clause-cover : goal.returns-clause-cover
-returns-clause-cover c =
-    let moved = cover_is c.args.def.now c.args.cover.now (holds row_effect c.args.tree.now.1) c.args.count c.new-builder.result c.read_next.new.visitor
-    c.new-builder.ensures c.in_ok-read_next.ensures in
-    IfOk-weaker c.finish.result _ _ (λ step e. e ∙ moved) c.finish.ensures.cover
-
-pub returns-clause-read : goal.returns-clause-read
-returns-clause-read c =
-    let counted = count_is c.args.def.now c.args.cover.now (holds row_effect c.args.tree.now.1) c.args.count c.new-builder.result c.read_next.new.visitor
-    c.new-builder.ensures c.in_ok-read_next.ensures in
-    IfOk-weaker c.finish.result _ _ (λ step e. e ∙ counted) c.finish.ensures.read
+pub returns : goal.returns
+returns c =
+    let rows = holds row_effect c.args.tree.now.1 in
+    let next = next_rows c.args.count c.args.cover.now rows in
+    let counter = c.builder.inside.counter in
+    let puts = c.builder.inside.puts in
+    let both = c.builder.view_is ∙ c.in_ok-read_next.ensures in
+    let read = counted c.args.def.now c.args.count next c.new.result c.new-2.result c.new.ensures c.new-2.ensures counter puts both in
+    let made = put_beside c.args.def.now c.args.count next c.new.result c.new-2.result c.new.ensures c.new-2.ensures counter puts both in
+    record {
+      messages =
+          ap (λ (p : Puts). p.1) (c.puts.view_is ∙ made) ∙ messages_read c.args.def.now next (next_within c.args.def.now c.args.count c.args.cover.now rows c.requires);
+      cover = c.in_ok-cover.ensures ∙ cover_is c.args.count c.args.cover.now rows counter read;
+      read = ap (λ (r : RowsRead). c.args.count - r.left) c.counter.view_is ∙ count_is c.args.count c.args.cover.now rows counter read;
+    }

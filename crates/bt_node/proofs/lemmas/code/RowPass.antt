@@ -160,12 +160,12 @@ module _ {V : Type 0} where
   above_take (suc n) k [] h = refl
   above_take (suc n) k (r ∷ rs) h = let parts = and_parts _ _ h in both _ _ parts.0 (above_take n k rs parts.1)
 
-  sorted_take : (n : ℕ) (rs : Rows V) → is_sorted key_cmp rs ≡ true → is_sorted key_cmp (take n rs) ≡ true
+  pub sorted_take : (n : ℕ) (rs : Rows V) → is_sorted key_cmp rs ≡ true → is_sorted key_cmp (take n rs) ≡ true
   sorted_take zero rs h = refl
   sorted_take (suc n) [] h = refl
   sorted_take (suc n) (r ∷ rs) h = let parts = and_parts _ _ h in both _ _ (above_take n r.0 rs parts.0) (sorted_take n rs parts.1)
 
-  sorted_drop : (n : ℕ) (rs : Rows V) → is_sorted key_cmp rs ≡ true → is_sorted key_cmp (drop n rs) ≡ true
+  pub sorted_drop : (n : ℕ) (rs : Rows V) → is_sorted key_cmp rs ≡ true → is_sorted key_cmp (drop n rs) ≡ true
   sorted_drop zero rs h = h
   sorted_drop (suc n) [] h = refl
   sorted_drop (suc n) (r ∷ rs) h = sorted_drop n rs (and_parts _ _ h).1
@@ -174,7 +174,7 @@ module _ {V : Type 0} where
   AllSorted [] = Unit {0}
   AllSorted (rs ∷ rest) = (is_sorted key_cmp rs ≡ true) × AllSorted rest
 
-  sorted_parted : (ns : List ℕ) (rs : Rows V) → is_sorted key_cmp rs ≡ true → AllSorted (parted ns rs)
+  pub sorted_parted : (ns : List ℕ) (rs : Rows V) → is_sorted key_cmp rs ≡ true → AllSorted (parted ns rs)
   sorted_parted [] rs h = tt
   sorted_parted (n ∷ ns) rs h = (sorted_take n rs h, sorted_parted ns (drop n rs) (sorted_drop n rs h))
 

@@ -16,7 +16,7 @@ AllNonEmpty (g ∷ gs) = NonEmpty g × AllNonEmpty gs
 abbrev pub joined : {X : Type 0} → List (List X) → List X
 joined = flat_map (λ g. g)
 
-total-append : (xs ys : List ℕ) → total (xs ++ ys) ≡ total xs + total ys
+pub total-append : (xs ys : List ℕ) → total (xs ++ ys) ≡ total xs + total ys
 total-append [] ys = omega arith
 total-append (x ∷ xs) ys = omega (arith, total-append xs ys)
 

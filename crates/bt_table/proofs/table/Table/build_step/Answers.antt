@@ -27,7 +27,7 @@ invariant_of-self-2 g c =
     c.self.view_is c.args.name.now c.in-Some-find_index.place c.in-Some-find_index.index found _ _ c.take_trees-rows.ensures.taken _ c.put_trees.ensures
     refl (rw (c.as_slice.ensures.value) at c.in-Some-find_index.ensures.head)
     (rw (c.as_slice-2.ensures.value) at c.in-Some-find_index.ensures.tree) _ c.take_tree-taken.ensures.taken _ _ c.take_tree-taken.ensures.empty _
-    c.put_tree.ensures c.args.count step.packet step.cover c.in_ok-packet.ensures.packet c.in_ok-packet.ensures.cover _ c.put_cover.ensures
+    c.put_tree.ensures c.args.count step.packet step.cover c.in_ok-packet.ensures.step.packet c.in_ok-packet.ensures.step.cover _ c.put_cover.ensures
     c.in_ok-tree.ensures.tree
 
 pub returns-clause-done : goal.returns-clause-done
@@ -38,7 +38,7 @@ returns-clause-done g c =
     c.self.view_is c.args.name.now c.in-Some-find_index.place c.in-Some-find_index.index found _ _ c.take_trees-rows.ensures.taken _ c.put_trees.ensures
     refl (rw (c.as_slice.ensures.value) at c.in-Some-find_index.ensures.head)
     (rw (c.as_slice-2.ensures.value) at c.in-Some-find_index.ensures.tree) _ c.take_tree-taken.ensures.taken _ _ c.take_tree-taken.ensures.empty _
-    c.put_tree.ensures c.args.count step.packet step.cover c.in_ok-packet.ensures.packet c.in_ok-packet.ensures.cover _ c.put_cover.ensures
+    c.put_tree.ensures c.args.count step.packet step.cover c.in_ok-packet.ensures.step.packet c.in_ok-packet.ensures.step.cover _ c.put_cover.ensures
     c.in_ok-tree.ensures.tree
-    c.in_ok-name.name step.read c.is_whole-complete.result c.in_ok-name.ensures c.in_ok-packet.ensures.read (c.is_whole-complete.ensures
-    ∙ ap is_whole c.in_ok-packet.ensures.cover) (sym c.is_whole.ensures ∙ c.if-is_whole.false)
+    c.in_ok-name.name step.read c.is_whole-complete.result c.in_ok-name.ensures c.in_ok-packet.ensures.step.read (c.is_whole-complete.ensures
+    ∙ ap is_whole c.in_ok-packet.ensures.step.cover) (sym c.is_whole.ensures ∙ c.if-is_whole.false)
