@@ -10,6 +10,9 @@ replica alone.
 
 A replica has its table in memory, and begins with the last checkpoint of the log and the scripts after it. If running a script fails, it begins again with the
 next call.
+
+The log and the replica each have a hash of all scripts up to a position, the chain. The two are compared before the replica runs anything, and before the log
+appends anything. So a replica that has run scripts which the log has lost stops, and the log and the other replicas go on.
 """
 
 from __future__ import annotations
@@ -24,19 +27,18 @@ from functools import partial
 from typing import Any, Literal, NamedTuple, TypeVar
 
 from .calls import Calls, as_script, note
-from .durable import CHANGING_LINE, DEFINED, REFUSED, IndexBuilding, RequestReused, Runner, _records
+from .durable import CHANGING_LINE, DEFINED, ENGINE, REFUSED, IndexBuilding, RequestReused, Runner, _records
 from .language import PRIMARY, State, commands
-from .logs import LONGEST_WAIT, Entry, Log, Unreachable, log_of
+from .logs import ANOTHER_CHECKPOINT, LONGEST_WAIT, Checkpoint, Entry, Log, Unreachable, UnusableLog, check_request_id, log_of
 from .replies import answered
 from .session import Session
 from .sharded import NotSharded
 
 T = TypeVar("T")
-# The number of last requests whose replies a replica keeps, and the largest size of these replies.
+# The number of last requests that a replica knows, the same for all replicas of a log, and the largest size of their replies.
 MOST_OUTCOMES, MOST_REPLY_LETTERS = 1_000, 1 << 24
-# The number of its last checksums that a replica keeps, to compare them with those of other replicas.
-MOST_CHECKSUMS = 10_000
 FIRST_PAUSE, LONGEST_PAUSE = 0.02, 1.0
+OTHER_PAST = "it and those before it are not those that this replica has run"
 
 
 class Unanswered(Exception):
@@ -63,25 +65,27 @@ class ReplyForgotten(Exception):
 
 
 class Diverged(Exception):
-    """This replica and the log are not of one past, as after a server has lost scripts, or where two replicas have different engines. `position` is that of the
-    script at which it shows."""
+    """This replica has run other scripts than the log has, as after a server has lost its last ones. `position` is that of the script at which it shows. The
+    log and the other replicas are as they were."""
 
     def __init__(self, position: int, reason: str) -> None:
         super().__init__(position, reason)
         self.position, self.reason = position, reason
 
     def __str__(self) -> str:
-        return f"script {self.position} of the log: {self.reason}. See what happened to the log, and open this replica again, which then has what the log has"
+        return f"script {self.position} of the log: {self.reason}. Close this replica and open it again: it then has what the log has"
 
 
 class Outcome(NamedTuple):
-    """What a request gave: the checksum of its script, its replies, and if shards could not reply, why and in which line."""
+    """What a request gave: the checksum of its script, its replies, or None if they are not kept, and if shards could not reply, why and in which line."""
 
     script: int
-    replies: str
+    replies: str | None
     fault: tuple[str, int] | None
 
-    def given(self) -> bytes:
+    def given(self) -> bytes | None:
+        if self.replies is None:
+            return None
         replies = self.replies.encode()
         if self.fault:
             raise NotSharded(*self.fault, replies)
@@ -89,17 +93,22 @@ class Outcome(NamedTuple):
 
 
 class Outcomes:
-    """What the last requests gave, as many as are kept."""
+    """What the last requests gave. All replicas know the same ones at a position, also where their replies differ since some have shards."""
 
     def __init__(self, found: dict[str, list[Any]] | None = None) -> None:
         self.found = {request_id: Outcome(*parts) for request_id, parts in (found or {}).items()}
-        self._length = sum(len(outcome.replies) for outcome in self.found.values())
+        self._length = sum(len(outcome.replies or "") for outcome in self.found.values())
 
     def add(self, request_id: str, outcome: Outcome) -> None:
         self.found[request_id] = outcome
-        self._length += len(outcome.replies)
-        while len(self.found) > MOST_OUTCOMES or (self._length > MOST_REPLY_LETTERS and len(self.found) > 1):
-            self._length -= len(self.found.pop(next(iter(self.found))).replies)
+        self._length += len(outcome.replies or "")
+        if len(self.found) > MOST_OUTCOMES:
+            self._length -= len(self.found.pop(next(iter(self.found))).replies or "")
+        for earlier, of in self.found.items():
+            if self._length <= MOST_REPLY_LETTERS or earlier == request_id:
+                break
+            self._length -= len(of.replies or "")
+            self.found[earlier] = of._replace(replies=None)
 
 
 class Replicas(Calls):
@@ -115,15 +124,14 @@ class Replicas(Calls):
     ) -> None:
         if reads not in ("latest", "local"):
             raise ValueError(f"reads are 'latest' or 'local', and not {reads!r}")
-        self._are_reads_local, self._patience, self._make = reads == "local", patience, make
+        self._are_reads_local, self._patience, self._make, self._name = reads == "local", patience, make, name
         self._runner: Runner | None = None
-        self._state, self._position, self._checksum = State(), 0, 0
-        self._checksums: dict[int, int] = {}
-        self._outcomes = Outcomes()
+        self._state, self._position, self._chain, self._outcomes = State(), 0, b"", Outcomes()
         self._divergence: Diverged | None = None
         self._is_closed = False
-        self._log: Log = url if not isinstance(url, str) else self._reached(partial(log_of, url, name))
+        self._log: Log = url if not isinstance(url, str) else log_of(url, name, patience)
         try:
+            self._open()
             self.catch_up()
         except BaseException:
             self.close()
@@ -176,37 +184,49 @@ class Replicas(Calls):
     def once(self, request_id: str, script: str | bytes) -> bytes:
         """Like `replies`, but always by the log. A script that comes again with the same request id is not run again: the call returns its replies. So a caller
         that got no reply sends the request again. RequestReused if another script had the id."""
+        check_request_id(request_id)
         text = as_script(script)
         self._run_by_log(request_id, text)
         outcome = self._outcomes.found.get(request_id)
-        if outcome is None:
-            raise ReplyForgotten(request_id)
-        if outcome.script != zlib.crc32(text):
+        if outcome and outcome.script != zlib.crc32(text):
             raise RequestReused(request_id)
-        return outcome.given()
+        replies = outcome and outcome.given()
+        if replies is None:
+            raise ReplyForgotten(request_id)
+        return replies
 
     def _run_by_log(self, request_id: str, script: bytes) -> int:
         """The position of a request in the log, after this replica has run it."""
         self._ready()
+        position = self._appended(request_id, script)
         try:
-            position, is_new = self._reached(lambda: self._log.append(request_id, script, self._position, self._checksum))
-            if is_new and position <= self._position:
-                raise self._diverged(position, f"it is new, and this replica has run {self._position} scripts, so the log has lost some")
             self._run_to(position)
         except Diverged:
             raise
         except Exception as fault:
             raise Unanswered(request_id, f"{type(fault).__name__}: {fault}") from fault
+        if self._position <= position and request_id not in self._outcomes.found:
+            raise Unanswered(request_id, f"the log has lost it, which was script {position}")
         return position
+
+    def _appended(self, request_id: str, script: bytes) -> int:
+        """The position of a request in the log, which has it after what this replica has run."""
+        while True:
+            try:
+                position = self._reached(lambda: self._log.append(request_id, script, self._position, self._chain, ENGINE))
+            except Exception as fault:
+                raise Unanswered(request_id, f"{type(fault).__name__}: {fault}") from fault
+            if position is not None:
+                return position
+            # Nothing was appended. The log is of another engine or another past, or has trimmed the script that this replica has run last.
+            self._run_to(self._end())
 
     def catch_up(self, seconds: float = 0) -> int:
         """Runs what the log has, and if that is nothing new waits up to these seconds for a script. The position afterwards."""
         self._ready()
         begin = time.monotonic()
-        while (end := self._reached(self._log.end)) == self._position and (left := begin + seconds - time.monotonic()) > 0:
+        while (end := self._end()) == self._position and (left := begin + seconds - time.monotonic()) > 0:
             self._reached(partial(self._log.wait, end + 1, min(left, LONGEST_WAIT)))
-        if end < self._position:
-            raise self._diverged(end, f"it is the last, and this replica has run {self._position} scripts, so the log has lost some")
         self._run_to(end)
         return self._position
 
@@ -223,9 +243,10 @@ class Replicas(Calls):
                 break
         lines = [table.line.text] + [line for name, index in table.indexes.items() for line in (index.line.text, b"build %b 1" % name)]
         rows = self._kept(lambda runner: runner.replies(b"scan primary\ngo\n"))
-        about = json.dumps({"checksum": self._checksum, "outcomes": self._outcomes.found}).encode()
+        about = json.dumps({"outcomes": self._outcomes.found}).encode()
         text = b"\n".join([about, *lines, b"load", b",".join(table.names), b""]) + _records(rows) + b".\n"
-        self._reached(lambda: self._log.keep(self._position, text))
+        if not self._reached(lambda: self._log.keep(Checkpoint(self._position, self._chain, text))):
+            raise self._diverged(self._position, OTHER_PAST)
         return self._position
 
     def trim(self) -> None:
@@ -263,25 +284,56 @@ class Replicas(Calls):
             raise self._divergence
         if self._runner is None:
             self._begin(self._reached(self._log.checkpoint))
-            self._run_to(self._reached(self._log.end))
+            self._run_to(self._end())
         assert self._runner
         return self._runner
 
-    def _begin(self, checkpoint: tuple[int, bytes] | None) -> None:
+    def _open(self) -> None:
+        """Opens the log for the engine of this package."""
+        engine = self._reached(lambda: self._log.open(ENGINE))
+        if engine != ENGINE:
+            older = "open it with the version that wrote it, write a checkpoint, close all replicas, and update"
+            reason = f"its scripts were run by engine {engine}, and engine {ENGINE} may reply otherwise"
+            raise UnusableLog(self._name, f"{reason}: {older if engine < ENGINE else 'use a version of this package with that engine'}")
+
+    def _end(self) -> int:
+        """The position of the last script of the log, which has run up to this replica's position what the replica has run. If the log does not know that any
+        more, the replica begins with the checkpoint."""
+        end = self._reached(lambda: self._log.end(self._position))
+        if end.position < self._position:
+            raise self._diverged(end.position, f"it is the last, and this replica has run {self._position} scripts, so the log has lost some")
+        if end.engine != ENGINE:
+            self._open()
+        if end.chain is None:
+            self._begin_later()
+        elif end.chain != self._chain:
+            raise self._diverged(self._position, OTHER_PAST)
+        return end.position
+
+    def _begin(self, checkpoint: Checkpoint | None) -> None:
         """Begins with a checkpoint, or without one."""
         self._drop()
-        self._state, self._position, self._checksum, self._checksums, self._outcomes = State(), 0, 0, {}, Outcomes()
+        self._state, self._position, self._chain, self._outcomes = State(), 0, b"", Outcomes()
         self._runner = self._make()
         if checkpoint:
-            position, text = checkpoint
-            about, script = text.split(b"\n", 1)
-            replies = self._kept(lambda runner: runner.replies(script))
-            if REFUSED.search(replies):
-                raise self._diverged(position, f"its checkpoint was refused: {replies.decode()!r}")
-            self._note(script, replies)
-            found = json.loads(about)
-            self._position, self._checksum, self._outcomes = position, found["checksum"], Outcomes(found["outcomes"])
-            self._checksums[position] = self._checksum
+            try:
+                about, script = checkpoint.text.split(b"\n", 1)
+                replies = self._runner.replies(script)
+                if REFUSED.search(replies):
+                    raise UnusableLog(self._name, f"its checkpoint at {checkpoint.position} was refused: {replies.decode()!r}. {ANOTHER_CHECKPOINT}")
+                self._note(script, replies)
+                self._outcomes = Outcomes(json.loads(about)["outcomes"])
+            except BaseException:
+                self._drop()
+                raise
+            self._position, self._chain = checkpoint.position, checkpoint.chain
+
+    def _begin_later(self) -> None:
+        """Begins with a checkpoint in place of the next script of the log, which is not there: it was trimmed, or is lost."""
+        checkpoint = self._reached(self._log.checkpoint)
+        if checkpoint is None or checkpoint.position <= self._position:
+            raise UnusableLog(self._name, f"script {self._position + 1} is missing, or was changed since it was appended. {ANOTHER_CHECKPOINT}")
+        self._begin(checkpoint)
 
     def _diverged(self, position: int, reason: str) -> Diverged:
         """The exception of this call and of all that follow."""
@@ -308,33 +360,36 @@ class Replicas(Calls):
     def _run_to(self, last: int) -> None:
         """Runs the scripts of the log up to a position."""
         while self._position < last:
-            first = self._position + 1
-            found = self._reached(lambda: self._log.entries(first, last))
-            if not found or found[0].position != first:
-                # It was trimmed, and then there is a later checkpoint.
-                checkpoint = self._reached(self._log.checkpoint)
-                if checkpoint is None or checkpoint[0] < first:
-                    raise self._diverged(first, "it is missing")
-                self._begin(checkpoint)
-            else:
-                for entry in found:
-                    self._run(entry)
+            before = self._position
+            for entry in self._reached(lambda: self._log.entries(before + 1, last)):
+                if entry.position != self._position + 1 or entry.chain != self._log.link(self._chain, entry.request_id, entry.script):
+                    break
+                self._run(entry)
+            if self._position == before:
+                # The server may have been started again meanwhile, without its last scripts.
+                last = min(last, self._end())
+                if self._position == before < last:
+                    self._begin_later()
 
     def _run(self, entry: Entry) -> None:
-        if entry.position != self._position + 1:
-            raise self._diverged(self._position + 1, "it is missing")
-        if self._checksums.get(entry.seen, entry.checksum) != entry.checksum:
-            raise self._diverged(entry.seen, f"the replica that appended script {entry.position} had other replies")
+        try:
+            # A request comes again if the server has lost its id. All replicas know the same requests at a position, so that all leave the script out.
+            if entry.request_id not in self._outcomes.found:
+                self._outcomes.add(entry.request_id, self._outcome(entry.script))
+            self._position, self._chain = entry.position, entry.chain
+        except BaseException:
+            # It is not known whether the script was run.
+            self._drop()
+            raise
+
+    def _outcome(self, script: bytes) -> Outcome:
         fault = None
         try:
-            replies = self._kept(lambda runner: runner.replies(entry.script))
+            replies = self._ready().replies(script)
         except NotSharded as found:
             fault, replies = (found.reason, found.line), found.replies
-        self._note(entry.script, replies)
-        self._position, self._checksum = entry.position, zlib.crc32(replies, self._checksum)
-        self._checksums[entry.position] = self._checksum
-        self._checksums.pop(entry.position - MOST_CHECKSUMS, None)
-        self._outcomes.add(entry.request_id, Outcome(zlib.crc32(entry.script), replies.decode(), fault))
+        self._note(script, replies)
+        return Outcome(zlib.crc32(script), replies.decode(), fault)
 
     def _note(self, script: bytes, replies: bytes) -> None:
         """Takes what a script defines into the state."""

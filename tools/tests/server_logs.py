@@ -1,0 +1,255 @@
+"""Checks of a log on a server, which layers.py runs by the Python that has the modules of the servers.
+
+    server_logs.py redis|postgresql
+
+It starts the server, takes scripts, keys and rights from it, and shows how replicas notice."""
+
+import os
+import signal
+import socket
+import subprocess
+import sys
+import time
+from contextlib import closing
+from types import SimpleNamespace
+
+from common import SECONDS, expect, expect_within, imported, type_of_fault
+from layers import TABLE, betable, raised
+
+
+def opened(server, name, **options):
+    return betable().replicas.Replicas(server.url, name, **{"patience": SECONDS, **options})
+
+
+def unusable(part, call):
+    expect_within(part, str(raised(betable().logs.UnusableLog, call)))
+
+
+def redis_of(server):
+    return __import__("redis").Redis.from_url(server.url)
+
+
+def rows_of(server, query):
+    connection = __import__("psycopg2").connect(server.url)
+    connection.autocommit = True
+    with closing(connection), connection.cursor() as cursor:
+        cursor.execute(query)
+        return cursor.fetchall() if cursor.description else None
+
+
+FIRST_CALLS = [
+    lambda replica: replica.once("id", "get 1\n"), lambda replica: replica.replies("drain primary\n"),
+    lambda replica: replica.scan(), lambda replica: replica.checkpoint(),
+]  # fmt: skip
+
+
+def lost_scripts(server):
+    """An older copy of the server's files takes their place. What replaces the lost scripts has equal replies, or others."""
+    copy = f"{server.folder}.copy"
+    logs = [(f"lost{number}", 1 + number % 2, call) for number, call in enumerate(FIRST_CALLS)]
+    pairs = {name: (opened(server, name), opened(server, name)) for name, _, _ in logs}
+    for one, two in pairs.values():
+        one.run(TABLE)
+        one.once("id", "get 1\n")
+        two.catch_up()
+    server.end()
+    subprocess.run(["cp", "-a", server.folder, copy], check=True)
+    server.start()
+    for name, size, _ in logs:
+        for number in range(3):
+            pairs[name][0].put([(10 * number + key, "lost", 1) for key in range(size)])
+    server.kill()
+    os.rename(server.folder, f"{server.folder}.later")
+    os.rename(copy, server.folder)
+    server.start()
+    for name, _, call in logs:
+        one, two = pairs[name]
+        for number in range(4):
+            two.put([(100 + number, "new", 1)])
+        expect((type_of_fault(lambda: call(one)), type_of_fault(one.scan)), (betable().replicas.Diverged,) * 2)
+        one.close()
+        with opened(server, name) as again:
+            expect(([row[1] for row in again.scan()], again.position, two.catch_up()), (["new"] * 4, 6, 6))
+            expect((again.put([(5, "again", 1)]), two.get(5)), (1, (5, "again", 1)))
+        two.close()
+
+
+def trimmed_scripts(server):
+    with opened(server, "trimmed") as one, opened(server, "trimmed") as two:
+        one.run(TABLE)
+        two.catch_up()
+        one.put([(1, "a", 1)])
+        one.checkpoint()
+        # The log takes no checkpoint that is not of its past.
+        checkpoint = one._log.checkpoint()
+        expect([one._log.keep(checkpoint._replace(position=4, chain=chain, text=b"wrong")) for chain in (checkpoint.chain, b"")], [False, False])
+        expect(one._log.checkpoint(), checkpoint)
+        one.trim()
+        expect(two.once("id", "batch\nups 1,add,qty,1\nend\nget 1\n"), b"batch 1\nrow 1,a,2\n")
+        with opened(server, "trimmed") as three:
+            expect((three.once("id", "batch\nups 1,add,qty,1\nend\nget 1\n"), three.position, three.scan()), (b"batch 1\nrow 1,a,2\n", 4, one.scan()))
+
+
+def other_engine(server):
+    module = betable().replicas
+    engine = module.ENGINE
+    with opened(server, "engine") as one:
+        one.run(TABLE)
+        module.ENGINE = engine + 1
+        unusable("close all replicas, and update", lambda: opened(server, "engine"))
+        module.ENGINE = engine
+        one.checkpoint()
+        module.ENGINE = engine + 1
+        with opened(server, "engine") as new:
+            new.put([(1, "a", 1)])
+            module.ENGINE = engine
+            for call in (lambda: one.replies("drain primary\n"), one.scan, lambda: opened(server, "engine")):
+                unusable("use a version of this package with that engine", call)
+            module.ENGINE = engine + 1
+            expect((new.scan(), new.catch_up()), ([(1, "a", 1)], 3))
+    module.ENGINE = engine
+
+
+def changed_script(server):
+    with opened(server, "changed") as one:
+        one.run(TABLE)
+        one.put([(1, "a", 1)])
+        one.put([(2, "b", 1)])
+        if server.url.startswith("redis"):
+            client = redis_of(server)
+            entries = client.xrange("{changed}:log")
+            client.delete("{changed}:log")
+            for name, values in entries:
+                client.xadd("{changed}:log", {key: value.replace(b"put 1,a", b"put 1,x") for key, value in values.items()}, name)
+        else:
+            rows_of(server, "UPDATE changed_log SET script = 'batch\nput 1,x,1\nend\n' WHERE position = 2")
+        unusable("script 2 is missing, or was changed", lambda: opened(server, "changed"))
+        one.checkpoint()
+        with opened(server, "changed") as new:
+            expect((new.scan(), one.scan()), ([(1, "a", 1), (2, "b", 1)],) * 2)
+
+
+def redis_format(server):
+    """A log of the first format, which had other fields and no end."""
+    client = redis_of(server)
+    client.xadd("{old}:log", {"request": "r", "script": TABLE, "seen": 0, "checksum": 0}, "1-0")
+    client.set("{old}:request:r", 1)
+    before = {key: client.dump(key) for key in client.keys("{old}*")}
+    unusable("load them into a log of another name", lambda: opened(server, "old"))
+    expect({key: client.dump(key) for key in client.keys("{old}*")}, before)
+    client.hset("{newer}:end", mapping={"format": 3, "engine": 1, "position": 0, "chain": ""})
+    unusable("it has format 3", lambda: opened(server, "newer"))
+    client.set("{other}:log", "text")
+    unusable("WRONGTYPE", lambda: opened(server, "other"))
+
+
+def redis_keys(server):
+    """Keys that are gone: the parts of a checkpoint, the scripts after it, those up to it, and a request id."""
+    client = redis_of(server)
+    with opened(server, "keys") as one:
+        one.run(TABLE)
+        one.once("id", "batch\nups 1,add,qty,1\nend\n")
+        client.delete("{keys}:request:id")
+        expect((one.once("id", "batch\nups 1,add,qty,1\nend\n"), one.scan()), (b"batch 1\n", [(1, "", 1)]))
+        one.checkpoint()
+        client.delete(*client.keys("{keys}:checkpoint:*"))
+        unusable("parts of its checkpoint at 4 are gone", lambda: opened(server, "keys"))
+        one.checkpoint()
+        client.delete("{keys}:log")
+        with opened(server, "keys") as two:
+            expect((two.position, two.put([(2, "b", 2)]), one.scan()), (5, 1, [(1, "", 1), (2, "b", 2)]))
+        client.delete("{keys}:log")
+        unusable("script 6 is missing", lambda: opened(server, "keys"))
+        expect((one.put([(3, "c", 3)]), one.checkpoint()), (1, 8))
+        with opened(server, "keys") as two:
+            expect(two.scan(), one.scan())
+
+
+def redis_settings(server):
+    """Settings by which the server removes keys, and users whose rights are limited."""
+    client = redis_of(server)
+    client.config_set("maxmemory-policy", "volatile-lru")
+    opened(server, "settings").close()
+    client.config_set("maxmemory", "100mb")
+    unusable("set maxmemory-policy to noeviction", lambda: opened(server, "settings"))
+    for rights in (["+@read", "+@write", "+@scripting"], ["+@read", "+@scripting"]):
+        client.acl_setuser("limited", enabled=True, nopass=True, keys=["{settings}:*"], commands=rights)
+        server_of_user = SimpleNamespace(url=server.url.replace("//", "//limited:x@"))
+        if "+@write" in rights:
+            # Without INFO the settings are not seen.
+            with opened(server_of_user, "settings") as one:
+                one.run(TABLE)
+                one.checkpoint()
+                one.trim()
+                expect((one.put([(1, "a", 1)]), one.catch_up(0.1)), (1, 3))
+        unusable("give its user the keys {another}:*", lambda url=server_of_user: opened(url, "another"))
+        client.acl_deluser("limited")
+    client.config_set("maxmemory", 0)
+
+
+def stopped_redis(server):
+    """A server that is stopped while a replica is open: a call ends after its patience."""
+    with opened(server, "silence", patience=1) as one:
+        one.run(TABLE)
+        server.process.send_signal(signal.SIGSTOP)
+        try:
+            begin = time.monotonic()
+            expect((type_of_fault(one.scan), time.monotonic() - begin < 8), (betable().logs.Unreachable, True))
+        finally:
+            server.process.send_signal(signal.SIGCONT)
+        expect(one.scan(), [])
+
+
+def silent_server(server):
+    with socket.create_server(("127.0.0.1", 0)) as silent:
+        begin = time.monotonic()
+        url = server.url.replace(str(server.port), str(silent.getsockname()[1]))
+        fault = type_of_fault(lambda: betable().replicas.Replicas(url, patience=1))
+        expect((fault, time.monotonic() - begin < 8), (betable().logs.Unreachable, True))
+
+
+def postgresql_format(server):
+    """A log of the first format, which had other columns."""
+    rows_of(server, "CREATE TABLE old_end(position bigint NOT NULL)")
+    rows_of(server, "INSERT INTO old_end VALUES (0)")
+    tables = "SELECT table_name, column_name FROM information_schema.columns WHERE table_name LIKE 'old%' ORDER BY 1, 2"
+    unusable("load them into a log of another name", lambda: opened(server, "old"))
+    expect((rows_of(server, tables), rows_of(server, "SELECT * FROM old_end")), ([("old_end", "position")], [(0,)]))
+    opened(server, "newer").close()
+    rows_of(server, "UPDATE newer_end SET format = 3")
+    unusable("it has format 3", lambda: opened(server, "newer"))
+
+
+def postgresql_names(server):
+    """Names that are words of SQL."""
+    for name in ("order", "user", "end", "a" * 32):
+        with opened(server, name) as one:
+            expect((one.replies(TABLE), one.catch_up(0.01)), (b"table 3\n", 1))
+
+
+def postgresql_rights(server):
+    rows_of(server, "CREATE USER limited")
+    user = SimpleNamespace(url=server.url.replace("postgres@", "limited@"))
+    unusable("let its user create tables in the schema", lambda: opened(user, "rights"))
+    opened(server, "rights").close()
+    unusable("SELECT, INSERT, UPDATE and DELETE on rights_end, rights_log, rights_checkpoint", lambda: opened(user, "rights"))
+    rows_of(server, "GRANT SELECT, INSERT, UPDATE, DELETE ON rights_end, rights_log, rights_checkpoint TO limited")
+    with opened(user, "rights") as one:
+        one.run(TABLE)
+        one.checkpoint()
+        one.trim()
+        expect(one.put([(1, "a", 1)]), 1)
+    rows_of(server, "DROP TABLE rights_log")
+    unusable('relation "rights_log" does not exist', lambda: opened(server, "rights"))
+
+
+OF_ALL = [lost_scripts, trimmed_scripts, other_engine, changed_script]
+CHECKS = {
+    "redis": [*OF_ALL, redis_format, redis_keys, redis_settings, stopped_redis, silent_server],
+    "postgresql": [*OF_ALL, postgresql_format, postgresql_names, postgresql_rights, silent_server],
+}
+
+if __name__ == "__main__":
+    with imported("tools/crash/replicas").server(sys.argv[1]) as server:
+        for check in CHECKS[sys.argv[1]]:
+            check(server)
