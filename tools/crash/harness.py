@@ -12,15 +12,18 @@ import os
 import random
 import shutil
 import signal
+import sqlite3
 import subprocess
 import sys
 import tempfile
+import zlib
 from collections.abc import Callable, Iterator
+from hashlib import sha256
 from itertools import chain, combinations
 from pathlib import Path
 from typing import Any, NamedTuple
 
-from history import PROBE, Backup, Once, Step, expected
+from history import FORMAT_1, PROBE, Backup, Once, Step, expected
 
 from betable import Session, durable
 
@@ -30,6 +33,8 @@ SECTOR = 512
 IN_DOUBT, FAILED = -1, -2  # notes that a step may be kept or not, and that a call failed
 MOST_FAILURES = 100  # of the calls of a client that goes on
 MOST_SUBSETS = 10  # for at most this many writes that are not synced, all subsets of them are checked
+HALVES = {(True, True): "with sync", (False, False): "without sync", (True, False): "then without sync", (False, True): "then with sync"}
+durable.LOG_PAGES = 6  # so that SQLite's log is written back some times in a short history
 
 
 class Operation(NamedTuple):
@@ -80,10 +85,9 @@ def library() -> Any:
 
 
 def status_of_fork(work: Callable[[], None], folder: str, *, has_bytes: bool = False, kill_at: int = -1, fails: tuple[int, int] = (-1, -1),
-           part: int = WHOLE, fault: int = errno.ENOSPC) -> int:  # fmt: skip
-    """The status of a fork that did a work on files below a folder, which is empty at first, with a trace beside the folder."""
-    shutil.rmtree(folder, ignore_errors=True)
-    os.makedirs(folder)
+           part: int = WHOLE, fault: int = errno.ENOSPC, files: dict[str, bytes] = {}) -> int:  # fmt: skip
+    """The status of a fork that did a work on files below a folder, which has only those given at first, with a trace beside the folder."""
+    put_files(folder, files)
     child = os.fork()
     if child == 0:
         status = 1
@@ -97,6 +101,14 @@ def status_of_fork(work: Callable[[], None], folder: str, *, has_bytes: bool = F
         finally:
             os._exit(status)
     return os.waitstatus_to_exitcode(os.waitpid(child, 0)[1])
+
+
+def put_files(folder: str, files: dict[str, bytes]) -> None:
+    """A folder with just these files."""
+    shutil.rmtree(folder, ignore_errors=True)
+    os.makedirs(folder)
+    for name, data in files.items():
+        Path(folder, name).write_bytes(data)
 
 
 def trace_of(folder: str) -> list[Operation]:
@@ -117,20 +129,32 @@ def answered_steps(trace: list[Operation]) -> int:
 
 
 def table_of(folder: str, *, sync: bool = True, make: Callable[[], Any] = Session) -> Any:
-    """The table of a folder. SQLite's own checkpoints come early, so that a short history has some."""
-    table = durable.open(f"{folder}/table", sync=sync, make=make)
-    table._db.execute("PRAGMA wal_autocheckpoint=8")
-    return table
+    return durable.open(f"{folder}/table", sync=sync, make=make)
 
 
-def go(folder: str, steps: list[Step], *, start: int = 0, sync: bool = True) -> None:
-    """A client: its steps, each noted when it is answered. Half way it closes the table and opens it again."""
-    middle = max(start, len(steps) // 2)
-    for first, last in ((start, middle), (middle, len(steps))):
+def go(folder: str, steps: list[Step], *, start: int = 0, syncs: tuple[bool, bool] = (True, True)) -> None:
+    """A client: its steps, each noted when it is answered. Half way it closes the table and opens it again, with or without sync."""
+    middle = len(steps) // 2
+    for first, last, sync in ((start, middle, syncs[0]), (middle, len(steps), syncs[1])):
         with table_of(folder, sync=sync) as table:
             for number in range(first, last):
                 steps[number].make(table, number)
                 library().faults_note(ctypes.c_long(number + 1))
+
+
+def old_files(steps: list[Step]) -> dict[str, bytes]:
+    """A table's file of format 1, after steps that are made by `once`."""
+    with tempfile.TemporaryDirectory() as folder, Session() as session:
+        db = sqlite3.connect(f"{folder}/table", isolation_level=None)
+        db.executescript(FORMAT_1)
+        for number, step in enumerate(steps):
+            assert isinstance(step, Once)
+            script = step.script.encode()
+            replies = session.replies(script)
+            db.execute("INSERT INTO log VALUES(?, ?, ?)", (number + 1, script, zlib.crc32(replies, zlib.crc32(script))))
+            db.execute("INSERT INTO requests(id, script, replies) VALUES(?, ?, ?)", (f"step {number}", sha256(script).digest(), replies))
+        db.close()
+        return {"table": Path(folder, "table").read_bytes()}
 
 
 def go_before_answers(folder: str, steps: list[Step]) -> None:
@@ -178,43 +202,52 @@ def check_backup(folder: str, steps: list[Step], want: list[bytes]) -> None:
 # ---- the checks ----
 
 
-def kills(folder: str, steps: list[Step], *, every: int = 1, parts: tuple[int, ...] = (HALF, ALL_BUT_A_BYTE, WHOLE), is_control: bool = False) -> Count:
-    """The process is killed at each operation, after a part of it is carried out."""
-    want, count = list(expected(steps)), Count("control of kills" if is_control else "killed")
-    work = (lambda: go_before_answers(folder, steps)) if is_control else (lambda: go(folder, steps))
-    if status_of_fork(work, folder) != 0:
+def kills(folder: str, steps: list[Step], *, every: int = 1, parts: tuple[int, ...] = (HALF, ALL_BUT_A_BYTE, WHOLE), is_control: bool = False, old: int = 0) -> Count:
+    """The process is killed at each operation, after a part of it is carried out. The first `old` steps are in a file of format 1."""
+    want, count, files = list(expected(steps)), Count("control of kills" if is_control else "killed, from format 1" if old else "killed"), old_files(steps[:old])
+    work = (lambda: go_before_answers(folder, steps)) if is_control else (lambda: go(folder, steps, start=old))
+    if status_of_fork(work, folder, files=files) != 0:
         raise Wrong("the history does not go through")
     operations = [operation for operation in trace_of(folder) if operation.letter != "n"]
     for part in parts:
         for number in range(part % every, len(operations), every):
-            if status_of_fork(work, folder, kill_at=number, part=part) != -signal.SIGKILL:
+            if status_of_fork(work, folder, kill_at=number, part=part, files=files) != -signal.SIGKILL:
                 raise Wrong(f"operation {number} was not come to")
-            done = answered_steps(trace_of(folder))
+            done = max(old, answered_steps(trace_of(folder)))
             count.look(f"killed at operation {number}, part {part}", lambda: check_after_crash(folder, steps, want, done, done + 1))
     return count
 
 
-def power_losses(folder: str, steps: list[Step], *, subsets: int = MOST_SUBSETS, mixes: int = 2, sync: bool = True, seed: int = 1) -> Count:
-    """The power is lost: of what was not synced each subset is on disk, and some with writes of which sectors are there, old, or zeros."""
-    want, count, dice = list(expected(steps)), Count("power lost" if sync else "control of power lost"), random.Random(seed)
-    if status_of_fork(lambda: go(folder, steps, sync=sync), folder, has_bytes=True) != 0:
+def power_losses(folder: str, steps: list[Step], *, subsets: int = MOST_SUBSETS, mixes: int = 2, syncs: tuple[bool, bool] = (True, True), is_control: bool = False,
+           old: int = 0, seed: int = 1) -> Count:  # fmt: skip
+    """The power is lost: of what was not synced each subset is on disk, and some with writes of which sectors are there, old, or zeros. What was answered without
+    sync may be lost, but for the control. The first `old` steps are in a file of format 1."""
+    name = "control of power lost" if is_control else f"power lost, {HALVES[syncs]}" + (", from format 1" if old else "")
+    want, count, dice, files = list(expected(steps)), Count(name), random.Random(seed), old_files(steps[:old])
+    if status_of_fork(lambda: go(folder, steps, start=old, syncs=syncs), folder, has_bytes=True, files=files) != 0:
         raise Wrong("the history does not go through")
     seen = set()
-    for what, files, done in disks(folder, trace_of(folder), dice, subsets, mixes):
-        key = done, frozenset(files.items())
+    for what, found, answered in disks(folder, trace_of(folder), dice, subsets, mixes, files):
+        done = max(old, answered)
+        least = done if is_control else least_steps(done, len(steps) // 2, syncs)
+        key = done, frozenset(found.items())
         if key not in seen:
             seen.add(key)
-            count.look(what, lambda: check_on_disk(files, folder, steps, want, done, done + 1))
+            count.look(what, lambda: check_on_disk(found, folder, steps, want, least, done + 1))
     return count
+
+
+def least_steps(done: int, middle: int, syncs: tuple[bool, bool]) -> int:
+    """How many steps of those that were answered are on disk."""
+    if done > middle:
+        return done if syncs[1] else middle
+    return done if syncs[0] else 0
 
 
 def check_on_disk(files: dict[str, bytes], folder: str, steps: list[Step], want: list[bytes], least: int, most: int) -> int:
     """Checks the table of files that a power loss has left."""
     place = f"{folder}.disk"
-    shutil.rmtree(place, ignore_errors=True)
-    os.makedirs(place)
-    for name, data in files.items():
-        Path(place, name).write_bytes(data)
+    put_files(place, files)
     with table_of(place) as table:
         state = state_of(table, want, least, most)
     if any(isinstance(step, Backup) for step in steps[:least]) or "backup" in files:
@@ -223,17 +256,21 @@ def check_on_disk(files: dict[str, bytes], folder: str, steps: list[Step], want:
 
 
 class Disk:
-    """What is on a disk before a place of a trace: the files by number with what is synced, and of all else the operations that are not synced."""
+    """What is on a disk before a place of a trace: the files by number with what is synced, and of all else the operations that are not synced. What a sync that
+    failed had to write is lost for good, or all of it is there."""
 
-    def __init__(self) -> None:
-        self.names: dict[str, int] = {}  # as they are synced
-        self.current: dict[str, int] = {}  # as the process sees them
-        self.files: list[bytes] = []
+    def __init__(self, files: dict[str, bytes] = {}, *, loses: bool = True) -> None:
+        self.names = {name: number for number, name in enumerate(files)}  # as they are synced
+        self.current = {**self.names}  # as the process sees them
+        self.files = [*files.values()]
+        self.loses = loses
         self.pending: list[tuple[int, Operation]] = []  # by number of the file, or -1 for names
 
     def take(self, operation: Operation, folder: str) -> None:
         letter, name = operation.letter, os.path.basename(operation.path)
-        if letter == "f":
+        if letter == "f" and not self.loses:
+            self.take(operation._replace(letter="s"), folder)
+        elif letter == "f":
             # The data of a failed sync may be lost for good, because a kernel does not write it again. It writes names again.
             self.pending = [entry for entry in self.pending if operation.path == folder or entry[0] != self.current.get(name)]
         elif letter == "s" and operation.path == folder:
@@ -283,17 +320,20 @@ class Disk:
 
 def last_disks(folder: str, trace: list[Operation], dice: random.Random) -> Iterator[tuple[str, dict[str, bytes]]]:
     """Some of what may be on disk at the end of a trace."""
-    disk = Disk()
-    for operation in trace:
-        if operation.letter != "n":
-            disk.take(operation, folder)
-    for subset in subsets_of(disk.pending, dice, 1):
-        yield f"{len(subset)} of {len(disk.pending)} there", disk.found_files(subset)
+    for loses in (True, False):
+        disk = Disk(loses=loses)
+        for operation in trace:
+            if operation.letter != "n":
+                disk.take(operation, folder)
+        for subset in subsets_of(disk.pending, dice, 1):
+            yield f"{len(subset)} of {len(disk.pending)} there, {'nothing' if loses else 'all'} of failed syncs", disk.found_files(subset)
 
 
-def disks(folder: str, trace: list[Operation], dice: random.Random, most: int, mixes: int) -> Iterator[tuple[str, dict[str, bytes], int]]:
+def disks(
+    folder: str, trace: list[Operation], dice: random.Random, most: int, mixes: int, files: dict[str, bytes]
+) -> Iterator[tuple[str, dict[str, bytes], int]]:
     """What may be on disk, for each place of a trace before a sync, and at its end: what it is, the files, and how many steps were answered."""
-    disk, done = Disk(), 0
+    disk, done = Disk(files), 0
     for number, operation in enumerate([*trace, Operation("s", folder, 0, b"")]):
         if operation.letter == "n":
             done = operation.offset
@@ -428,18 +468,41 @@ def stop(folder: str, steps: list[Step]) -> None:
 
 def damages(folder: str, steps: list[Step], *, rounds: int, seed: int = 1) -> Count:
     """Some bytes of the file of a closed table are changed at random: the table is as it was, or opening it says that it is not."""
-    want, count, dice = list(expected(steps)), Count("bytes changed"), random.Random(seed)
     if status_of_fork(lambda: go(folder, steps), folder) != 0:
         raise Wrong("the history does not go through")
-    path = Path(f"{folder}/table")
-    whole, refused = path.read_bytes(), 0
+    return changes(Count("bytes changed"), folder, steps, "table", rounds, random.Random(seed))
+
+
+def log_damages(folder: str, steps: list[Step], *, rounds: int, seed: int = 1) -> Count:
+    """Some bytes of what a crash has left in SQLite's log are changed: the same, but for the end of the log, which a loss of power may tear as well."""
+
+    def work() -> None:
+        table = table_of(folder)
+        for number, step in enumerate(steps):
+            step.make(table, number)
+        os._exit(0)
+
+    if status_of_fork(work, folder) != 0:
+        raise Wrong("the history does not go through")
+    return changes(Count("bytes of the log changed"), folder, steps, "table-wal", rounds, random.Random(seed))
+
+
+def changes(count: Count, folder: str, steps: list[Step], name: str, rounds: int, dice: random.Random) -> Count:
+    """Changes bytes of one of the files of a table: some of the file, or some in a row of SQLite's log, as elsewhere a second change hides the first one."""
+    want, files, refused, earlier = list(expected(steps)), {path.name: path.read_bytes() for path in Path(folder).iterdir()}, 0, 0
+    end = end_of_log(files[name]) if name == "table-wal" else len(files[name])
     for number in range(rounds):
-        data = bytearray(whole)
-        for place in dice.sample(range(len(data)), dice.choice([1, 1, 1, 2, 5])):
+        data = bytearray(files[name])
+        if name == "table-wal":
+            begin = dice.choice([dice.randrange(200), dice.randrange(len(data))])
+            places = list(range(begin, min(len(data), begin + dice.choice([1, 1, 1, 8, 512]))))
+        else:
+            places = dice.sample(range(len(data)), dice.choice([1, 1, 1, 2, 5]))
+        for place in places:
             data[place] ^= 1 << dice.randrange(8) if dice.random() < 0.5 else dice.randint(1, 255)
-        path.write_bytes(data)
+        put_files(folder, {**files, name: bytes(data)})
         try:
-            with durable.open(path) as table:
+            with durable.open(f"{folder}/table") as table:
                 found = table.replies(PROBE)
         except (durable.Corrupt, durable.NotATable, durable.NewerFormat):
             refused += 1
@@ -448,11 +511,18 @@ def damages(folder: str, steps: list[Step], *, rounds: int, seed: int = 1) -> Co
             failed = fault
             count.look(f"change {number}", lambda: fail(f"{type(failed).__name__}: {failed}"))
         else:
-            count.look(f"change {number}", lambda: None if found == want[-1] else fail("the table is another one"))
-        for name in ("table-wal", "table-journal"):
-            Path(folder, name).unlink(missing_ok=True)
-    count.details = f"{refused:,} of them refused"
+            is_earlier = found != want[-1] and max(places) >= end and found in want
+            earlier += is_earlier
+            count.look(f"change {number}", lambda: None if found == want[-1] or is_earlier else fail("the table is another one"))
+    count.details = f"{refused:,} of them refused" + (f", {earlier:,} at the end of the log taken for a loss of power" if name == "table-wal" else "")
     return count
+
+
+def end_of_log(data: bytes) -> int:
+    """The place of the last frame of the last transaction but one of SQLite's log, where its frames begin if there is none. A frame has 24 bytes and a page."""
+    heads = {at: data[at : at + 24] for at in range(32, len(data), 24 + 4_096)}
+    ends = [at for at, head in heads.items() if head[8:16] == data[16:24] and head[4:8] != bytes(4)]
+    return ends[-2] if len(ends) > 1 else 32
 
 
 def fail(reason: str) -> None:

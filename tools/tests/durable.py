@@ -2,6 +2,7 @@
 The library is that of BETABLE_LIBRARY, or bin/build_c builds it."""
 
 import copy
+import errno
 import os
 import pickle
 import pty
@@ -12,11 +13,13 @@ import subprocess
 import sys
 import tempfile
 import threading
+import zlib
 from contextlib import contextmanager
+from hashlib import sha256
 from pathlib import Path
 
 from clients import betable, library
-from common import expect, expect_within, fault_of, SECONDS, TOP
+from common import expect, expect_within, fault_of, SECONDS, TOP, type_of_fault
 
 TABLE = "table 4 3 2 1 id:int city:text qty:int\n"
 ADD = "batch\nups 1,add,qty,1\nend\n"
@@ -76,6 +79,22 @@ def run_python(text, *words):
     environment = {**os.environ, "PYTHONPATH": str(TOP / "clients/python")}
     ended = subprocess.run([sys.executable, "-B", "-c", text, *map(str, words)], env=environment, capture_output=True, text=True, timeout=SECONDS)
     return ended.returncode, ended.stdout + ended.stderr
+
+
+def crashed_copy(table, folder):
+    """The files of an open table as a crash would leave them, in a new folder. Gives the path of the table's file."""
+    folder.mkdir()
+    for end in ("", "-wal"):
+        shutil.copy(table.path + end, folder / f"t{end}")
+    return folder / "t"
+
+
+def files_of(folder):
+    return {path.name: path.read_bytes() for path in folder.iterdir() if path.is_file()}
+
+
+def files_with_bytes(folder):
+    return {name: data for name, data in files_of(folder).items() if data}
 
 
 # ---- what is kept ----
@@ -282,7 +301,7 @@ def a_commit_that_fails_is_rolled_back_or_in_doubt():
 
             def execute(self, statement, *values):
                 statements.append(statement)
-                if statement == "COMMIT" or statement.startswith("UPDATE about SET rollbacks"):
+                if statement == "COMMIT" or (statement.startswith("UPDATE about") and "COMMIT" in statements):
                     fault = sqlite3.OperationalError("disk I/O error")
                     fault.sqlite_errorcode = sqlite3.SQLITE_IOERR_FSYNC
                     raise fault
@@ -294,6 +313,76 @@ def a_commit_that_fails_is_rolled_back_or_in_doubt():
         expect_fault(ValueError, lambda: table.replies(ADD))
         with durable().open(path / "t") as table:
             expect(table.number, 3)
+
+
+def a_script_that_cannot_be_stored_is_refused_before_it_runs():
+    with folder() as path, durable().open(path / "t") as table:
+        table.run(TABLE)
+        table._most_bytes = 200
+        long = "batch\n" + "ups 1,add,qty,1\n" * 200 + "end\n"
+        with table.group():
+            table.replies(ADD)
+            for call in (lambda: table.replies(long), lambda: table.once("a", long)):
+                fault = expect_fault(durable().ScriptTooLong, call, "3,210 bytes", "divide it")
+                expect((fault.length, fault.most, str(pickle.loads(pickle.dumps(fault)))), (3_210, 200, str(fault)))
+        # What only reads is not stored. The limit is that of SQLite, which counts the other bytes of the row as well.
+        expect(table.replies("get 1\n" * 1_000).count(b"row 1,,1"), 1_000)
+        rows = [(1, "x" * 100, 1), (2, "x" * 100, 1), (3, "x" * 200, 1)]
+        expect(expect_fault(durable().ScriptTooLong, lambda: table.put(rows, most=1)).taken, 2)
+        expect((table.number, len(table.scan())), (4, 2))
+
+
+class FullDisk:
+    """A connection on a disk without room, which is there again when `is_full` is set back."""
+
+    def __init__(self, connect):
+        self.connect, self.is_full = connect, True
+
+    def __call__(self, *words, **named):
+        disk, real = self, self.connect(*words, **named)
+
+        class Connection:
+            def __getattr__(self, name):
+                return getattr(real, name)
+
+            def execute(self, statement, *values):
+                if disk.is_full and statement.startswith(("PRAGMA wal_checkpoint", "COMMIT", "UPDATE")):
+                    fault = sqlite3.OperationalError("database or disk is full")
+                    fault.sqlite_errorcode = sqlite3.SQLITE_FULL
+                    raise fault
+                return real.execute(statement, *values)
+
+        return Connection()
+
+
+def a_table_on_a_full_disk_can_be_read():
+    """Also one of format 1, which is brought up to date when there is room."""
+    module = durable()
+    with folder() as path:
+        with module.open(path / "t") as table:
+            table.run(TABLE)
+            table.once("a", ADD)
+            crashed = crashed_copy(table, path / "crashed")
+        old = old_file(path / "old", [TABLE, ADD])
+        for name, number in ((crashed, 2), (old, 2)):
+            before = files_with_bytes(name.parent)
+            connect, disk = sqlite3.connect, FullDisk(sqlite3.connect)
+            try:
+                sqlite3.connect = disk
+                with module.open(name) as table:
+                    expect((table.number, table.get(1)), (number, (1, "", 1)))
+                    # What is read may not be on disk, so neither is a reply that was kept with an id.
+                    for call in (lambda: table.replies(ADD), lambda: table.once("a", ADD), lambda: table.forget("a"), table.checkpoint):
+                        expect_fault(module.RolledBack, call, "full")
+                    expect((table.number, table.get(1)), (number, (1, "", 1)))
+                    expect(files_with_bytes(name.parent) == before, True)
+                    disk.is_full = False
+                    table.replies(ADD)
+                    table.once("a", ADD)
+            finally:
+                sqlite3.connect = connect
+            with module.open(name) as table:
+                expect((table.number, table.get(1)), ((3, (1, "", 2)) if name == crashed else (4, (1, "", 3))))
 
 
 # ---- requests ----
@@ -332,6 +421,73 @@ def the_last_request_ids_are_kept():
         for number, count in ((4, 5), (3, 5), (2, 5), (1, 6)):
             table.once(f"{number}", ADD)
             expect((number, table.get(1)), (number, (1, "", count)))
+
+
+def the_bytes_of_stored_replies_are_bounded():
+    """The oldest are forgotten, and the newest stays however long its replies are."""
+    most = durable().MOST_REQUEST_BYTES
+    script, changes = ADD + "scan primary\ngo\n", "SELECT sum(length(replies)), max(number) FROM requests"
+    with folder() as path:
+        durable().MOST_REQUEST_BYTES = 3_000
+        try:
+            with durable().open(path / "t") as table:
+                table.run(TABLE)
+                table.put([(key, "x" * 200, 0) for key in range(4, 8)])
+                for number in range(6):
+                    table.once(f"{number}", script)
+                bytes_kept, last = table._db.execute(changes).fetchone()
+                expect((table.request_bytes, last, 2_000 < bytes_kept <= 3_000), (bytes_kept, 6, True))
+                for number, count in ((5, 6), (0, 7), (5, 7)):
+                    table.once(f"{number}", script)
+                    expect((number, table.get(1)), (number, (1, "", count)))
+                table.put([(key, "y" * 200, 0) for key in range(20, 40)])
+                table.once("long", script)
+                expect((table.request_bytes > 3_000, table.once("long", script).startswith(b"batch 1"), table.get(1)), (True, True, (1, "", 8)))
+                table.forget("long")
+                expect(table.request_bytes, 0)
+        finally:
+            durable().MOST_REQUEST_BYTES = most
+
+
+def damage_to_request_ids_is_found():
+    """An id that the index does not find would be run again, so it is found when the table is opened. What is kept with an id is looked at when it is used."""
+    with folder() as path:
+        with durable().open(path / "t") as table:
+            table.run(TABLE)
+            for number in range(3):
+                table.once(f"request {number}", ADD)
+        whole = (path / "t").read_bytes()
+        # The id is in the row, and in the index.
+        places = [found.start() for found in re.finditer(b"request 1", whole)]
+        expect(len(places), 2)
+        for place in places:
+            (path / "t").write_bytes(whole[:place] + b"R" + whole[place + 1 :])
+            expect_fault(durable().Corrupt, lambda: durable().open(path / "t"), "index", "backup")
+        other_schema = whole.replace(b"script BLOB NOT NULL, replies", b"Scripu BLOB NOT NULL, replies")
+        (path / "t").write_bytes(other_schema)
+        with durable().open(path / "t") as table:
+            expect_fault(durable().Corrupt, lambda: table.once("request 1", ADD), "no such column", "backup")
+        for statement in ("replies = x'00'", "replies = 'batch 1'", "script = x'00'", "checksum = checksum + 1"):
+            (path / "t").write_bytes(whole)
+            changed(path / "t", f"UPDATE requests SET {statement} WHERE number = 2")
+            with durable().open(path / "t") as table:
+                expect(table.once("request 0", ADD), b"batch 1\n")
+                expect_fault(durable().ReplyDamaged, lambda: table.once("request 1", ADD), "'request 1'", "run once")
+                expect(table.once("request 2", ADD), b"batch 1\n")
+
+
+def the_number_of_request_ids_is_checked():
+    with folder() as path:
+        for wrong in (0, -5, 10**30):
+            expect_fault(ValueError, lambda: durable().open(path / "t", most_requests=wrong), "most_requests")
+        for wrong in ("x", True, 1.5, None):
+            expect_fault(TypeError, lambda: durable().open(path / "t", most_requests=wrong), "most_requests")
+        expect(files_of(path), {})
+        with durable().open(path / "t", most_requests=1) as table:
+            table.run(TABLE)
+            for _ in range(2):
+                table.once("a", ADD)
+            expect(table.get(1), (1, "", 1))
 
 
 # ---- checkpoints ----
@@ -412,6 +568,12 @@ def damage_is_found():
             (4, "missing", "DELETE FROM log WHERE number = 4"),
             (0, "backup", "UPDATE checkpoint SET text = CAST(replace(CAST(text AS TEXT), '30', '31') AS BLOB)"),
             (0, "backup", "DELETE FROM checkpoint"),
+            (0, "backup", "UPDATE checkpoint SET text = 5"),
+            (0, "backup", "UPDATE about SET number = 'x'"),
+            (4, "backup", "UPDATE log SET script = 5 WHERE number = 4"),
+            (4, "backup", "UPDATE log SET script = CAST(script AS TEXT) WHERE number = 4"),
+            (5, "backup", "UPDATE log SET checksum = 'x' WHERE number = 5"),
+            (None, "mark", "UPDATE about SET mark = x'00'"),
         ]:
             shutil.copy(whole, path / "damaged")
             changed(path / "damaged", statement)
@@ -435,6 +597,170 @@ def damage_is_found():
             expect(table.number, 5)
 
 
+def changed_bytes_of_what_a_crash_has_left_are_found():
+    """In each part of SQLite's log but its end, which a loss of power may tear. Nothing is changed then."""
+    with folder() as path:
+        with durable().open(path / "t") as table:
+            table.run(TABLE)
+            for _ in range(6):
+                table.replies(ADD)
+            crashed = crashed_copy(table, path / "crashed")
+        log = crashed.with_name("t-wal")
+        whole = files_of(path / "crashed")
+        # The first transaction has a page more than the others, that of the file's id. The last page of the last transaction but one may be the end.
+        size, head, frame = 4_096, 32, 24 + 4_096
+        frames = (len(whole["t-wal"]) - head) // frame
+        expect((len(whole["t-wal"]), frames), (head + frames * frame, 8))
+        parts = [(0, 4), (4, 4), (8, 4), (12, 4), (16, 8), (24, 8)]
+        parts += [(head + number * frame + at, length) for number in range(frames) for at, length in [(0, 4), (4, 4), (8, 8), (16, 8), (24, 100), (24 + size - 100, 100)]]
+        for begin, length in parts:
+            for at in (begin, begin + length - 1):
+                for name, data in whole.items():
+                    (path / "crashed" / name).write_bytes(data)
+                data = bytearray(whole["t-wal"])
+                data[at] ^= 0x41
+                log.write_bytes(data)
+                if at < head + (frames - 2) * frame:
+                    expect_fault(durable().Corrupt, lambda: durable().open(crashed), "keep both files")
+                    expect((at, files_of(path / "crashed")), (at, {**whole, "t-wal": bytes(data)}))
+                else:
+                    with durable().open(crashed) as table:
+                        expect((at, table.number), (at, 5 if at < head + (frames - 1) * frame else 6))
+
+
+def a_log_that_was_begun_again_is_told_from_a_damaged_one():
+    """Its header may be torn when nothing but what is in the file is in it."""
+    module = durable()
+    pages = module.LOG_PAGES
+    with folder() as path:
+        try:
+            module.LOG_PAGES = 5
+            with module.open(path / "t") as table:
+                table.run(TABLE)
+                states = []
+                for number in range(20):
+                    table.replies(ADD)
+                    states.append(crashed_copy(table, path / f"{number}"))
+        finally:
+            module.LOG_PAGES = pages
+        # Each generation of the log has the id of the file, and is found whole.
+        headers = set()
+        for number, (crashed, following) in enumerate(zip(states, states[1:])):
+            with module.open(shutil.copytree(crashed.parent, path / f"whole {number}") / "t") as table:
+                expect(table.number, number + 2)
+            log, header = crashed.with_name("t-wal"), following.with_name("t-wal").read_bytes()[:32]
+            headers.add(header)
+            is_last = log.read_bytes()[:32] != header
+            log.write_bytes(bytes(16) + log.read_bytes()[16:])
+            if is_last:
+                with module.open(crashed) as table:
+                    expect(table.number, number + 2)
+            else:
+                expect((number, type_of_fault(lambda: module.open(crashed))), (number, module.Corrupt))
+        expect(len(headers) > 2, True)
+
+
+def without_sync_a_log_with_holes_is_no_damage():
+    """Also if the table was opened with sync before."""
+    with folder() as path:
+        for number in range(2):
+            with durable().open(path / "t", sync=number == 0) as table:
+                if number == 0:
+                    table.run(TABLE)
+                for _ in range(6):
+                    table.replies(ADD)
+                crashed = crashed_copy(table, path / f"{number}")
+            data = bytearray(crashed.with_name("t-wal").read_bytes())
+            data[32 + 2 * 4_120 + 100] ^= 1
+            crashed.with_name("t-wal").write_bytes(data)
+            if number == 0:
+                expect_fault(durable().Corrupt, lambda: durable().open(crashed), "keep both files")
+            else:
+                with durable().open(crashed) as table:
+                    expect(table.number < 13, True)
+
+
+def a_log_is_replayed_into_its_own_file_alone():
+    """Not into a backup, an older copy of the file, or none."""
+    with folder() as path:
+        with durable().open(path / "t") as table:
+            table.run(TABLE)
+            table.backup(path / "backup")
+        shutil.copy(path / "t", path / "older")
+        old_file(path / "old", [TABLE])
+        for _ in range(2):
+            with durable().open(path / "t") as table:
+                table.replies(ADD)
+                crashed = crashed_copy(table, path / f"crashed {table.number}")
+        (path / "empty").touch()
+        for name in ("backup", "older", "old/t", "empty", None):
+            crashed.unlink(missing_ok=True)
+            if name:
+                shutil.copy(path / name, crashed)
+            before = files_of(crashed.parent)
+            expect_fault(durable().Corrupt, lambda: durable().open(crashed), f"{crashed}-wal belongs to another file", "betable restore")
+            expect((name, files_of(crashed.parent)), (name, before))
+        crashed.with_name("t-wal").unlink()
+        shutil.copy(path / "backup", crashed)
+        with durable().open(crashed) as table:
+            expect(table.number, 1)
+
+
+FORMAT_1 = """
+    PRAGMA journal_mode=WAL;
+    CREATE TABLE about(engine INTEGER NOT NULL, number INTEGER NOT NULL, checksum INTEGER NOT NULL, rollbacks INTEGER NOT NULL);
+    CREATE TABLE checkpoint(part INTEGER PRIMARY KEY, text BLOB NOT NULL);
+    CREATE TABLE log(number INTEGER PRIMARY KEY, script BLOB NOT NULL, checksum INTEGER NOT NULL);
+    CREATE TABLE requests(number INTEGER PRIMARY KEY, id TEXT NOT NULL UNIQUE, script BLOB NOT NULL, replies BLOB NOT NULL);
+    INSERT INTO about VALUES(1, 0, 0, 0);
+    PRAGMA application_id=0x6274626C;
+    PRAGMA user_version=1;
+"""
+
+
+def old_file(folder, scripts):
+    """A file of format 1 in a new folder, by the schema that it had."""
+    folder.mkdir()
+    db = sqlite3.connect(folder / "t", isolation_level=None)
+    db.executescript(FORMAT_1)
+    with betable().Session() as session:
+        for number, script in enumerate(scripts, 1):
+            replies = session.replies(script)
+            db.execute("INSERT INTO log VALUES(?, ?, ?)", (number, script.encode(), zlib.crc32(replies, zlib.crc32(script.encode()))))
+            db.execute("INSERT INTO requests(id, script, replies) VALUES(?, ?, ?)", (f"{number}", sha256(script.encode()).digest(), replies))
+    db.close()
+    return folder / "t"
+
+
+def a_file_of_format_1_is_brought_up_to_date():
+    with folder() as path:
+        old = old_file(path / "old", [TABLE, ADD, ADD])
+        with durable().open(old) as table:
+            expect((table.number, table.get(1)), (3, (1, "", 2)))
+            expect(table.once("2", ADD), b"batch 1\n")
+            expect(table.once("4", ADD), b"batch 1\n")
+            crashed = crashed_copy(table, path / "crashed")
+            table.backup(path / "backup")
+        db = sqlite3.connect(old)
+        expect(db.execute("PRAGMA user_version").fetchone(), (2,))
+        db.close()
+        for name in (old, crashed, path / "backup"):
+            with durable().open(name) as table:
+                expect((table.number, table.once("4", ADD), table.get(1)), (4, b"batch 1\n", (1, "", 3)))
+        # A file that cannot be replayed stays as it is, for the version that wrote it.
+        other = old_file(path / "other", [TABLE, ADD])
+        changed(other, "UPDATE log SET checksum = 0 WHERE number = 2")
+        before = other.read_bytes()
+        expect_fault(durable().Corrupt, lambda: durable().open(other), "script 2")
+        expect(other.read_bytes() == before, True)
+        # Its id is in its log.
+        shutil.copy(path / "backup", crashed)
+        with durable().open(path / "again") as table:
+            table.run(TABLE)
+            shutil.copy(f"{table.path}-wal", f"{crashed}-wal")
+        expect_fault(durable().Corrupt, lambda: durable().open(crashed), "another file")
+
+
 def other_files_are_refused_and_left_alone():
     with folder() as path:
         (path / "text").write_text("table 4 3 2 1 id:int\n" * 300)
@@ -448,8 +774,8 @@ def other_files_are_refused_and_left_alone():
             before = (path / name).read_bytes()
             expect_fault(getattr(durable(), kind), lambda: durable().open(path / name), str(path / name))
             expect((name, (path / name).read_bytes()), (name, before))
-        for name in ("folder", "none/t"):
-            expect_fault(OSError, lambda: durable().open(path / name), str(path / name))
+        for name, kind in (("folder", IsADirectoryError), ("none/t", FileNotFoundError)):
+            expect_fault(kind, lambda: durable().open(path / name), str(path / name))
         (path / "empty").touch()
         with durable().open(path / "empty") as table:
             table.run(TABLE)
@@ -459,7 +785,7 @@ def other_files_are_refused_and_left_alone():
 def names_are_on_disk_before_anything_is_answered():
     """Each opening syncs the folder, since SQLite makes its log there and goes on if it cannot be synced."""
     module = durable()
-    synced, paths = module._sync_path, []
+    synced, paths = module.sync_path, []
 
     def failing(path):
         paths.append(path)
@@ -467,12 +793,12 @@ def names_are_on_disk_before_anything_is_answered():
 
     with folder() as path:
         try:
-            module._sync_path = failing
+            module.sync_path = failing
             for _ in range(2):
                 expect_fault(OSError, lambda: module.open(path / "t"))
                 expect((paths.pop(), paths), (str(path), []))
         finally:
-            module._sync_path = synced
+            module.sync_path = synced
         with module.open(path / "t") as table:
             expect(table.number, 0)
 
@@ -500,6 +826,81 @@ def a_table_is_open_once():
             expect(run_python(text, path / "t"), (0, f"{path}/t is open already, by another process or by this one\n"))
             table.run(TABLE)
         expect(run_python(text, path / "t"), (0, "open\n"))
+
+
+def a_lock_outlives_other_descriptors_of_the_file():
+    """That of SQLite does not: it goes when the process closes any of them."""
+    text = "import sys; from betable import durable\ntry: durable.open(sys.argv[1])\nexcept durable.InUse: print('in use')\nelse: print('open')"
+    with folder() as path:
+        table = durable().open(path / "t")
+        table.run(TABLE)
+        (path / "t").read_bytes()
+        shutil.copy(path / "t", path / "copy")
+        expect(run_python(text, path / "t"), (0, "in use\n"))
+        # A child that goes on does not hold it.
+        reader, writer = os.pipe()
+        child = os.fork()
+        if child == 0:
+            os.close(writer)
+            os.read(reader, 1)
+            os._exit(0)
+        table.close()
+        expect(run_python(text, path / "t"), (0, "open\n"))
+        os.write(writer, b".")
+        os.waitpid(child, 0)
+        os.close(reader)
+        os.close(writer)
+        # Nor does an object that is dropped.
+        table = durable().open(path / "t")
+        table.replies(ADD)
+        del table
+        with durable().open(path / "t") as table:
+            expect(table.number, 2)
+            (path / "link").hardlink_to(path / "t")
+            expect_fault(durable().InUse, lambda: durable().open(path / "link"), "open already")
+            expect(run_python(text, path / "link"), (0, "in use\n"))
+
+
+def a_file_system_without_locks_is_named():
+    locks = __import__("betable.file_lock").file_lock
+    flock = locks.fcntl.flock
+
+    def failing(file, how):
+        raise OSError(errno.ENOLCK, os.strerror(errno.ENOLCK))
+
+    with folder() as path:
+        try:
+            locks.fcntl.flock = failing
+            expect_fault(OSError, lambda: durable().open(path / "t"), "flock", f"{path}/t")
+        finally:
+            locks.fcntl.flock = flock
+
+
+def a_close_that_was_interrupted_can_be_made_again():
+    text = "import sys; from betable import durable; durable.open(sys.argv[1])"
+    with folder() as path:
+        table = durable().open(path / "t", make=failing_session("interrupt"))
+        table.run(TABLE)
+        real, closed = table._db, []
+
+        class Connection:
+            in_transaction = False
+
+            def close(self):
+                closed.append(len(closed))
+                if len(closed) == 1:
+                    raise KeyboardInterrupt
+                real.close()
+
+        table._db = Connection()
+        try:
+            table.close()
+        except KeyboardInterrupt:
+            expect(run_python(text, path / "t")[0], 1)
+            expect_fault(ValueError, lambda: table.replies(ADD), "closed")
+        table.close()
+        table.close()
+        expect((closed, run_python(text, path / "t")), ([0, 1], (0, "")))
 
 
 def another_engine_reads_what_agrees_with_it():
@@ -555,6 +956,153 @@ def a_backup_is_the_table_as_it_was():
             with durable().open(path / "copy") as copied:
                 expect((probe(copied), copied.number), (wanted, 2))
             expect({name.name for name in path.iterdir()}, {"t", "t-wal", "copy"})
+
+
+def a_backup_that_fails_leaves_nothing():
+    module = durable()
+    sync = module.sync_path
+    with folder() as path, module.open(path / "t") as table:
+        table.run(TABLE)
+        for failing in (path / "copy.part", path):
+            def sync_path(name):
+                if str(name) == str(failing):
+                    raise OSError(28, "No space left on device")
+                sync(name)
+
+            try:
+                module.sync_path = sync_path
+                expect_fault(OSError, lambda: table.backup(path / "copy"), "No space")
+            finally:
+                module.sync_path = sync
+            expect({name.name for name in path.iterdir()}, {"t", "t-wal"})
+        (path / "copy-wal").write_bytes(b"of another table")
+        expect_fault(FileExistsError, lambda: table.backup(path / "copy"), "copy-wal")
+        expect({name.name for name in path.iterdir()}, {"t", "t-wal", "copy-wal"})
+
+
+def restored(backup, path):
+    """What the command prints."""
+    environment = {**os.environ, "PYTHONPATH": str(TOP / "clients/python")}
+    ended = subprocess.run([sys.executable, "-B", "-m", "betable", "restore", backup, path], env=environment, capture_output=True, text=True, timeout=SECONDS)
+    return ended.returncode, ended.stdout, ended.stderr
+
+
+def a_table_to_be_restored(path):
+    """A backup of a table, and the table as a crash has left it two scripts later."""
+    with durable().open(path / "t") as table:
+        table.run(TABLE)
+        table.replies(ADD)
+        table.backup(path / "backup")
+        table.replies(ADD)
+        table.replies(ADD)
+        return crashed_copy(table, path / "crashed")
+
+
+def number_of(path):
+    with durable().open(path) as table:
+        return table.number
+
+
+def a_restored_table_is_that_of_the_backup():
+    with folder() as path:
+        crashed = a_table_to_be_restored(path)
+        status, printed, errors = restored(path / "backup", crashed)
+        expect((status, errors), (0, ""))
+        expect_within("with 2 scripts", printed)
+        expect_within(f"{crashed}.before-restore and {crashed}.before-restore-wal", printed)
+        expect({name.name for name in crashed.parent.iterdir()}, {"t", "t.before-restore", "t.before-restore-wal"})
+        expect((number_of(crashed), number_of(f"{crashed}.before-restore")), (2, 4))
+        # It has an id of its own, also beside the backup and beside another table of the same backup.
+        expect(betable().restore(path / "backup", path / "new"), (2, []))
+        with durable().open(path / "new") as table:
+            table.replies(ADD)
+            other = crashed_copy(table, path / "other")
+        shutil.copy(path / "backup", other)
+        expect_fault(durable().Corrupt, lambda: durable().open(other), "another file")
+        # A log alone is moved too.
+        (path / "alone-wal").write_bytes(b"a log")
+        expect(betable().restore(path / "backup", path / "alone"), (2, [f"{path}/alone.before-restore-wal"]))
+        expect((number_of(path / "alone"), (path / "alone.before-restore-wal").read_bytes()), (2, b"a log"))
+        # So can a backup of format 1.
+        expect(betable().restore(old_file(path / "old", [TABLE]), path / "from_old"), (1, []))
+        expect(number_of(path / "from_old"), 1)
+
+
+def a_restore_that_is_refused_changes_nothing():
+    with folder() as path:
+        crashed = a_table_to_be_restored(path)
+        (path / "taken").mkdir()
+        other = a_table_to_be_restored(path / "taken")
+        (other.parent / "t.before-restore").touch()
+        (path / "empty").touch()
+        (path / "text").write_text("table 4 3 2 1 id:int\n" * 300)
+        data = bytearray((path / "backup").read_bytes())
+        data[data.index(b"ups 1,add") + 4] ^= 1
+        (path / "damaged").write_bytes(data)
+        shutil.copy(path / "backup", path / "newer")
+        changed(path / "newer", f"PRAGMA user_version={durable().FORMAT + 1}")
+        before = files_of(path), files_of(crashed.parent), files_of(other.parent)
+        refusals = [(name, crashed, kind) for name, kind in (("empty", "NotATable"), ("text", "NotATable"), ("damaged", "Corrupt"), ("newer", "NewerFormat"))]
+        refusals += [("crashed/t", path / "t", "InUse"), ("t", path / "t", None), ("none", crashed, None), ("backup", other, None)]
+        for name, place, kind in refusals:
+            fault = fault_of(lambda: betable().restore(path / name, place))
+            wanted = {"none": FileNotFoundError, "t": ValueError, "backup": FileExistsError}.get(name) or getattr(durable(), kind)
+            expect((name, type(fault)), (name, wanted))
+            expect_within(str(path), str(fault))
+        for held in (crashed, path / "backup"):
+            with durable().locked(str(held)):
+                expect_fault(durable().InUse, lambda: betable().restore(path / "backup", crashed), str(held))
+        expect((files_of(path), files_of(crashed.parent), files_of(other.parent)) == before, True)
+        status, printed, errors = restored(path / "damaged", crashed)
+        expect((status, printed), (1, ""))
+        expect_within(f"betable restore: {path}/damaged: script 2: ", errors)
+
+
+def a_crash_in_a_restore_loses_nothing():
+    """At each of its steps. The table is then the old one, or that of the backup, or it is refused; the old one is whole under one of its names."""
+    found = set()
+    for step in range(1, 100):
+        with folder() as path:
+            crashed = a_table_to_be_restored(path)
+            child = os.fork()
+            if child == 0:
+                end_at_step(step)
+                betable().restore(path / "backup", crashed)
+                os._exit(0)
+            status = os.waitstatus_to_exitcode(os.waitpid(child, 0)[1])
+            aside = crashed.with_name("t.before-restore")
+            if crashed.exists() or crashed.with_name("t-wal").exists():
+                fault = fault_of(lambda: found.add(number_of(shutil.copytree(crashed.parent, path / "copied") / "t")))
+                if fault is not None:
+                    expect((step, type(fault)), (step, durable().Corrupt))
+                    expect_within("belongs to another file", str(fault))
+                    found.add("refused")
+            if aside.exists():
+                expect((step, number_of(aside)), (step, 4))
+            else:
+                expect((step, number_of(crashed)), (step, 4))
+            if status == 0:
+                break
+    expect((found, step > 8), ({2, 4, "refused"}, True))
+
+
+def end_at_step(last):
+    """The process ends at a step of a restore: a copy, a renaming, a removal or a sync, before it is made."""
+    steps = 0
+
+    def counted(call):
+        def counting(*values, **named):
+            nonlocal steps
+            steps += 1
+            if steps == last:
+                os._exit(9)
+            return call(*values, **named)
+
+        return counting
+
+    module = __import__("betable.backups").backups
+    module.sync_path = counted(module.sync_path)
+    shutil.copyfile, os.rename, os.remove = counted(shutil.copyfile), counted(os.rename), counted(os.remove)
 
 
 # ---- the object ----
@@ -673,7 +1221,8 @@ def what_was_answered_outlives_a_kill_at_each_write():
 
 
 def what_was_answered_outlives_a_loss_of_power():
-    expect(crashed("power")["power lost"] > 500, True)
+    """With sync all that was answered. Without it what was lost is no damage."""
+    expect([count > 100 for count in crashed("power").values()], [True] * 5)
 
 
 def what_fails_to_be_written_is_rolled_back():
@@ -685,7 +1234,7 @@ def what_runs_out_of_memory_is_rolled_back():
 
 
 def changed_bytes_are_found():
-    expect(crashed("damage")["bytes changed"], 500)
+    expect(crashed("damage"), {"bytes changed": 500, "bytes of the log changed": 200})
 
 
 def wrong_clients_and_files_without_sync_fail_these_tests():
@@ -707,17 +1256,34 @@ TESTS_OF_TEXTS = [
     a_group_is_kept_whole_or_not_at_all,
     rows_of_the_batches_before_one_that_fails_are_kept_and_counted,
     a_commit_that_fails_is_rolled_back_or_in_doubt,
+    a_script_that_cannot_be_stored_is_refused_before_it_runs,
+    a_table_on_a_full_disk_can_be_read,
     a_request_is_run_once,
     the_last_request_ids_are_kept,
+    the_bytes_of_stored_replies_are_bounded,
+    damage_to_request_ids_is_found,
+    the_number_of_request_ids_is_checked,
     a_table_is_the_same_after_a_checkpoint,
     no_checkpoint_is_written_while_an_index_is_building,
     damage_is_found,
+    changed_bytes_of_what_a_crash_has_left_are_found,
+    a_log_that_was_begun_again_is_told_from_a_damaged_one,
+    without_sync_a_log_with_holes_is_no_damage,
+    a_log_is_replayed_into_its_own_file_alone,
+    a_file_of_format_1_is_brought_up_to_date,
     other_files_are_refused_and_left_alone,
     names_are_on_disk_before_anything_is_answered,
     a_file_that_sqlite_cannot_keep_by_wal_is_refused,
     a_table_is_open_once,
+    a_lock_outlives_other_descriptors_of_the_file,
+    a_file_system_without_locks_is_named,
+    a_close_that_was_interrupted_can_be_made_again,
     another_engine_reads_what_agrees_with_it,
     a_backup_is_the_table_as_it_was,
+    a_backup_that_fails_leaves_nothing,
+    a_restored_table_is_that_of_the_backup,
+    a_restore_that_is_refused_changes_nothing,
+    a_crash_in_a_restore_loses_nothing,
     wrong_use_is_refused,
     a_forked_child_leaves_the_file_alone,
     a_long_replay_is_told_at_a_terminal,

@@ -15,7 +15,7 @@ from common import expect, expect_within, Failure, imported, PROGRAM, SECONDS, T
 
 import betable
 
-TOOLS = ["shell", "serve", "explain", "from_csv", "to_csv", "draw"]
+TOOLS = ["shell", "serve", "restore", "explain", "from_csv", "to_csv", "draw"]
 OPTIONS = ["--script", "--workers", "--cut", "--grain", "--help", "--version"]
 PAGE = TOP / "man/betable.1.in"
 COMPLETIONS = TOP / "packaging/completions"

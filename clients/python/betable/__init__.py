@@ -33,8 +33,9 @@ from .replies import Reply
 from .session import Session
 
 if TYPE_CHECKING:
-    from .durable import Corrupt, Durable, InDoubt, IndexBuilding, InUse, NewerFormat, NotATable, RequestReused, RolledBack, open
-    from .logs import Unreachable
+    from .backups import restore
+    from .durable import Corrupt, Durable, InDoubt, IndexBuilding, InUse, NewerFormat, NotATable, ReplyDamaged, RequestReused, RolledBack, ScriptTooLong, open
+    from .logs import Unreachable, UnusableLog
     from .replicas import Diverged, Replicas, ReplyForgotten, Unanswered
     from .sharded import NotSharded, Sharded, ShardLost
     from .shards import DaskShard, LocalShard, ProcessShard, ShardEnded
@@ -45,8 +46,12 @@ __version__ = (_VERSION if _VERSION.exists() else Path(__file__).parents[3] / "V
 
 # The names of the layers, by their modules.
 _LAYERS = {
-    "durable": ("Corrupt", "Durable", "InDoubt", "IndexBuilding", "InUse", "NewerFormat", "NotATable", "RequestReused", "RolledBack", "open"),
-    "logs": ("Unreachable",),
+    "backups": ("restore",),
+    "durable": (
+        "Corrupt", "Durable", "InDoubt", "IndexBuilding", "InUse", "NewerFormat", "NotATable", "ReplyDamaged", "RequestReused", "RolledBack", "ScriptTooLong",
+        "open",
+    ),
+    "logs": ("Unreachable", "UnusableLog"),
     "replicas": ("Diverged", "Replicas", "ReplyForgotten", "Unanswered"),
     "sharded": ("NotSharded", "Sharded", "ShardLost"),
     "shards": ("DaskShard", "LocalShard", "ProcessShard", "ShardEnded"),
@@ -74,12 +79,14 @@ __all__ = [
     "Refused",
     "Replicas",
     "Reply",
+    "ReplyDamaged",
     "ReplyForgotten",
     "RequestReused",
     "RolledBack",
     "RowError",
     "RowTypeError",
     "RowValueError",
+    "ScriptTooLong",
     "Session",
     "ShardEnded",
     "ShardLost",
@@ -88,12 +95,14 @@ __all__ = [
     "TreeColumn",
     "Unanswered",
     "Unreachable",
+    "UnusableLog",
     "Usage",
     "__version__",
     "delete",
     "field",
     "put",
     "record",
+    "restore",
     "upsert",
 ]
 

@@ -1,9 +1,9 @@
-"""The commands of the package: `python3 -m betable shell [PATH]` and `python3 -m betable serve PATH --port N`."""
+"""The commands of the package: `python3 -m betable shell [PATH]`, `python3 -m betable serve PATH --port N` and `python3 -m betable restore BACKUP PATH`."""
 
 import argparse
 import sys
 
-from . import shell
+from . import backups, shell
 
 
 def main() -> int:
@@ -11,8 +11,10 @@ def main() -> int:
     commands = parser.add_subparsers(dest="command", required=True)
     shell.add_words(commands.add_parser("shell", help="a prompt over a table", description=shell.DESCRIPTION))
     words = commands.add_parser("serve", help="a durable table by HTTP", description="Serves a durable table by HTTP. docs/SERVICE.md has its endpoints.")
+    backups.add_words(commands.add_parser("restore", help="a backup in the place of a durable table", description=backups.DESCRIPTION))
     if sys.argv[1:2] != ["serve"]:
-        return shell.run(parser.parse_args())
+        given = parser.parse_args()
+        return backups.run(given) if given.command == "restore" else shell.run(given)
     try:
         from . import serve
     except ModuleNotFoundError as fault:

@@ -27,21 +27,28 @@ import zlib
 from collections.abc import Callable, Iterable, Iterator
 from contextlib import AbstractContextManager, closing, contextmanager, nullcontext, suppress
 from hashlib import sha256
+from io import FileIO
 from typing import Any, NoReturn, Protocol
 
 from .calls import Calls, as_script, note
 from .errors import before
+from .file_lock import lock
 from .language import PRIMARY, State, Table, commands
 from .replies import Place, answered
 from .session import Session
+from .wal import FIRST_GENERATION, FOREIGN, SYNCED, UNSYNCED, fault_of_log, mark_of, new_mark, renew_mark
 
-FORMAT = 1  # of the file: raised when an older program could not read it
+FORMAT = 2  # of the file: raised when an older program could not read it
 ENGINE = 1  # raised when a script may give other replies, or other trees, than before
 APPLICATION_ID = 0x6274626C
-MOST_REQUESTS = 100_000
+MOST_REQUESTS, LARGEST_MOST_REQUESTS = 100_000, 1_000_000_000
+MOST_REQUEST_BYTES = 1 << 28  # of the replies that are stored with request ids
+REQUEST_BYTES = "SELECT coalesce(sum(length(replies)), 0) FROM requests"
 PART_BYTES = 1 << 20  # of a checkpoint: SQLite copies a value whole
 LONG_TEXT = 1 << 25  # of a checkpoint that takes about a second to load
 LARGEST_IDLE_LOG = 1 << 24  # bytes that SQLite's log keeps on disk when it is empty
+LOG_PAGES, PAGE_BYTES = 1_000, 4_096  # about as many pages are in SQLite's log when it is written back
+ROW_BYTES = 64  # at most, of a row of the log beside its script
 
 CHANGING = {b"table", b"load", b"batch", b"index", b"build", b"drop", b"drain", b"rebuild"}
 DEFINING = {b"table", b"index", b"build", b"drop"}
@@ -53,15 +60,22 @@ REFUSED = re.compile(rb"^refused ", re.MULTILINE)
 
 SCHEMA = f"""
     BEGIN IMMEDIATE;
-    CREATE TABLE about(engine INTEGER NOT NULL, number INTEGER NOT NULL, checksum INTEGER NOT NULL, rollbacks INTEGER NOT NULL);
+    CREATE TABLE about(engine INTEGER NOT NULL, number INTEGER NOT NULL, checksum INTEGER NOT NULL, generation INTEGER NOT NULL, mark BLOB);
     CREATE TABLE checkpoint(part INTEGER PRIMARY KEY, text BLOB NOT NULL);
     CREATE TABLE log(number INTEGER PRIMARY KEY, script BLOB NOT NULL, checksum INTEGER NOT NULL);
-    CREATE TABLE requests(number INTEGER PRIMARY KEY, id TEXT NOT NULL UNIQUE, script BLOB NOT NULL, replies BLOB NOT NULL);
-    INSERT INTO about VALUES({ENGINE}, 0, 0, 0);
+    CREATE TABLE requests(number INTEGER PRIMARY KEY, id TEXT NOT NULL UNIQUE, script BLOB NOT NULL, replies BLOB NOT NULL, checksum INTEGER);
+    INSERT INTO about VALUES({ENGINE}, 0, 0, {FIRST_GENERATION}, NULL);
     PRAGMA application_id={APPLICATION_ID};
-    PRAGMA user_version={FORMAT};
-    COMMIT;
 """
+# Of a file of format 1, whose requests have no checksums.
+UPGRADE = f"""
+    BEGIN IMMEDIATE;
+    ALTER TABLE about ADD COLUMN generation INTEGER NOT NULL DEFAULT {FIRST_GENERATION};
+    ALTER TABLE about ADD COLUMN mark BLOB;
+    ALTER TABLE requests ADD COLUMN checksum INTEGER;
+"""
+# The page of `about` is written in the first transaction of each generation of SQLite's log, and over a transaction that failed.
+TOUCH = "UPDATE about SET generation = generation + 1, engine = ?"
 
 
 class Runner(Protocol):
@@ -87,7 +101,7 @@ class InUse(Exception):
 
 
 class Corrupt(Exception):
-    """What the file has is not what was kept. `number` is that of the script at fault, 0 for the checkpoint, or None if SQLite cannot read the file."""
+    """What the file has is not what was kept. `number` is that of the script at fault, 0 for the checkpoint, or None if it is neither."""
 
     def __init__(self, path: str, number: int | None, reason: str) -> None:
         super().__init__(path, number, reason)
@@ -98,6 +112,10 @@ class Corrupt(Exception):
         return f"{self.path}: {place}{self.reason}"
 
 
+class ReplyDamaged(Corrupt):
+    """What was stored of a request id is damaged. Its script was run once, and nothing was run now: the table can be used."""
+
+
 class RolledBack(Exception):
     """A script or a group failed, and nothing of it was kept: it can be run again. `__cause__` is what failed. `taken` is how many rows of a call of several
     batches were kept before it, in earlier batches."""
@@ -106,6 +124,17 @@ class RolledBack(Exception):
 
     def __str__(self) -> str:
         return super().__str__() + before(self.taken)
+
+
+class ScriptTooLong(RolledBack):
+    """A script has `length` bytes, and SQLite can store at most `most`. It was not run, and a group goes on."""
+
+    def __init__(self, length: int, most: int) -> None:
+        super().__init__(length, most)
+        self.length, self.most = length, most
+
+    def __str__(self) -> str:
+        return f"a script of {self.length:,} bytes was not run, since at most {self.most:,} can be stored: divide it" + before(self.taken)
 
 
 class InDoubt(Exception):
@@ -135,7 +164,7 @@ class RequestReused(Exception):
 
 
 # After these the table can be used, and is as it is on disk.
-FAULTS = (RolledBack, IndexBuilding, RequestReused)
+FAULTS = (RolledBack, IndexBuilding, RequestReused, ReplyDamaged)
 
 
 def open(path: str | os.PathLike[str], *, sync: bool = True, most_requests: int = MOST_REQUESTS, make: Callable[[], Runner] = Session) -> Durable:
@@ -144,6 +173,10 @@ def open(path: str | os.PathLike[str], *, sync: bool = True, most_requests: int 
     Without `sync` a power loss may lose the last scripts, but no crash of the process does. `most_requests` is how many request ids of `once` are kept.
     `make` returns what runs the scripts, which has no table yet: a session by default.
     """
+    if isinstance(most_requests, bool) or not isinstance(most_requests, int):
+        raise TypeError(f"most_requests is an int, and not {most_requests!r}")
+    if not 1 <= most_requests <= LARGEST_MOST_REQUESTS:
+        raise ValueError(f"most_requests is between 1 and {LARGEST_MOST_REQUESTS:,}, and not {most_requests:,}")
     return Durable(path, sync=sync, most_requests=most_requests, make=make)
 
 
@@ -151,17 +184,36 @@ class Durable(Calls):
     """A durable table. Only the thread and the process that opened it may use it."""
 
     def __init__(self, path: str | os.PathLike[str], *, sync: bool, most_requests: int, make: Callable[[], Runner]) -> None:
-        self.path, self._sync, self._most_requests, self._make = os.path.abspath(os.fspath(path)), sync, most_requests, make
+        self.path, self._sync, self._most_requests, self._make = os.path.abspath(os.fsdecode(path)), sync, most_requests, make
         self._thread, self._process = threading.current_thread(), os.getpid()
         self._session: Runner | None = None
         self._is_closed = self._is_in_group = self._is_rolled_back = self._is_changed = False
+        # Whether the file has what a crash has left, whether the generation of SQLite's log has the page of `about`, and about how many pages it has.
+        self._is_settled = self._is_marked = False
+        self._log_pages = 0
+        self._request_bytes: int | None = None  # of the stored replies, once they are counted
         self._state = State()
-        self._db = self._connection()
+        self._file = self._locked()
+        try:
+            self._db = self._connection()
+        except BaseException:
+            self._file.close()
+            raise
+        self._most_bytes = self._db.getlimit(sqlite3.SQLITE_LIMIT_LENGTH) - ROW_BYTES
+        # An object that is dropped, or still there at the end of the program, is closed too.
+        self._stat = os.fstat(self._file.fileno())
+        self._release = weakref.finalize(self, _close, self._db, self._file, self._process)
         _OPEN.add(self)
         try:
             self._ready()
-        except BaseException:
+            # A file that this version cannot replay is left as it is.
+            if not self._is_settled:
+                with _unless_full():
+                    self._settle(self._db)
+        except BaseException as fault:
             self.close()
+            if isinstance(fault, sqlite3.Error):
+                raise named_fault(fault, self.path) from fault
             raise
 
     def __enter__(self) -> Durable:
@@ -178,41 +230,83 @@ class Durable(Calls):
 
     # ---- the file ----
 
+    def _locked(self) -> FileIO:
+        """A descriptor of the file, which has its lock. A log alone is not that of a new file."""
+        log = f"{os.path.realpath(self.path)}-wal"
+        has_log = os.path.exists(log) and os.path.getsize(log) > 0
+        try:
+            return locked(self.path, creates=not has_log)
+        except FileNotFoundError:
+            if has_log:
+                raise Corrupt(self.path, None, FOREIGN.format(log=log)) from None
+            raise
+
     def _connection(self) -> sqlite3.Connection:
-        """The file, locked, with its tables."""
+        """The file with its tables."""
         db = None
         try:
-            db = sqlite3.connect(self.path, timeout=0, isolation_level=None)
+            self._check_log()
+            # The threads are those that `_check` lets pass, and one that collects garbage.
+            db = sqlite3.connect(self.path, timeout=0, isolation_level=None, check_same_thread=False)
             db.execute("PRAGMA locking_mode=EXCLUSIVE")
-            self._check_format(db)
+            check_format(db, self.path)
             if (mode := _value(db, "PRAGMA journal_mode=WAL")) != "wal":
                 raise OSError(f"{self.path}: SQLite keeps its log by {mode}, and not by WAL, so that the end of a transaction would not be synced")
+            # SQLite would begin its log again without a word.
+            db.execute("PRAGMA wal_autocheckpoint=0")
             db.execute(f"PRAGMA synchronous={'FULL' if self._sync else 'NORMAL'}")
             db.execute(f"PRAGMA journal_size_limit={LARGEST_IDLE_LOG}")
-            if _value(db, "PRAGMA user_version") == 0:
-                db.executescript(SCHEMA)
-            if (found := _value(db, "PRAGMA quick_check(1)")) != "ok":
+            # Also the entries of the index of request ids: a script whose id is not found would run again.
+            if (found := _value(db, "PRAGMA integrity_check(1)")) != "ok":
                 raise Corrupt(self.path, None, f"{found}, so restore a backup")
-            # What a crash has left in SQLite's log, a second file, is written to the first one: if a sync had failed before, the log as it is read may
-            # not be that on disk.
-            db.execute("PRAGMA wal_checkpoint(TRUNCATE)").fetchall()
-            # The name of that file has to be on disk before any reply, and SQLite would go on if the sync of the folder fails.
-            _sync_path(os.path.dirname(self.path))
+            # The name of the log has to be on disk before any reply, and SQLite would go on if the sync of the folder fails.
+            sync_path(os.path.dirname(self.path))
+            if _value(db, "PRAGMA user_version") == 0:
+                self._settle(db)
+            else:
+                with _unless_full():
+                    _write_back(db)
             return db
         except BaseException as fault:
             if db is not None:
                 db.close()
             if isinstance(fault, (sqlite3.Error, UnicodeDecodeError)):
-                raise _named_fault(fault, self.path) from fault
+                raise named_fault(fault, self.path) from fault
             raise
 
-    def _check_format(self, db: sqlite3.Connection) -> None:
-        """Refuses a file that is something else, before anything is written to it."""
-        application, version = _value(db, "PRAGMA application_id"), _value(db, "PRAGMA user_version")
-        if application == APPLICATION_ID and version > FORMAT:
-            raise NewerFormat(f"{self.path} has format {version}, and this version of betable reads up to {FORMAT}: open it with a newer one")
-        if application != APPLICATION_ID and (application, version, _value(db, "SELECT count(*) FROM sqlite_schema")) != (0, 0, 0):
-            raise NotATable(f"{self.path} is a SQLite database of another program")
+    def _check_log(self) -> None:
+        """Refuses what a crash has left in SQLite's log if it is damaged or that of another file, before SQLite reads it."""
+        path = os.path.realpath(self.path)
+        with suppress(FileNotFoundError):
+            if (size := os.path.getsize(f"{path}-wal")) > LONG_TEXT:
+                _tell(f"betable: {self.path}: checking {size >> 20} MiB that a crash has left")
+        if reason := fault_of_log(path, self._file.fileno()):
+            raise Corrupt(self.path, None, reason)
+
+    def _settle(self, db: sqlite3.Connection) -> None:
+        """Brings the file up to date: with what a crash has left in SQLite's log, in its format, and with its mark. Each step is written to the file before the
+        next one begins, so that what the mark says of SQLite's log is there before the log is."""
+        # If a sync had failed before, the log as it is read may not be that on disk.
+        _write_back(db)
+        version = _value(db, "PRAGMA user_version")
+        if version < FORMAT:
+            try:
+                db.executescript(SCHEMA if version == 0 else UPGRADE)
+                db.execute("UPDATE about SET mark = ?", (bytes(new_mark()),))
+                db.execute(f"PRAGMA user_version={FORMAT}")
+                db.execute("COMMIT")
+            except BaseException:
+                if db.in_transaction:
+                    db.execute("ROLLBACK")
+                raise
+            _write_back(db)
+        mark = mark_of(_value(db, "SELECT mark FROM about"))
+        if mark is None:
+            raise Corrupt(self.path, None, "it has no mark of its own, so restore a backup")
+        if mark.manner != (manner := SYNCED if self._sync else UNSYNCED):
+            db.execute("UPDATE about SET mark = ?", (bytes(mark._replace(manner=manner)),))
+            _write_back(db)
+        self._is_settled, self._is_marked, self._log_pages = True, False, 0
 
     def _ready(self) -> Runner:
         """The session. If it was dropped, it is made again from the file."""
@@ -224,7 +318,7 @@ class Durable(Calls):
             except BaseException as fault:
                 session.close()
                 if isinstance(fault, (sqlite3.Error, UnicodeDecodeError)):
-                    raise _named_fault(fault, self.path) from fault
+                    raise named_fault(fault, self.path) from fault
                 raise
             self._session = session
         return self._session
@@ -233,8 +327,11 @@ class Durable(Calls):
         self._state = State()
         about: tuple[int, int, int | None] = self._db.execute("SELECT engine, number, checksum FROM about").fetchone() or (ENGINE, 0, None)
         engine, self._number, checksum = about
-        text = b"".join(part for (part,) in self._db.execute("SELECT text FROM checkpoint ORDER BY part"))
-        if zlib.crc32(text) != checksum:
+        parts = [part for (part,) in self._db.execute("SELECT text FROM checkpoint ORDER BY part")]
+        # A changed byte may make a value one of another type.
+        text = b"".join(parts) if all(isinstance(part, bytes) for part in parts) else None
+        del parts
+        if text is None or not isinstance(self._number, int) or zlib.crc32(text) != checksum:
             raise Corrupt(self.path, 0, "its bytes are not those that were written, so restore a backup")
         if text:
             if len(text) > LONG_TEXT:
@@ -250,13 +347,13 @@ class Durable(Calls):
             for number, script, checksum in _with_progress(log, f"betable: {self.path}: {{:,}} of {count:,} scripts"):
                 if number != self._number + 1:
                     raise Corrupt(self.path, self._number + 1, "it is missing, so restore a backup")
+                if not isinstance(script, bytes):
+                    raise Corrupt(self.path, number, "it is not the script that was kept, so restore a backup")
                 replies, places = _ran(session, script)
                 if _checksum(script, replies) != checksum:
                     raise Corrupt(self.path, number, _advice(engine))
                 self._note(script, replies, places)
                 self._number, self._log_bytes = number, self._log_bytes + len(script)
-        if engine != ENGINE:
-            self._db.execute("UPDATE about SET engine = ?", (ENGINE,))
 
     def _note(self, script: bytes, replies: bytes, places: list[Place] | None) -> None:
         """Notes what a script has defined."""
@@ -271,8 +368,10 @@ class Durable(Calls):
         return self._replies_with_places(as_script(script))[0]
 
     def _replies_with_places(self, script: bytes) -> tuple[bytes, list[Place] | None]:
-        with self._some_group(), self._all_or_nothing():
-            return self._run(script)
+        with self._some_group():
+            self._check_length(script)
+            with self._all_or_nothing():
+                return self._run(script)
 
     def once(self, request_id: str, script: str | bytes) -> bytes:
         """Like `replies`, but a script that comes again with the same request id is not run again: the call returns the replies that were kept with the id.
@@ -280,36 +379,64 @@ class Durable(Calls):
         script = as_script(script)
         _check_request_id(request_id)
         hash = sha256(script).digest()
-        with self._some_group(), self._all_or_nothing():
-            found = self._db.execute("SELECT script, replies FROM requests WHERE id = ?", (request_id,)).fetchone()
-            if found is None:
-                replies, _ = self._run(script)
-                self._begin()
-                added = self._db.execute("INSERT INTO requests(id, script, replies) VALUES(?, ?, ?)", (request_id, hash, replies)).lastrowid or 0
-                self._db.execute("DELETE FROM requests WHERE number <= ?", (added - self._most_requests,))
-                return replies
-        if found[0] != hash:
+        with self._some_group():
+            self._check_length(script)
+            with self._all_or_nothing():
+                if not self._is_settled:
+                    # What is read may not be on disk.
+                    self._settle(self._db)
+                found = self._db.execute("SELECT script, replies, checksum FROM requests WHERE id = ?", (request_id,)).fetchone()
+                if found is None:
+                    return self._run_once(request_id, hash, script)
+        kept_hash, replies, checksum = found
+        if not isinstance(replies, bytes) or checksum not in (None, _request_checksum(request_id, kept_hash, replies)):
+            raise ReplyDamaged(self.path, None, f"what was kept of request {request_id!r} is damaged: its script was run once. Read what it changed")
+        if kept_hash != hash:
             raise RequestReused(request_id)
-        return bytes(found[1])
+        return replies
+
+    def _run_once(self, request_id: str, hash: bytes, script: bytes) -> bytes:
+        replies, _ = self._run(script)
+        values = request_id, hash, replies, _request_checksum(request_id, hash, replies)
+        added = self._write("INSERT INTO requests(id, script, replies, checksum) VALUES(?, ?, ?, ?)", *values).lastrowid or 0
+        self._forget_oldest(added, len(replies))
+        return replies
+
+    def _forget_oldest(self, added: int, count: int) -> None:
+        """Forgets the oldest request ids while there are too many, or too many bytes of their replies. The one that was just added stays."""
+        left = _value(self._db, REQUEST_BYTES) if self._request_bytes is None else self._request_bytes + count
+        last = added - self._most_requests
+        while True:
+            gone = self._write("DELETE FROM requests WHERE number <= ? RETURNING length(replies)", last).fetchall()
+            left -= sum(length for (length,) in gone)
+            last = _value(self._db, "SELECT min(number) FROM requests")
+            if left <= MOST_REQUEST_BYTES or last == added:
+                break
+        self._request_bytes = left
 
     def forget(self, *request_ids: str) -> None:
         """Forgets request ids whose callers have their replies."""
         for request_id in request_ids:
             _check_request_id(request_id)
         with self._some_group(), self._all_or_nothing():
-            self._begin()
-            self._db.executemany("DELETE FROM requests WHERE id = ?", [(request_id,) for request_id in request_ids])
+            self._request_bytes = None
+            for request_id in request_ids:
+                self._write("DELETE FROM requests WHERE id = ?", request_id)
 
     def _run(self, script: bytes) -> tuple[bytes, list[Place] | None]:
         replies, places = _ran(self._ready(), script)
         # A script that only reads may print rows which look like other replies.
         if CHANGING_LINE.search(script) and CHANGED.search(replies):
-            self._begin()
             self._is_changed = True
             self._number, self._log_bytes = self._number + 1, self._log_bytes + len(script)
-            self._db.execute("INSERT INTO log VALUES(?, ?, ?)", (self._number, script, _checksum(script, replies)))
+            self._write("INSERT INTO log VALUES(?, ?, ?)", self._number, script, _checksum(script, replies))
             self._note(script, replies, places)
         return replies, places
+
+    def _check_length(self, script: bytes) -> None:
+        """Refuses a script that could not be kept, before it is run."""
+        if len(script) > self._most_bytes and CHANGING_LINE.search(script):
+            raise ScriptTooLong(len(script), self._most_bytes)
 
     def _in_batches(self, given: Iterator[Any], most: int, lines: Callable[[list[Any], Table, int], str]) -> int:
         """Each batch is kept by itself, unless a group is open: RolledBack says how many rows were kept before one that failed."""
@@ -363,34 +490,53 @@ class Durable(Calls):
         except BaseException as fault:
             self._is_changed = True
             self._roll_back()
+            if isinstance(fault, sqlite3.Error) and isinstance(damage := named_fault(fault, self.path), Corrupt):
+                raise damage from fault
             if isinstance(fault, Exception) and not isinstance(fault, Corrupt):
                 raise RolledBack(f"{self.path}: nothing of the script was kept: {str(fault) or type(fault).__name__}") from fault
             raise
 
-    def _begin(self) -> None:
+    def _write(self, statement: str, *values: Any) -> sqlite3.Cursor:
+        """Carries out a statement in the transaction of the group."""
         if not self._db.in_transaction:
+            if not self._is_settled:
+                self._settle(self._db)
             self._db.execute("BEGIN IMMEDIATE")
+            if not self._is_marked:
+                self._db.execute(TOUCH, (ENGINE,))
+        self._log_pages += 1
+        for value in values:
+            if isinstance(value, bytes):
+                self._log_pages += len(value) // PAGE_BYTES
+        return self._db.execute(statement, values)
 
     def _commit(self) -> None:
         try:
             self._db.execute("COMMIT")
+            self._is_marked = True
         except sqlite3.Error as fault:
             self._is_changed = True
             is_gone = self._roll_back()
             # If a sync failed, all of the transaction may be in the file, and would be found there after a crash: another one is written over it.
             # If the disk is full, the end of the transaction is not in the file.
             try:
-                self._db.execute("UPDATE about SET rollbacks = rollbacks + 1")
+                self._db.execute(TOUCH, (ENGINE,))
             except sqlite3.Error:
                 is_gone = is_gone and fault.sqlite_errorcode == sqlite3.SQLITE_FULL
             if is_gone:
                 raise RolledBack(f"{self.path}: nothing was kept: {fault}") from fault
             self.close()
             raise InDoubt(f"{self.path}: {fault}, twice: open the table again to see whether the script or group was kept") from fault
+        if self._log_pages > LOG_PAGES:
+            # Once all of its log is in the file, SQLite begins it again with the next transaction. If this fails it is tried again later: what was committed is
+            # on disk.
+            self._log_pages, self._is_marked = 0, False
+            with suppress(sqlite3.Error, MemoryError):
+                self._db.execute("PRAGMA wal_checkpoint(PASSIVE)").fetchall()
 
     def _roll_back(self) -> bool:
         """Undoes what the group did. A session that it changed goes: the next call makes it again from the file. Whether the transaction is closed."""
-        self._is_rolled_back = True
+        self._is_rolled_back, self._request_bytes = True, None
         if self._is_changed:
             self._drop()
         try:
@@ -423,31 +569,39 @@ class Durable(Calls):
             lines = [table.line.text] + [line for name, index in table.indexes.items() for line in (index.line.text, b"build %b 1" % name)]
             lines += [b"load", b",".join(table.names)]
             text = b"\n".join([*lines, _records(session.replies(b"scan primary\ngo\n")) + b".\n"])
-            self._begin()
-            self._db.execute("DELETE FROM checkpoint")
+            self._write("DELETE FROM checkpoint")
             for at in range(0, len(text), PART_BYTES):
-                self._db.execute("INSERT INTO checkpoint(text) VALUES(?)", (text[at : at + PART_BYTES],))
-            self._db.execute("DELETE FROM log")
-            self._db.execute("UPDATE about SET number = ?, checksum = ?", (self._number, zlib.crc32(text)))
+                self._write("INSERT INTO checkpoint(text) VALUES(?)", text[at : at + PART_BYTES])
+            self._write("DELETE FROM log")
+            self._write("UPDATE about SET number = ?, checksum = ?", self._number, zlib.crc32(text))
         self._log_bytes = 0
 
     def backup(self, path: str | os.PathLike[str]) -> None:
         """Copies the table as it is to a new file, which is whole as soon as it is there."""
         self._check_outside("a backup")
-        path = os.path.abspath(os.fspath(path))
+        path = os.path.abspath(os.fsdecode(path))
         part = f"{path}.part"
-        if os.path.lexists(path):
-            raise FileExistsError(f"{path} is there already: a backup is written to a new file")
+        for name in (path, f"{path}-wal"):
+            if os.path.lexists(name):
+                raise FileExistsError(f"{name} is there already: a backup is written to a new file")
+        made = part
         try:
             with suppress(FileNotFoundError):
                 os.remove(part)
             with closing(sqlite3.connect(part, isolation_level=None)) as copy:
+                copy.execute("PRAGMA journal_mode=OFF")
                 self._db.backup(copy)
-            _sync_path(part)
+            renew_mark(part)
+            sync_path(part)
             os.rename(part, path)
-            _sync_path(os.path.dirname(path))
-        except sqlite3.Error as fault:
-            raise OSError(f"{path}: no backup was written: {fault}") from fault
+            made = path
+            sync_path(os.path.dirname(path))
+        except BaseException as fault:
+            with suppress(OSError):
+                os.remove(made)
+            if isinstance(fault, sqlite3.Error):
+                raise OSError(f"{path}: no backup was written: {fault}") from fault
+            raise
 
     # ---- the table as an object ----
 
@@ -469,26 +623,40 @@ class Durable(Calls):
         return self._number
 
     @property
+    def request_bytes(self) -> int:
+        """How many bytes the replies have that are stored with request ids."""
+        self._ready()
+        if self._request_bytes is None:
+            self._request_bytes = _value(self._db, REQUEST_BYTES)
+        return self._request_bytes
+
+    @property
     def log_bytes(self) -> int:
         """How many bytes the scripts of the log have, which opening the table runs: a checkpoint makes it 0."""
         self._ready()
         return self._log_bytes
 
     def close(self) -> None:
-        """Closes the file. A table that is closed stays so, and a group that is open is rolled back."""
-        if not self._is_closed and os.getpid() == self._process:
-            self._check()
+        """Closes the file. A table that is closed stays so, and a group that is open is rolled back. A call that was interrupted can be made again."""
+        if not self._file.closed and os.getpid() == self._process:
+            self._check_caller()
             self._is_closed = True
             self._drop()
             self._db.close()
+            # The lock goes last.
+            self._file.close()
+            self._release.detach()
 
     def _check(self) -> None:
+        self._check_caller()
+        if self._is_closed:
+            raise ValueError("the table is closed")
+
+    def _check_caller(self) -> None:
         if os.getpid() != self._process:
             raise RuntimeError("a durable table is used by the process that opened it alone")
         if threading.current_thread() is not self._thread:
             raise RuntimeError("a durable table is used by the thread that opened it alone")
-        if self._is_closed:
-            raise ValueError("the table is closed")
 
     def _check_outside(self, what: str) -> None:
         self._ready()
@@ -496,16 +664,62 @@ class Durable(Calls):
             raise RuntimeError(f"{what} cannot be made in a group: end the group first")
 
 
-# A forked child that exits would close its copies of the connections, and so delete SQLite's log, which the parent goes on writing to.
+# A forked child that exits would close its copies of the connections, and so delete SQLite's log, which the parent goes on writing to. Its copies of the
+# descriptors would keep the locks when the parent has ended.
 _OPEN: weakref.WeakSet[Durable] = weakref.WeakSet()
 
 
-def _keep_connections() -> None:
+def _leave_to_parent() -> None:
     for table in _OPEN:
         ctypes.pythonapi.Py_IncRef(ctypes.py_object(table._db))
+        table._file.close()
 
 
-os.register_at_fork(after_in_child=_keep_connections)
+os.register_at_fork(after_in_child=_leave_to_parent)
+
+
+def locked(path: str, *, creates: bool = False, is_shared: bool = False) -> FileIO:
+    """A descriptor of a table's file, which has its lock. SQLite's own lock of a table would go when this process closes another descriptor of its file, so
+    none is opened for a file that a table of this process has open."""
+    try:
+        with suppress(FileNotFoundError):
+            found = os.stat(path)
+            if any(not table._file.closed and os.path.samestat(table._stat, found) for table in [*_OPEN]):
+                raise BlockingIOError
+        return lock(path, creates=creates, is_shared=is_shared)
+    except BlockingIOError as fault:
+        raise InUse(f"{path} is open already, by another process or by this one") from fault
+
+
+def _close(db: sqlite3.Connection, file: FileIO, process: int) -> None:
+    if os.getpid() == process:
+        db.close()
+        file.close()
+
+
+def check_format(db: sqlite3.Connection, path: str) -> None:
+    """Refuses a file that is something else, before anything is written to it."""
+    application, version = _value(db, "PRAGMA application_id"), _value(db, "PRAGMA user_version")
+    if application == APPLICATION_ID and version > FORMAT:
+        raise NewerFormat(f"{path} has format {version}, and this version of betable reads up to {FORMAT}: open it with a newer one")
+    if application != APPLICATION_ID and (application, version, _value(db, "SELECT count(*) FROM sqlite_schema")) != (0, 0, 0):
+        raise NotATable(f"{path} is a SQLite database of another program")
+
+
+@contextmanager
+def _unless_full() -> Iterator[None]:
+    """Passes over a full disk: a table on it can be read."""
+    try:
+        yield
+    except sqlite3.Error as fault:
+        if _code(fault) != sqlite3.SQLITE_FULL:
+            raise
+
+
+def _write_back(db: sqlite3.Connection) -> None:
+    """Writes all of SQLite's log to the file, and empties it."""
+    if _value(db, "PRAGMA wal_checkpoint(TRUNCATE)") != 0:
+        raise sqlite3.OperationalError("SQLite's log is in use")
 
 
 def _check_request_id(request_id: str) -> None:
@@ -527,7 +741,11 @@ def _checksum(script: bytes, replies: bytes) -> int:
     return zlib.crc32(replies, zlib.crc32(script))
 
 
-def _sync_path(path: str) -> None:
+def _request_checksum(request_id: str, hash: object, replies: bytes) -> int:
+    return zlib.crc32(replies, zlib.crc32(hash if isinstance(hash, bytes) else b"", zlib.crc32(request_id.encode())))
+
+
+def sync_path(path: str) -> None:
     """A file, or the names in a folder, on disk."""
     file = os.open(path, os.O_RDONLY)
     try:
@@ -536,9 +754,9 @@ def _sync_path(path: str) -> None:
         os.close(file)
 
 
-def _named_fault(fault: sqlite3.Error | UnicodeDecodeError, path: str) -> Exception:
+def named_fault(fault: sqlite3.Error | UnicodeDecodeError, path: str) -> Exception:
     """What SQLite says of the file, by the names of this module. It quotes damaged names as they are, also if they are no text."""
-    match fault.sqlite_errorcode & 0xFF if isinstance(fault, sqlite3.Error) else sqlite3.SQLITE_CORRUPT:
+    match _code(fault):
         case sqlite3.SQLITE_BUSY | sqlite3.SQLITE_LOCKED:
             return InUse(f"{path} is open already, by another process or by this one")
         case sqlite3.SQLITE_NOTADB:
@@ -546,6 +764,12 @@ def _named_fault(fault: sqlite3.Error | UnicodeDecodeError, path: str) -> Except
         case sqlite3.SQLITE_CORRUPT | sqlite3.SQLITE_ERROR:
             return Corrupt(path, None, f"{fault}, so restore a backup")
     return OSError(f"{path}: {fault}")
+
+
+def _code(fault: Exception) -> int:
+    """SQLite's number of a fault. The module has faults of its own without a number: of texts that are none."""
+    code: int = getattr(fault, "sqlite_errorcode", sqlite3.SQLITE_CORRUPT)
+    return code & 0xFF
 
 
 def _advice(engine: int) -> str:
