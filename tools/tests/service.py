@@ -14,20 +14,23 @@ import resource
 import select
 import signal
 import socket
+import sqlite3
 import subprocess
 import sys
 import tempfile
 import time
 import xml.etree.ElementTree as xml
 from concurrent.futures import ThreadPoolExecutor
-from contextlib import contextmanager
+from contextlib import ExitStack, closing, contextmanager
 from functools import cache, wraps
+from html import unescape
 from http.client import HTTPConnection
 from pathlib import Path
 from urllib.parse import quote
 
 from clients import betable, is_installed, library, places_between, WORKED
 from common import boxes, expect, expect_within, SECONDS, texts, TOP
+from draw import browser
 
 TABLE = b"table 4 8 4 1 id:int city:text qty:int\nindex by_city on city include qty\nbuild by_city 1\n"
 TOKEN = "0123456789abcdef0123456789abcdef"
@@ -59,9 +62,9 @@ def with_aiohttp(test):
 class Server:
     """A server of the table in a folder. What it prints on standard error is shown where a test fails."""
 
-    def __init__(self, folder, *words, environment=None):
+    def __init__(self, folder, *words, files=None):
         self.path = Path(folder) / "stock.table"
-        self.process = process_of(self.path, *words, environment=environment)
+        self.process = process_of(self.path, *words, files=files)
         line = self.process.stdout.readline()
         if not line:
             raise RuntimeError(f"no server: {self.process.stderr.read()}")
@@ -110,15 +113,40 @@ class Server:
     def await_metric(self, name, value):
         until(lambda: self.metric(name) == value)
 
+    def raw(self, sent, is_kept_open=False):
+        """What is received of a connection after these bytes are sent, until it ends."""
+        with socket.create_connection(("127.0.0.1", self.port), SECONDS) as connection:
+            connection.sendall(sent)
+            if not is_kept_open:
+                connection.shutdown(socket.SHUT_WR)
+            return received(connection)
+
     def end(self, number=signal.SIGTERM):
         """The status with which it ends at a signal."""
         self.process.send_signal(number)
         return self.process.wait(SECONDS)
 
+    def printed(self):
+        """What it has printed on standard error, once it has ended."""
+        expect(self.end(), 0)
+        return self.process.stderr.read()
 
-def process_of(path, *words, environment=None):
+
+def received(connection):
+    found = b""
+    try:
+        while part := connection.recv(1 << 20):
+            found += part
+    except ConnectionError:
+        pass
+    return found
+
+
+def process_of(path, *words, environment=None, files=None):
+    """The process of a server, which may open that many files."""
     library()
     words = [python(), "-m", "betable", "serve", path, "--port", "0", *map(str, words)]
+    words = words if files is None else ["prlimit", f"--nofile={files}", *words]
     environment = {**os.environ, "PYTHONPATH": str(TOP / "clients/python"), "PYTHONDONTWRITEBYTECODE": "1", **(environment or {})}
     return subprocess.Popen(words, stdout=subprocess.PIPE, stderr=subprocess.PIPE, text=True, env=environment)
 
@@ -133,8 +161,8 @@ def server(*words, script=TABLE):
 
 
 @contextmanager
-def server_in(folder, *words):
-    found = Server(folder, *words)
+def server_in(folder, *words, files=None):
+    found = Server(folder, *words, files=files)
     try:
         yield found
     finally:
@@ -190,6 +218,32 @@ def replies_come_as_json_with_their_commands():
         expect(third, {"line": 7, "command": "get", "reply": ['row 2,"a,b",4']})
         expect((fourth["line"], fourth["refused"]["number"]), (8, 1))
         expect(found.ask("POST", "/run", script)[1]["Betable-Refused"], "2")
+
+
+@with_aiohttp
+def long_json_of_replies_comes_in_parts():
+    """Its server needs no memory for the whole of it, and the first refusals have their reasons."""
+    count = 40_000
+    with server() as found:
+        found.ask("POST", "/run", b"x\n" * 1_000, {"Accept": "application/json"})
+        before = most_memory(found.process.pid)
+        status, _, body = found.ask("POST", "/run", b"x\n" * count, {"Accept": "application/json"})
+        expect((status, most_memory(found.process.pid) - before < 20_000), (200, True))
+        said = json.loads(body)
+        expect((said["refused"], said["explained"], len(said["replies"])), (count, 1_000, count))
+        expect(["reason" in reply["refused"] for reply in said["replies"]], [place < 1_000 for place in range(count)])
+        expect(said["replies"][-1], {"line": count, "command": "x", "refused": {"number": 1, "name": "Syntax", "line": count}})
+        # A reply of many lines, with line breaks in texts.
+        table = b"table 16 1024 256 1 id:int note:text\nload\nid,note\n" + b"".join(b'%d,"a\nrow %d"\n' % (key, key) for key in range(9_000)) + b".\n"
+    with server(script=table) as found:
+        body = found.ask("POST", "/run", b"scan primary\ngo\nget 3\n", {"Accept": "application/json"})[2]
+        lines = [reply["reply"] for reply in json.loads(body)["replies"]]
+        expect(lines, [[*(f'row {key},"a\nrow {key}"' for key in range(9_000)), "rows 9000"], ['row 3,"a\nrow 3"']])
+
+
+def most_memory(process):
+    """The most memory that a process has had, in KiB."""
+    return int(re.search(r"VmHWM:\s+(\d+)", Path(f"/proc/{process}/status").read_text())[1])
 
 
 @with_aiohttp
@@ -257,9 +311,17 @@ def trees_are_told_and_drawn():
         expect((status, headers["Content-Type"]), (200, "image/svg+xml; charset=utf-8"))
         picture = xml.fromstring(body)
         expect((texts(picture, "title"), texts(boxes(picture, "leaf")[0], "row")), (["by_city (city, id), height 1"], ["Oslo 1 → 3"]))
-        found.ask("POST", "/rows", b"".join(b"%d,%b,1\n" % (key, b"x" * 100) for key in range(10_000)))
-        status, _, body = found.ask("GET", "/tree/primary.svg")
-        expect((status, "too large" in json.loads(body)["reason"]), (422, True))
+        # A tree of few large rows, and then one of many rows, is not drawn. The answer says how much it holds.
+        for count, length in ((10_000, 100), (65_600, 1)):
+            for start in range(0, count, 60_000):
+                lines = b"".join(b"%d,%b,1\n" % (key, b"x" * length) for key in range(start, min(count, start + 60_000)))
+                expect(found.ask("POST", "/rows", lines)[0], 200)
+            found.run(b"rebuild primary\n")
+            height = int(found.run(b"image primary\n").split(b"\n", 1)[0].split()[3])
+            status, _, body = found.ask("GET", "/tree/primary.svg")
+            said = json.loads(body)
+            expect((status, said["rows"], said["messages"], said["height"]), (422, count, 0, height))
+            expect_within(f"height {height}, {count:,} rows in leaves", said["reason"])
 
 
 @with_aiohttp
@@ -276,6 +338,20 @@ def events_tell_which_scripts_were_kept():
             expect(json.loads(next(lines).removeprefix("data: ")), {"number": 3, "replies": ["dropped by_city"], "more": False})
             expect(found.end(), 0)
             expect(list(lines), [])
+
+
+@with_aiohttp
+def readers_of_events_that_have_gone_free_their_places():
+    asked = b"GET /events HTTP/1.1\r\nHost: localhost\r\n\r\n"
+    with server() as found, ExitStack() as stay:
+        for _ in range(64):
+            reader = stay.enter_context(socket.create_connection(("127.0.0.1", found.port), SECONDS))
+            reader.sendall(asked)
+            expect(reader.recv(65_536)[:13], b"HTTP/1.1 200 ")
+        expect((found.metric("betable_event_readers"), found.ask("GET", "/events")[0]), (64, 429))
+        stay.close()
+        with events_of(found) as lines:
+            expect(next(lines), "id: 1")
 
 
 @contextmanager
@@ -306,6 +382,72 @@ def page_needs_no_network():
         # Each metric that the page shows is one of the server's.
         for name in re.findall(r'(?:value|mean)\("(\w+)"\)', text):
             expect(found.metric(name if re.search(rf'value\("{name}"\)', text) else f"{name}_count") >= 0, True)
+
+
+# In place of a server: it is away at first, and then has 120 rows, a tree that is too large, and a script with a refusal.
+PAGE_ANSWERS = """<script>
+"use strict";
+window.isAway = true;
+const table = {columns: [{name: "id", kind: "int"}, {name: "city", kind: "text"}], key: ["id"], trees: {primary: {columns: ["id", "city"], key: ["id"]}}};
+const json = (found, status = 200) => new Response(JSON.stringify(found), {status});
+window.fetch = async (path, options = {}) => {
+  const url = new URL(path, "http://localhost/"), from = Number(url.searchParams.get("from") || 0), limit = Number(url.searchParams.get("limit"));
+  const ids = [...Array(120).keys()].filter(id => id >= from);
+  if (isAway) throw new TypeError("Failed to fetch");
+  switch (url.pathname) {
+    case "/trees": return json(table);
+    case "/rows/primary": return new Response(ids.slice(0, limit).map(id => `${id},"a, ${id}"\\n`).join(""), {headers: {"Betable-More": ids.length > limit}});
+    case "/tree/primary.svg": return json({reason: "height 3"}, 422);
+    case "/run": return json({refused: 1, replies: [{reply: ["none"]}, {refused: {number: 6, name: "BadField", item: 1, line: 2, reason: "no int"}}]});
+    case "/events": return new Promise(() => {});
+    default: return json({reason: "nothing here"}, 404);
+  }
+};
+</script>"""
+PAGE_STEPS = """<script>
+"use strict";
+(async () => {
+  const seen = [], text = id => document.getElementById(id).textContent, pause = () => new Promise(done => setTimeout(done, 3000));
+  const see = (...ids) => seen.push(ids.map(text));
+  const shown = () => seen.push([document.querySelectorAll("#rows tr").length, text("rows-note"), document.querySelector("#rows td").textContent,
+    ["first", "next"].filter(id => !document.getElementById(id).hidden).join()]);
+  const press = async id => { document.getElementById(id).focus(); document.getElementById(id).click(); await pause(); };
+  await pause(); see("state"); await press("run"); see("replies", "ran", "rows-note");
+  window.isAway = false; await pause();
+  const enter = new KeyboardEvent("keydown", {key: "Enter", ctrlKey: true});
+  document.getElementById("script").dispatchEvent(enter); await pause(); seen.push(text("ran").includes("1 refused")); see("replies", "tree-note", "sums-note");
+  shown(); await press("next"); shown(); await press("next"); shown(); seen.push(document.activeElement.id); await press("first"); shown();
+  const name = element => element.ariaLabel || text(element.getAttribute("aria-labelledby"));
+  seen.push([...document.querySelectorAll("section, .scroll, table")].map(element => [element.tagName, element.tabIndex, name(element)].join(" ")).join("; "));
+  seen.push([...document.querySelectorAll("[aria-live], [role=status]")].map(element => element.id || element.ariaLabel).join("; "));
+  seen.push([...document.querySelectorAll("th")].map(head => head.scope).join(), document.documentElement.scrollWidth <= innerWidth);
+  document.body.dataset.seen = JSON.stringify(seen);
+})();
+</script>"""
+
+
+def page_says_what_happens_in_a_browser():
+    """In headless Chromium, without a server: its answers are made in the page."""
+    if browser() is None:
+        print("not tested: no Chromium is installed")
+        return
+    text = (TOP / "clients/python/betable/page.html").read_text(encoding="utf-8")
+    with tempfile.TemporaryDirectory() as folder:
+        page = Path(folder) / "page.html"
+        page.write_text(text.replace("<body>", "<body>" + PAGE_ANSWERS).replace("</body>", PAGE_STEPS + "</body>"))
+        words = ["--headless", "--no-sandbox", "--disable-gpu", f"--user-data-dir={folder}/user", "--window-size=500,800", "--virtual-time-budget=40000"]
+        ended = subprocess.run([browser(), *words, "--dump-dom", f"file://{page}"], capture_output=True, timeout=SECONDS)
+    away, refused = "the server does not answer", "refused 6 BadField 1 (line 2): no int"
+    seen = json.loads(unescape(re.search('data-seen="([^"]*)"', ended.stdout.decode())[1]))
+    expect(seen[:2], [[away], [away, "no answer: the script may have been kept", away]])
+    expect(seen[2:4], [True, ["none" + refused, "height 3", "nothing here"]])
+    more = "50 are shown, and more follow"
+    expect(seen[4:9], [[51, more, "0", "next"], [51, more, "50", "first,next"], [21, "", "100", "first"], "first", [51, more, "0", "next"]])
+    expect({part for part in seen[9].split("; ")}, {
+        "SECTION -1 Figures", "SECTION -1 Script", "DIV 0 Replies", "SECTION -1 Rows", "DIV 0 Rows", "TABLE -1 Rows", "SECTION -1 Sums", "DIV 0 Sums",
+        "TABLE -1 Sums", "SECTION -1 Tree", "DIV 0 Tree",
+    })  # fmt: skip
+    expect(seen[10:], ["state; ran; Replies; rows-note", "col,col", True])
 
 
 # ---- bad requests ----
@@ -362,7 +504,7 @@ BAD_REQUESTS = [
     ("POST", "/rows", {}, b'1,"a\nb",1\n', 400, "line break"),
     ("POST", "/rows", {}, b"".join(b"%d,a,1\n" % key for key in range(65_537)), 422, "65,53"),
     ("POST", "/checkpoint", {}, b"", 409, "building"),
-    ("GET", "/healthz", {"Long": "x" * 9_000}, None, 400, None),
+    ("GET", "/healthz", {"Long": "x" * 9_000}, None, 400, "too long"),
 ]
 # Bytes that are no request of HTTP.
 NO_REQUESTS = [
@@ -371,6 +513,17 @@ NO_REQUESTS = [
     b"GET\r\n\r\n",
     b"POST /run HTTP/1.1\r\nContent-Length: x\r\n\r\n",
     b"\x16\x03\x01\x02\x00",
+]
+# Heads with bytes that are no UTF-8, or no ASCII, and the status.
+ODD_BYTES = [
+    (b"/\xd8", 404),
+    (b"/rows/\xd8", 400),
+    (b"/rows/\xc3\xa5", 400),
+    (b"/tree/\xff.svg", 400),
+    (b"/rows/primary?from=\xd8", 400),
+    (b"/rows/primary?\xd8=1", 400),
+    (b"/rows/by_city?from=\xc3\xa5", 200),
+    (b"/rows/primary HTTP/1.1\r\nAccept: \xff\r\nX-\xc3:", 400),
 ]
 
 
@@ -390,13 +543,13 @@ def bad_requests_are_told_and_change_nothing():
             if status == 405:
                 expect((path, bool(given["Allow"])), (path, True))
         for raw in NO_REQUESTS:
-            with socket.create_connection(("127.0.0.1", found.port), SECONDS) as connection:
-                connection.sendall(raw)
-                connection.shutdown(socket.SHUT_WR)
-                answer = b"".join(iter(lambda: connection.recv(65_536), b""))
-                expect((raw, answer[:13] in (b"", b"HTTP/1.0 400 ", b"HTTP/1.1 400 ")), (raw, True))
+            expect((raw, found.raw(raw)[:13] in (b"", b"HTTP/1.0 400 ", b"HTTP/1.1 400 ")), (raw, True))
+        for path, wanted in ODD_BYTES:
+            answer = found.raw(b"GET %b HTTP/1.1\r\nHost: localhost\r\nConnection: close\r\n\r\n" % path, is_kept_open=True)
+            expect((path, int(answer.split()[1]), b"Content-Type: application/json" in answer), (path, wanted, wanted != 200))
         expect(found.run(b"image primary\nimage by_city\nimage building\n"), before)
         expect((found.metric("betable_waiting_requests"), found.metric("betable_held_bytes")), (0, 0))
+        expect(found.printed(), "")
 
 
 @with_aiohttp
@@ -439,6 +592,75 @@ def bodies_that_stop_coming_are_told():
         expect(found.metric("betable_held_bytes"), 0)
 
 
+@with_aiohttp
+def idle_connections_keep_nobody_out():
+    """A server that may open 128 files has 300 connections that send nothing, or half of a head."""
+    with tempfile.TemporaryDirectory() as folder, server_in(folder, files=128) as found, ExitStack() as stay:
+        for number in range(300):
+            connection = stay.enter_context(socket.create_connection(("127.0.0.1", found.port), SECONDS))
+            connection.sendall(b"GET /he" * (number % 2))
+        expect(found.ask("GET", "/healthz")[0], 200)
+        expect(found.run(TABLE + adds(1)).splitlines()[-1], b"batch 1 by_city:1")
+        expect(found.metric("betable_connections"), 64)
+        expect(found.printed(), "")
+
+
+@with_aiohttp
+def connections_that_are_all_in_use_are_told():
+    head = b"POST /run HTTP/1.1\r\nHost: localhost\r\nExpect: 100-continue\r\nConnection: close\r\nContent-Length: 6\r\n\r\n"
+    with server("--most-connections", 2) as found, ExitStack() as stay:
+        busy = [stay.enter_context(socket.create_connection(("127.0.0.1", found.port), SECONDS)) for _ in range(2)]
+        for connection in busy:
+            connection.sendall(head)
+            expect(connection.recv(65_536)[:13], b"HTTP/1.1 100 ")
+        answer = found.raw(b"", is_kept_open=True)
+        expect((answer[:13], json.loads(answer.split(b"\r\n\r\n")[1])["status"]), (b"HTTP/1.1 503 ", 503))
+        for connection in busy:
+            connection.sendall(b"get 1\n")
+        expect([received(connection)[-5:] for connection in busy], [b"none\n"] * 2)
+        expect(found.metric('betable_requests_total{endpoint="none",status="503"}'), 1)
+
+
+@with_aiohttp
+def connections_without_a_whole_head_are_closed():
+    with server("--client-seconds", 1) as found:
+        expect(found.raw(b"", is_kept_open=True), b"")
+        expect(found.raw(b"GET /healthz HTTP/1.1\r\nHost: local", is_kept_open=True), b"")
+        expect(found.raw(b"GET /healthz HTTP/1.1\r\nHost: localhost\r\n\r\n", is_kept_open=True)[:13], b"HTTP/1.1 200 ")
+
+
+@with_aiohttp
+def clients_that_go_away_are_no_fault():
+    head = b"POST /rows HTTP/1.1\r\nHost: localhost\r\nContent-Type: text/csv\r\n"
+    with server() as found:
+        for length in (b"Content-Length: 100", b"Transfer-Encoding: chunked"):
+            found.raw(head + length + b"\r\n\r\n2\r\n1,\r\n")
+        # A chunk that is none.
+        expect(found.raw(head + b"Transfer-Encoding: chunked\r\n\r\nz\r\n", is_kept_open=True)[8:13], b" 400 ")
+        found.await_metric('betable_requests_total{endpoint="/rows",status="499"}', 2)
+        expect((found.metric("betable_waiting_requests"), found.metric("betable_held_bytes"), found.json("/rows/primary")["rows"]), (0, 0, []))
+        expect(found.printed(), "")
+
+
+@with_aiohttp
+def nothing_of_a_head_is_printed():
+    with tempfile.TemporaryDirectory() as folder:
+        path = Path(folder) / "token"
+        path.write_text(TOKEN + "\n")
+        with server_in(folder, "--token", path) as found:
+            token = TOKEN.encode()
+            for sent in (
+                b"GET /trees HTTP/1.1\r\nAuthorization: Bearer %b%b\r\n\r\n" % (token, b"x" * 9_000),
+                b"GET /trees HTTP/1.1\r\nAuthorization: Bearer %b\x01\r\n\r\n" % token,
+                b"Authorization: Bearer %b\r\n\r\n" % token,
+            ):
+                answer = found.raw(sent, is_kept_open=True)
+                expect((answer[8:13], token in answer), (b" 400 ", False))
+            metrics = found.ask("GET", "/metrics", headers={"Authorization": f"Bearer {TOKEN}"})[2]
+            expect_within(b'betable_requests_total{endpoint="none",status="400"} 3.0', metrics)
+            expect(found.printed(), "")
+
+
 # ---- who may ask ----
 
 
@@ -474,6 +696,8 @@ def other_sites_cannot_use_a_server_without_a_token():
             ({"Host": "a.example"}, 421),
             ({"Host": f"a.example:{found.port}", "Origin": f"http://a.example:{found.port}"}, 421),
             ({"Host": "127.0.0.1.a.example"}, 421),
+            ({"Host": "[::1].a.example"}, 421),
+            ({"Host": "[::1]a.example:80"}, 421),
         ]:
             expect((headers, found.ask("POST", "/run", adds(1), headers)[0]), (headers, wanted))
         expect(quantities(found), {1: 3})
@@ -495,6 +719,34 @@ def read_only_servers_change_nothing():
             expect(found.run(b"scan primary\ngo\nget 1\nput batch\n"), rows + b"row 1,batch,2\nrefused 1 Syntax\n")
             expect(found.json("/rows/by_city")["rows"], [["batch", 1, 2]])
             expect(found.metric("betable_kept_scripts"), 1)
+
+
+@with_aiohttp
+def read_only_servers_write_nothing():
+    with tempfile.TemporaryDirectory() as folder:
+        with server_in(folder) as found:
+            found.run(TABLE + b"batch\nput 1,batch,2\nend\n")
+            expect(found.end(), 0)
+        before = found.path.read_bytes()
+        with server_in(folder, "--read-only") as found:
+            for number in range(20):
+                found.run(b"scan primary\ngo\nget %d\n" % number, Idempotency_Key=str(number))
+            log = Path(f"{found.path}-wal")
+            expect(log.stat().st_size if log.exists() else 0, 0)
+            expect(found.end(), 0)
+        expect(found.path.read_bytes() == before, True)
+
+
+@with_aiohttp
+def scripts_that_only_read_are_not_stored():
+    with server() as found:
+        script, refused = b"scan primary\ngo\n", b"batch\nput 1,a,1\nend\nbuild later 1\n"
+        expect(found.run(script, Idempotency_Key="read"), b"rows 0\n")
+        first = found.run(refused, Idempotency_Key="write")
+        expect(found.run(b"index later on qty\n"), b"index later\n")
+        # A read sees what is there now. A script that may change something has the replies that it had, refusals among them.
+        expect(found.run(script, Idempotency_Key="read"), b"row 1,a,1\nrows 1\n")
+        expect((first.splitlines()[-1][:8], found.run(refused, Idempotency_Key="write")), (b"refused ", first))
 
 
 # ---- commits, crashes and ends ----
@@ -549,6 +801,24 @@ def requests_run_once_over_a_kill():
 
 
 @with_aiohttp
+def damaged_stored_reply_is_told_and_ends_nothing():
+    with tempfile.TemporaryDirectory() as folder:
+        with server_in(folder) as found:
+            found.run(TABLE)
+            replies = {key: found.run(adds(1), Idempotency_Key=key) for key in ("one", "two")}
+            expect((found.metric("betable_request_bytes"), found.end()), (sum(map(len, replies.values())), 0))
+        with closing(sqlite3.connect(Path(folder) / "stock.table")) as db:
+            db.execute("UPDATE requests SET replies = x'00' WHERE id = 'one'")
+            db.commit()
+        with server_in(folder) as found:
+            for _ in range(2):
+                status, _, body = found.ask("POST", "/run", adds(1), {"Idempotency-Key": "one"})
+                expect((status, "run once" in json.loads(body)["reason"]), (500, True))
+            expect((found.run(adds(1), Idempotency_Key="two"), quantities(found)), (replies["two"], {1: 2}))
+            expect(found.metric("betable_engine_starts"), 1)
+
+
+@with_aiohttp
 def requests_run_once_over_a_kill_of_the_server():
     with tempfile.TemporaryDirectory() as folder:
         with server_in(folder) as found, ThreadPoolExecutor(1) as pool:
@@ -600,13 +870,7 @@ def slow_readers_hold_nothing_up():
             expect(found.run(adds(-1)), b"batch 1 by_city:1\n")
             # It is cut off, and does not get the end of its rows.
             found.await_metric("betable_held_bytes", 0)
-            received = 0
-            try:
-                while part := slow.recv(1 << 20):
-                    received += len(part)
-            except ConnectionError:
-                pass
-            expect(received < 20_000_000, True)
+            expect(len(received(slow)) < 20_000_000, True)
 
 
 @with_aiohttp
@@ -677,6 +941,33 @@ def checkpoints_take_the_place_of_the_log():
             expect(quantities(found), {1: 1})
 
 
+# Options with values that they do not take, and a program that prints the status with which the command ends for each.
+WRONG_VALUES = [
+    ("--port", "65536"), ("--port", "-1"), ("--most-body", "-1"), ("--most-waiting", "0"), ("--most-held", "x"), ("--most-connections", "0"),
+    ("--client-seconds", "nan"), ("--client-seconds", "0"), ("--client-seconds", "inf"),
+]  # fmt: skip
+STATUSES = """
+import sys
+from betable.__main__ import main
+for place in range(1, len(sys.argv), 2):
+    words, sys.argv = sys.argv, ["betable", "serve", "none/stock.table", *sys.argv[place : place + 2]]
+    try:
+        print(main())
+    except SystemExit as fault:
+        print(fault.code)
+    sys.argv = words
+"""
+
+
+@with_aiohttp
+def wrong_values_of_options_are_told():
+    words = [python(), "-c", STATUSES, *(word for pair in WRONG_VALUES for word in pair)]
+    environment = {**os.environ, "PYTHONPATH": str(TOP / "clients/python"), "PYTHONDONTWRITEBYTECODE": "1"}
+    ended = subprocess.run(words, capture_output=True, text=True, env=environment, timeout=SECONDS)
+    expect(ended.stdout.split(), ["2"] * len(WRONG_VALUES))
+    expect(re.findall(r"error: argument (--[a-z-]+): ", ended.stderr), [option for option, _ in WRONG_VALUES])
+
+
 @with_aiohttp
 def what_cannot_be_served_is_told():
     with tempfile.TemporaryDirectory() as folder:
@@ -696,6 +987,7 @@ def what_cannot_be_served_is_told():
             ([folder], 1, folder),
             ([Path(folder) / "none" / "stock.table"], 1, "none"),
             ([path, "--most-held", "1000"], 2, "--most-body"),
+            ([path, "--most-connections", "999999999"], 2, "1,000,000,063 open files"),
         ]
         for process, (words, status, part) in [(process_of(*words), (words, status, part)) for words, status, part in wrong]:
             out, errors = process.communicate(timeout=SECONDS)
@@ -735,7 +1027,7 @@ def endpoints_and_statuses_of_the_document_are_those_of_the_server():
     text = (TOP / "docs/SERVICE.md").read_text(encoding="utf-8")
     routes = {(method.upper(), path.replace("{tree}", "TREE")) for method, path in re.findall(r'web\.(get|post)\("([^"]+)"', code)}
     expect({tuple(found) for found in re.findall(r"^\| `(GET|POST) ([^`?]+)", text, re.MULTILINE)}, routes)
-    statuses = {*re.findall(r"Problem\((\d{3})", code), *re.findall(r"\b(4\d\d|5\d\d) if", code), *re.findall(r": (4\d\d|5\d\d)[,}]", code), "507", "405"}
+    statuses = {*re.findall(r"Problem\((\d{3})", code), *re.findall(r"\b(4\d\d|5\d\d) if", code), *re.findall(r": (4\d\d|5\d\d)[,}]", code), "507", "405", "417"}
     expect({status for line in re.findall(r"^\| (\d{3}(?:, \d{3})*) \|", text, re.MULTILINE) for status in line.split(", ")}, statuses)
     options = set(re.findall(r'add_argument\("(--[a-z-]+)"', code))
     expect(set(re.findall(r"`(--[a-z-]+)", text)) - {"--help"}, options - {"--port"})
@@ -745,27 +1037,38 @@ TESTS_OF_TEXTS = [
     endpoints_and_statuses_of_the_document_are_those_of_the_server,
     scripts_have_the_replies_of_a_session,
     replies_come_as_json_with_their_commands,
+    long_json_of_replies_comes_in_parts,
     rows_go_in_and_come_out,
     values_of_each_kind_are_written,
     sums_are_of_groups,
     trees_are_told_and_drawn,
     events_tell_which_scripts_were_kept,
+    readers_of_events_that_have_gone_free_their_places,
     page_needs_no_network,
+    page_says_what_happens_in_a_browser,
     bad_requests_are_told_and_change_nothing,
     refused_rows_have_line_and_item,
     limits_are_kept,
     bodies_that_stop_coming_are_told,
+    idle_connections_keep_nobody_out,
+    connections_that_are_all_in_use_are_told,
+    connections_without_a_whole_head_are_closed,
+    clients_that_go_away_are_no_fault,
+    nothing_of_a_head_is_printed,
     token_is_wanted,
     other_sites_cannot_use_a_server_without_a_token,
     read_only_servers_change_nothing,
+    read_only_servers_write_nothing,
+    scripts_that_only_read_are_not_stored,
     requests_that_wait_share_a_commit,
     requests_run_once_over_a_kill,
-    requests_run_once_over_a_kill_of_the_server,
+    requests_run_once_over_a_kill_of_the_server, damaged_stored_reply_is_told_and_ends_nothing,
     disk_that_is_full_is_told,
     slow_readers_hold_nothing_up,
     signals_end_it_after_what_came_in,
     signals_end_it_while_the_table_opens,
     checkpoints_take_the_place_of_the_log,
+    wrong_values_of_options_are_told,
     what_cannot_be_served_is_told,
     quick_start_of_the_document_runs,
 ]

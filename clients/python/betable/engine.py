@@ -19,13 +19,18 @@ from collections.abc import Callable
 from pathlib import Path
 from typing import Any, BinaryIO, NamedTuple
 
-from .durable import FAULTS, Durable, RequestReused, open as open_table
+from .durable import FAULTS, ReplyDamaged, RequestReused, RolledBack, ScriptTooLong, open as open_table
+from .errors import OutOfMemory
 from .language import State
+from .packed import Usage
 from .replies import reply_end
+from .session import Session
 
 # The largest number of requests in a group, and the bytes of scripts that close one.
 MOST_GROUP, GROUP_BYTES = 256, 16 << 20
 ALL_ROWS = sys.maxsize
+MOST_IMAGE_BYTES = 1 << 20  # of a tree that is drawn
+MOST_IMAGE_ITEMS = MOST_IMAGE_BYTES >> 4  # rows and messages of a tree whose image is made: one of them takes about 16 bytes at least
 # How often in a row the process may end before the table is open, and the seconds between two starts, times the number of failures.
 MOST_FAILURES, FAILURE_SECONDS = 5, 0.2
 START = "import sys; from betable.engine import main; sys.exit(main())"
@@ -36,33 +41,35 @@ LAST_WORDS = {b"row ": b"rows", b"sum ": b"sums"}
 
 class Work(NamedTuple):
     """A script to be run, or a checkpoint if there is none. A script with the id of a request is run exactly once. A script with `most_rows` is one `get`,
-    `scan` or `sums`: at most that many rows or groups of its reply are returned, and their columns. Replies of more than `most_bytes` are not returned."""
+    `scan` or `sums`: at most that many rows or groups of its reply are returned, and their columns. A script with `image_of` is the `image` of that tree."""
 
     script: bytes | None
     request: str | None = None
     most_rows: int | None = None
-    most_bytes: int = sys.maxsize
+    image_of: str | None = None
 
 
 class Answer(NamedTuple):
-    """The replies to a script, and the number of the last script that the table had kept after it. `is_cut` says whether rows or all of the replies were left
-    out, and `columns` are the names and kinds of the rows' columns, if `most_rows` was given."""
+    """The replies to a script, and the number of the last script that the table had kept after it. `is_cut` says whether rows were left out, and `columns` are
+    the names and kinds of the rows' columns, if `most_rows` was given. A tree whose image is too large has its `usage` in place of replies."""
 
     replies: bytes
     number: int
     is_cut: bool = False
     columns: list[tuple[str, str]] = []
+    usage: Usage | None = None
 
 
 class Result(NamedTuple):
     """The results of works: for each its answer or its fault, the time of its scripts and that of its commit. `number` is that of the last script that
-    is kept, `log_bytes` are those of the log, and `state` has the trees if they have changed."""
+    is kept, `log_bytes` are those of the log, `request_bytes` those of the stored replies, and `state` has the trees if they have changed."""
 
     answers: list[Answer | Exception]
     run_seconds: float = 0
     commit_seconds: float = 0
     number: int = 0
     log_bytes: int = 0
+    request_bytes: int = 0
     state: State | None = None
 
 
@@ -89,53 +96,76 @@ def main() -> int:
     works, results = os.fdopen(os.dup(0), "rb"), os.fdopen(os.dup(1), "wb")
     os.dup2(2, 1)
     try:
-        table = open_table(path)
+        worker = Worker(path)
     except Exception as fault:
         _send(results, fault)
         return 1
-    with table:
+    with worker.table as table:
         known: Any = None
         group: list[Work] | None = []
         while group is not None:
-            result = run_group(table, group)
+            result = worker.run_group(group)
             before, known = known, _trees(table.state)
-            _send(results, result._replace(number=table.number, log_bytes=table.log_bytes, state=table.state if known != before else None))
+            state = table.state if known != before else None
+            _send(results, result._replace(number=table.number, log_bytes=table.log_bytes, request_bytes=table.request_bytes, state=state))
             group = _received(works)
     return 0
 
 
-def run_group(table: Durable, group: list[Work]) -> Result:
-    """Runs works and keeps what they changed by one commit. If one of them fails, nothing of the group is kept, and each is run by itself."""
-    begin = end = time.perf_counter()
-    answers: list[Answer | Exception] = []
-    try:
-        if [work.script for work in group] == [None]:
-            table.checkpoint()
-            answers = [Answer(b"", table.number)]
-        else:
-            with table.group():
-                answers = [_answer(table, work) for work in group]
-                end = time.perf_counter()
-    except FAULTS as fault:
-        if len(group) > 1:
-            alone = [run_group(table, [work]) for work in group]
-            return Result([one.answers[0] for one in alone], sum(one.run_seconds for one in alone), sum(one.commit_seconds for one in alone))
-        answers = [fault]
-    return Result(answers, end - begin, time.perf_counter() - end)
+class Worker:
+    """The durable table of a server, and the session that runs its scripts."""
 
+    def __init__(self, path: str) -> None:
+        self.session: Session
+        self.table = open_table(path, make=self._made)
 
-def _answer(table: Durable, work: Work) -> Answer | Exception:
-    script = work.script or b""
-    try:
-        replies = table.replies(script) if work.request is None else table.once(work.request, script)
-    except RequestReused as fault:
-        return fault  # nothing was run, and the group goes on
-    if len(replies) > work.most_bytes:
-        return Answer(b"", table.number, True)
-    if work.most_rows is None:
-        return Answer(replies, table.number)
-    rows, is_cut = first_rows(replies, work.most_rows)
-    return Answer(rows, table.number, is_cut, _columns(table.state, script))
+    def _made(self) -> Session:
+        self.session = Session()
+        return self.session
+
+    def run_group(self, group: list[Work]) -> Result:
+        """Runs works and keeps what they changed by one commit. If one of them fails, nothing of the group is kept, and each is run by itself."""
+        begin = end = time.perf_counter()
+        answers: list[Answer | Exception] = []
+        try:
+            if [work.script for work in group] == [None]:
+                self.table.checkpoint()
+                answers = [Answer(b"", self.table.number)]
+            else:
+                with self.table.group():
+                    answers = [self._answer(work) for work in group]
+                    end = time.perf_counter()
+        except FAULTS as fault:
+            if len(group) > 1:
+                alone = [self.run_group([work]) for work in group]
+                return Result([one.answers[0] for one in alone], sum(one.run_seconds for one in alone), sum(one.commit_seconds for one in alone))
+            answers = [fault]
+        return Result(answers, end - begin, time.perf_counter() - end)
+
+    def _answer(self, work: Work) -> Answer | Exception:
+        table, script = self.table, work.script or b""
+        if work.image_of is not None and (usage := self._usage(work.image_of)) and usage.rows + usage.messages > MOST_IMAGE_ITEMS:
+            return Answer(b"", table.number, usage=usage)
+        try:
+            replies = table.replies(script) if work.request is None else table.once(work.request, script)
+        except (RequestReused, ReplyDamaged, ScriptTooLong) as fault:
+            return fault  # nothing was run, and the group goes on
+        if work.image_of is not None and len(replies) > MOST_IMAGE_BYTES:
+            return Answer(b"", table.number, usage=self._usage(work.image_of))
+        if work.most_rows is None:
+            return Answer(replies, table.number)
+        rows, is_cut = first_rows(replies, work.most_rows)
+        return Answer(rows, table.number, is_cut, _columns(table.state, script))
+
+    def _usage(self, tree: str) -> Usage | None:
+        """How much a tree holds, if there is one of this name."""
+        known = self.table.state.table
+        if known is None or not known.has_tree(tree.encode()):
+            return None
+        try:
+            return self.session.usage(tree)
+        except OutOfMemory as fault:
+            raise RolledBack(str(fault)) from fault
 
 
 def _columns(state: State, script: bytes) -> list[tuple[str, str]]:
@@ -191,7 +221,7 @@ class Engine:
 
     def __init__(self, path: str | os.PathLike[str], on_result: Callable[[list[Work], Result], None] = lambda group, result: None) -> None:
         self.path, self.on_result = os.fspath(path), on_result
-        self.state, self.number, self.log_bytes, self.starts = State(), 0, 0, 0
+        self.state, self.number, self.log_bytes, self.request_bytes, self.starts = State(), 0, 0, 0, 0
         self.is_open = False
         self._waiting: deque[tuple[Work, asyncio.Future[Answer]]] = deque()
         self._group: list[tuple[Work, asyncio.Future[Answer]]] = []
@@ -304,7 +334,8 @@ class Engine:
     def _take(self, result: Result) -> None:
         group, self._group = self._group, []
         self.on_result([work for work, _ in group], result)
-        self.state, self.number, self.log_bytes = result.state or self.state, result.number, result.log_bytes
+        self.state, self.number = result.state or self.state, result.number
+        self.log_bytes, self.request_bytes = result.log_bytes, result.request_bytes
         self._send_group()
         for (_, future), answer in zip(group, result.answers):
             if future.cancelled():

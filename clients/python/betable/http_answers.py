@@ -15,12 +15,14 @@ from .durable import CHANGING
 from .engine import Answer
 from .figures import picture
 from .http_requests import Problem, problem_of, refusal_fields
-from .language import PRIMARY, State, commands
-from .replies import answered, line_blocks, whole_lines
+from .language import PRIMARY, Command, State, commands, counted
+from .packed import Usage
+from .replies import BLOCK_BYTES, answered, line_blocks, whole_lines
 from .rows import rows_of
 from .trees import image_of_reply
 
 MOST_CHANGES = 100  # replies in an event
+MOST_EXPLAINED = 1_000  # refusals of a script whose reasons are given
 
 
 def content_policy(page: str) -> str:
@@ -36,19 +38,66 @@ def refused_count(script: bytes, replies: bytes) -> int:
     return sum(is_refused for _, _, is_refused in answered(commands(script), replies))
 
 
-def replies_with_commands(script: bytes, replies: bytes, state: State) -> list[dict[str, Any]]:
-    """Each reply with its command: the lines of the reply, or the refusal."""
-    state, found = copied(state), []
-    for command, reply, is_refused in answered(commands(script), replies):
+_json_text = json.JSONEncoder(ensure_ascii=False).encode
+
+
+def json_replies(script: bytes, answer: Answer, state: State, refused: int) -> Iterator[bytes]:
+    """Each reply with its command as JSON, in parts: the lines of the reply, or the refusal. The first refusals have their reasons."""
+    return _in_blocks(_json_replies(script, answer, state, refused))
+
+
+def _json_replies(script: bytes, answer: Answer, state: State, refused: int) -> Iterator[str]:
+    state, explained, separator = copied(state), 0, ""
+    yield f'{{"refused": {refused}, "explained": {min(refused, MOST_EXPLAINED)}, "number": {answer.number}, "replies": ['
+    for command, reply, is_refused in answered(commands(script), answer.replies):
         said: dict[str, Any] = {"line": command.head.number, "command": command.head.word.decode(errors="replace")}
         if is_refused:
-            fault = refusal(command, reply, state, [])
-            said["refused"] = {**refusal_fields(fault), "reason": fault.reason}
+            said["refused"] = _explained(command, reply, state) if explained < MOST_EXPLAINED else _unexplained(command, reply)
+            explained += 1
+            yield separator + _json_text(said)
         else:
-            said["reply"] = whole_lines(reply[:-1].decode(), "\n")
-        note(state, command, reply)
-        found.append(said)
-    return found
+            yield separator + _json_text(said)[:-1] + ', "reply": ['
+            comma = ""
+            for lines in _blocks_of_lines(reply):
+                yield comma + _json_text(lines)[1:-1]
+                comma = ", "
+            yield "]}"
+        separator = ",\n"
+        note(state, command, reply[: reply.find(b"\n") + 1])
+    yield "]}\n"
+
+
+def _explained(command: Command, reply: bytes, state: State) -> dict[str, Any]:
+    fault = refusal(command, reply, state, [])
+    return {**refusal_fields(fault), "reason": fault.reason}
+
+
+def _unexplained(command: Command, reply: bytes) -> dict[str, Any]:
+    _, number, name, *item = reply.decode().split()
+    return {"number": int(number), "name": name, "line": command.head.number, **({"item": int(item[0])} if item else {})}
+
+
+def _blocks_of_lines(reply: bytes) -> Iterator[list[str]]:
+    """The lines of a reply, in blocks. A text with a line break is in quotes, and in one line."""
+    at = 0
+    while at < len(reply):
+        end = reply.find(b"\n", min(at + BLOCK_BYTES, len(reply) - 1)) + 1 or len(reply)
+        while end < len(reply) and reply.count(b'"', at, end) % 2:
+            end = reply.find(b"\n", end) + 1 or len(reply)
+        yield whole_lines(reply[at : end - 1].decode(), "\n")
+        at = end
+
+
+def _in_blocks(texts: Iterator[str]) -> Iterator[bytes]:
+    """Texts together, about as many as a block has."""
+    block, size = [], 0
+    for text in texts:
+        block.append(text)
+        size += len(text)
+        if size >= BLOCK_BYTES:
+            yield "".join(block).encode("utf-8", "replace")
+            block, size = [], 0
+    yield "".join(block).encode("utf-8", "replace")
 
 
 def refusal_of_rows(script: bytes, replies: bytes, state: State) -> Problem:
@@ -95,7 +144,7 @@ def json_rows(answer: Answer, is_sums: bool) -> Iterator[bytes]:
             groups = [line.split(" ", 2) for line in lines]
             counts, lines = [[int(count), int(total)] for count, total, _ in groups], [values for _, _, values in groups]
         rows = ([*count, *(value.hex() if isinstance(value, bytes) else value for value in row)] for count, row in zip(counts, rows_of(lines, kinds)))
-        yield (comma + ",\n".join(json.dumps(row, ensure_ascii=False) for row in rows)).encode()
+        yield (comma + ",\n".join(_json_text(row) for row in rows)).encode()
         comma = ",\n"
     yield b"]}\n"
 
@@ -120,3 +169,9 @@ def picture_of(replies: bytes, tree: str, state: State, columns: int, lines: int
     """The picture of the image of a tree. Its keys are shown as their values."""
     image = image_of_reply(replies.decode(), tree, state.table)
     return picture([image], columns, lines, [image.title()])
+
+
+def too_large(usage: Usage) -> Problem:
+    """The problem of a tree that is not drawn, with how much it holds."""
+    holds = f"{counted(usage.rows, 'row')} in leaves, and {counted(usage.messages, 'message')} in buffers"
+    return Problem(422, f"the tree is too large to be drawn: height {usage.height}, {holds}", **usage._asdict())

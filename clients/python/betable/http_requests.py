@@ -9,7 +9,7 @@ from urllib.parse import parse_qsl
 
 from aiohttp import web
 
-from .durable import CHANGING_LINE, IndexBuilding, RequestReused
+from .durable import CHANGING_LINE, IndexBuilding, ReplyDamaged, RequestReused, ScriptTooLong
 from .engine import Closed, Lost
 from .errors import Refused
 from .forms import name_fault
@@ -17,6 +17,7 @@ from .language import NUMBER, broken_quotes_of_lines
 from .messages import record
 
 REQUEST_ID = re.compile(r"[!-~]{1,200}")
+HOST = re.compile(r"(?:\[([^\[\]]*)\]|([^:\[\]]*))(?::\d*)?")
 # The statuses of refusals outside of /run, by their numbers; of the others it is 422.
 STATUSES = {3: 409, 8: 404, 11: 409, 18: 503}
 BLANK_LINES = re.compile(rb"^\r?\n|\n\r?\n")
@@ -43,7 +44,10 @@ def problem_of(fault: Exception) -> Problem:
         return Problem(503, reason, {"Retry-After": "1"})
     if isinstance(fault, Closed):
         return Problem(503, "the engine is starting: nothing was done, so try again", {"Retry-After": "1"})
-    return Problem(409 if isinstance(fault, IndexBuilding) else 422 if isinstance(fault, RequestReused) else 507, str(fault))
+    for kind, status in ((IndexBuilding, 409), (RequestReused, 422), (ScriptTooLong, 413), (ReplyDamaged, 500)):
+        if isinstance(fault, kind):
+            return Problem(status, str(fault))
+    return Problem(507, str(fault))
 
 
 def refusal_fields(fault: Refused) -> dict[str, Any]:
@@ -56,11 +60,13 @@ def refusal_fields(fault: Refused) -> dict[str, Any]:
 
 def query_of(request: web.Request, *names: str) -> dict[str, list[str]]:
     """The parameters of a request, each with its values in order."""
+    query = request.rel_url.raw_query_string
+    if not query:
+        return {}
     try:
-        pairs = parse_qsl(request.rel_url.raw_query_string, keep_blank_values=True, strict_parsing=True, errors="strict", max_num_fields=64)
+        query.encode()  # bytes that are no UTF-8 are refused
+        pairs = parse_qsl(query, keep_blank_values=True, strict_parsing=True, errors="strict", max_num_fields=64)
     except ValueError as fault:
-        if not request.rel_url.raw_query_string:
-            return {}
         raise Problem(400, f"the query cannot be read: {fault}") from None
     found: dict[str, list[str]] = {}
     for name, value in pairs:
@@ -117,8 +123,9 @@ def is_json(request: web.Request, wanted: str) -> bool:
 
 
 def host_name(host: str) -> str:
-    """The name in a Host header, without its port."""
-    return host[1 : host.find("]")] if host.startswith("[") else host.partition(":")[0]
+    """The name in a Host header, without its port, or nothing where the header has another form."""
+    found = HOST.fullmatch(host)
+    return (found[1] or found[2]) if found else ""
 
 
 def is_loopback(name: str) -> bool:

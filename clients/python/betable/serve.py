@@ -10,11 +10,11 @@ import argparse
 import asyncio
 import hmac
 import json
+import logging
 import signal
 import sys
 import time
-import traceback
-from collections.abc import Awaitable, Callable, Iterator
+from collections.abc import AsyncIterator, Awaitable, Callable, Iterator
 from contextlib import contextmanager
 from pathlib import Path
 from typing import Any, NamedTuple
@@ -27,8 +27,10 @@ from .durable import FAULTS
 from .engine import ALL_ROWS, Answer, Closed, Engine, Lost, Result, Work
 from .errors import Refused
 from .http_answers import (
-    content_policy, csv_rows, event_of, json_rows, picture_of, refusal_of_rows, refused_count, replies_with_commands, start_event, trees_of,
+    content_policy, csv_rows, event_of, json_replies, json_rows, picture_of, refusal_of_rows, refused_count, start_event, too_large, trees_of,
 )  # fmt: skip
+from .http_connections import FILES_BESIDE, Connections, client_of, raised_limit_of_files
+from .http_notices import Notices
 from .http_requests import (
     Problem, batch_of, bounds_of, changing_word, checked_name, host_name, is_json, is_loopback, number_of, problem_of, query_of, record_of, request_id, tree_of,
 )  # fmt: skip
@@ -36,7 +38,6 @@ from .language import MOST_SCRIPT_BYTES, State, commands
 from .replies import BLOCK_BYTES
 
 Handler = Callable[[web.Request], Awaitable[web.StreamResponse]]
-MOST_IMAGE_BYTES = 1 << 20  # of a tree that is drawn
 MOST_EVENTS, MOST_WATCHERS = 256, 64  # that wait for a reader; readers
 EVENT_SECONDS = 15  # seconds after which a reader of events gets a comment, so that proxies keep the connection
 ENDING_SECONDS = 1  # seconds after which a server that is ending gives up a body whose next bytes do not arrive
@@ -47,12 +48,14 @@ COMMON_HEADERS = {"Cache-Control": "no-store", "X-Content-Type-Options": "nosnif
 
 
 class Limits(NamedTuple):
-    """Bytes of a body, requests that wait, bytes of bodies and replies that are held for them, and the seconds that a client has for its next bytes."""
+    """Bytes of a body, requests that wait, bytes of bodies and replies that are held for them, the seconds that a client has for its next bytes, and
+    connections."""
 
     body: int = MOST_SCRIPT_BYTES
     waiting: int = 1_024
     held: int = 256 << 20
     seconds: float = 60
+    connections: int = 1_024
 
 
 class Metrics:
@@ -71,16 +74,21 @@ class Metrics:
         for name, help_text, value in (
             ("betable_kept_scripts", "The number of the last script that is kept", lambda: engine.number),
             ("betable_log_bytes", "Bytes of the scripts since the last checkpoint", lambda: engine.log_bytes),
+            ("betable_request_bytes", "Bytes of the replies that are stored with an Idempotency-Key", lambda: engine.request_bytes),
             ("betable_waiting_requests", "Requests that wait for the engine, or for the rest of their bodies", lambda: service.waiting),
             ("betable_queued_scripts", "Scripts that the engine has not answered", lambda: engine.waiting),
             ("betable_held_bytes", "Bytes of bodies and replies in memory", lambda: service.held),
             ("betable_event_readers", "Readers of /events", lambda: len(service.watchers)),
+            ("betable_connections", "Connections that are open", lambda: len(service.connections)),
             ("betable_engine_open", "1 if the engine takes scripts", lambda: engine.is_open),
             ("betable_engine_starts", "How often the engine's process was started", lambda: engine.starts),
         ):
             Gauge(name, help_text, registry=registry).set_function(value)
         ProcessCollector("betable_engine", lambda: engine.pid, registry=registry)
         ProcessCollector("betable_http", registry=registry)
+
+    def count(self, endpoint: str, status: int) -> None:
+        self.requests.labels(endpoint, status).inc()
 
     def take(self, group: list[Work], result: Result, before: int) -> None:
         self.scripts.inc(len(group))
@@ -99,7 +107,8 @@ class Service:
         self.limits, self.token, self.is_read_only = limits, token, is_read_only
         self.waiting, self.held, self.is_ending = 0, 0, False
         self.watchers: set[asyncio.Queue[str | None]] = set()
-        self.metrics = Metrics(self.engine, self)
+        self.metrics, self.notices = Metrics(self.engine, self), Notices()
+        self.connections = Connections(limits.connections, limits.seconds, self.notices, self.answer_to_no_head, lambda: self.metrics.count("none", 503))
         self.page = Path(__file__).with_name("page.html").read_text(encoding="utf-8")
 
     def application(self) -> web.Application:
@@ -129,8 +138,9 @@ class Service:
 
     async def answer(self, request: web.Request, handler: Handler) -> web.StreamResponse:
         """The answer to a request: that of its handler, or a problem as JSON."""
-        resource = request.match_info.route.resource
+        resource, client = request.match_info.route.resource, client_of(request)
         begin, request["held"] = time.perf_counter(), 0
+        self.connections.begin_request(client)
         try:
             if request.path not in ("/", "/healthz"):
                 self.expect_permission(request)
@@ -142,14 +152,23 @@ class Service:
             response = response_of(problem)
         except (Refused, Lost, Closed, *FAULTS) as fault:
             response = response_of(problem_of(fault))
+        except web.RequestPayloadError:
+            response = response_of(Problem(400, "the body cannot be read: its chunks are not those of HTTP/1.1"))
+        except ConnectionError:
+            response = response_of(Problem(499, "the client has gone"))
         except Exception as fault:
-            traceback.print_exception(fault)
+            self.notices.fault(fault)
             response = response_of(Problem(500, "a fault of the server, which its standard error tells"))
         finally:
             self.held -= request["held"]
-        self.metrics.requests.labels(resource.canonical if resource else "none", response.status).inc()
+            self.connections.end_request(client)
+        self.metrics.count(resource.canonical if resource else "none", response.status)
         self.metrics.request_seconds.observe(time.perf_counter() - begin)
         return response
+
+    def answer_to_no_head(self) -> web.Response:
+        self.metrics.count("none", 400)
+        return response_of(Problem(400, "the head of the request cannot be read: it is not that of HTTP/1.1, or one of its lines is too long"))
 
     def expect_permission(self, request: web.Request) -> None:
         """That a request has the token. Where there is none, a page of another site must not use the server through a browser on this machine."""
@@ -210,15 +229,14 @@ class Service:
                 if loop.time() >= end:
                     raise Problem(408, f"the next bytes of the body did not come within {self.limits.seconds:g} seconds") from None
 
-    async def response_in_parts(self, request: web.Request, parts: Iterator[bytes], headers: dict[str, str]) -> web.StreamResponse:
+    async def response_in_parts(self, request: web.Request, parts: AsyncIterator[bytes], headers: dict[str, str]) -> web.StreamResponse:
         """An answer in parts. A client that does not take them in time is cut off, and so is one whose parts cannot be made."""
         response = web.StreamResponse(headers={**COMMON_HEADERS, **headers})
         await response.prepare(request)
         try:
-            for part in parts:
+            async for part in parts:
                 async with asyncio.timeout(self.limits.seconds):
                     await response.write(part)
-                await asyncio.sleep(0)  # other tasks run between parts
             async with asyncio.timeout(self.limits.seconds):
                 await response.write_eof()
         except (TimeoutError, ConnectionError):
@@ -244,28 +262,35 @@ class Service:
         for watcher in list(self.watchers):
             if watcher.full():
                 # It is too slow. The end of its stream shows that it has missed something.
-                self.watchers.discard(watcher)
-                watcher.get_nowait()
-                watcher.put_nowait(None)
+                self.end_watcher(watcher)
             else:
                 watcher.put_nowait(event)
+
+    def end_watcher(self, watcher: asyncio.Queue[str | None]) -> None:
+        """Frees the place of a reader of events, and ends its stream."""
+        self.watchers.discard(watcher)
+        if watcher.full():
+            watcher.get_nowait()
+        watcher.put_nowait(None)
 
     async def end_events(self, application: web.Application) -> None:
         """Ends the streams of events, and those that begin later, so that the server can end."""
         self.is_ending = True
-        for watcher in self.watchers:
-            if watcher.full():
-                watcher.get_nowait()
-            watcher.put_nowait(None)
+        for watcher in list(self.watchers):
+            self.end_watcher(watcher)
 
     # ---- endpoints: changes ----
 
     async def post_run(self, request: web.Request) -> web.StreamResponse:
         with self.place():
-            script, state = await self.body(request), self.engine.state
-            if self.is_read_only and (word := changing_word(script)):
-                raise Problem(403, f"'{word}' changes the table, and this server is read-only")
-            answer = await self.engine.run(Work(script, request_id(request)))
+            script, state, once = await self.body(request), self.engine.state, request_id(request)
+            if self.is_read_only or once:
+                word = await in_thread_if_large(len(script), changing_word, script)
+                if self.is_read_only and word:
+                    raise Problem(403, f"'{word}' changes the table, and this server is read-only")
+                # A script that only reads may run again: nothing is stored for it.
+                once = once if word else None
+            answer = await self.engine.run(Work(script, once))
         return await self.replies(request, script, answer, state)
 
     async def post_rows(self, request: web.Request) -> web.StreamResponse:
@@ -296,13 +321,13 @@ class Service:
         self.metrics.refused.inc(refused)
         headers = {"Betable-Refused": str(refused), "Betable-Number": str(answer.number)}
         if is_json(request, ""):
-            found = await asyncio.to_thread(replies_with_commands, script, answer.replies, state)
-            return json_response({"replies": found, "refused": refused, "number": answer.number}, headers)
+            headers["Content-Type"] = "application/json; charset=utf-8"
+            return await self.response_in_parts(request, made_in_thread(json_replies(script, answer, state, refused)), headers)
         headers |= {"Content-Type": "text/plain; charset=utf-8", "Content-Length": str(len(answer.replies))}
         if len(answer.replies) <= BLOCK_BYTES:
             return web.Response(body=answer.replies, headers={**COMMON_HEADERS, **headers})
         parts = (answer.replies[at : at + BLOCK_BYTES] for at in range(0, len(answer.replies), BLOCK_BYTES))
-        return await self.response_in_parts(request, parts, headers)
+        return await self.response_in_parts(request, made_in_turn(parts), headers)
 
     # ---- endpoints: reads ----
 
@@ -337,7 +362,8 @@ class Service:
             answer = answer._replace(replies=answer.replies + b"rows 1\n")
         parts = (json_rows if as_json else csv_rows)(answer, script.startswith(b"sums "))
         content_type = "application/json" if as_json else "text/csv; charset=utf-8; header=absent"
-        return await self.response_in_parts(request, parts, {"Content-Type": content_type, "Betable-More": "true" if answer.is_cut else "false"})
+        headers = {"Content-Type": content_type, "Betable-More": "true" if answer.is_cut else "false"}
+        return await self.response_in_parts(request, made_in_turn(parts), headers)
 
     async def get_trees(self, request: web.Request) -> web.StreamResponse:
         return json_response(trees_of(self.engine.state))
@@ -347,11 +373,11 @@ class Service:
         columns, lines = max(2, min(32, number_of(query, "columns", 8))), max(1, min(64, number_of(query, "lines", 6)))
         script = f"image {tree}\n".encode()
         with self.place():
-            answer = await self.engine.run(Work(script, most_bytes=MOST_IMAGE_BYTES))
+            answer = await self.engine.run(Work(script, image_of=tree))
         self.hold(request, len(answer.replies))
         state = self.engine.state
-        if answer.is_cut:
-            raise Problem(422, f"the tree is too large to be drawn: its image has more than {MOST_IMAGE_BYTES:,} bytes")
+        if answer.usage is not None:
+            raise too_large(answer.usage)
         if answer.replies.startswith(b"refused "):
             raise refusal(next(commands(script)), answer.replies, state, [])
         drawn = await asyncio.to_thread(picture_of, answer.replies, tree, state, columns, lines)
@@ -364,6 +390,7 @@ class Service:
             raise Problem(503, "the server is ending", {"Retry-After": "1"})
         watcher: asyncio.Queue[str | None] = asyncio.Queue(MOST_EVENTS)
         self.watchers.add(watcher)
+        client_of(request).on_lost = lambda: self.end_watcher(watcher)
         response = web.StreamResponse(headers={**COMMON_HEADERS, "Content-Type": "text/event-stream"})
         event: str | None = start_event(self.engine.number)
         try:
@@ -380,6 +407,7 @@ class Service:
             abort(request)
         finally:
             self.watchers.discard(watcher)
+            client_of(request).on_lost = None
         return response
 
     async def get_metrics(self, request: web.Request) -> web.StreamResponse:
@@ -399,6 +427,18 @@ def abort(request: web.Request) -> None:
         request.transport.abort()
 
 
+async def made_in_turn(parts: Iterator[bytes]) -> AsyncIterator[bytes]:
+    """Parts that are made quickly. Other tasks run between them."""
+    for part in parts:
+        yield part
+        await asyncio.sleep(0)
+
+
+async def made_in_thread(parts: Iterator[bytes]) -> AsyncIterator[bytes]:
+    while (part := await asyncio.to_thread(lambda: next(parts, None))) is not None:
+        yield part
+
+
 async def in_thread_if_large(size: int, function: Callable[..., Any], *arguments: Any) -> Any:
     """The result of a function on that many bytes: if they are many, it runs in a thread, so that other requests are handled meanwhile."""
     return await asyncio.to_thread(function, *arguments) if size > BLOCK_BYTES else function(*arguments)
@@ -406,7 +446,9 @@ async def in_thread_if_large(size: int, function: Callable[..., Any], *arguments
 
 def json_response(found: Any, headers: dict[str, str] | None = None, status: int = 200) -> web.Response:
     headers = {**COMMON_HEADERS, **(headers or {})}
-    return web.Response(text=json.dumps(found, ensure_ascii=False) + "\n", status=status, headers=headers, content_type="application/json")
+    # A reason may quote a path, and so bytes that are no UTF-8.
+    text = (json.dumps(found, ensure_ascii=False) + "\n").encode("utf-8", "replace")
+    return web.Response(body=text, status=status, headers=headers, content_type="application/json", charset="utf-8")
 
 
 def response_of(problem: Problem) -> web.Response:
@@ -421,13 +463,28 @@ def add_words(parser: argparse.ArgumentParser) -> None:
     limits = Limits()
     parser.add_argument("path", metavar="PATH", help="the file of the table, which is made if there is none")
     parser.add_argument("--host", default="127.0.0.1", help="the address that is listened on (%(default)s); any other than a loopback one needs --token")
-    parser.add_argument("--port", metavar="N", type=int, default=8470, help="the port (%(default)s); with 0 one that is free")
+    parser.add_argument("--port", metavar="N", type=number_from(0, 65_535), default=8470, help="the port (%(default)s); with 0 one that is free")
     parser.add_argument("--token", metavar="FILE", type=Path, help=f"a file whose first line, of at least {LEAST_TOKEN_BYTES} bytes, each request has to have")
     parser.add_argument("--read-only", action="store_true", help="refuses what would change the table")
-    parser.add_argument("--most-body", metavar="BYTES", type=int, default=limits.body, help="the most bytes of a body (%(default)s)")
-    parser.add_argument("--most-waiting", metavar="N", type=int, default=limits.waiting, help="the most requests that wait (%(default)s)")
-    parser.add_argument("--most-held", metavar="BYTES", type=int, default=limits.held, help="the most bytes of bodies and replies in memory (%(default)s)")
-    parser.add_argument("--client-seconds", metavar="S", type=float, default=limits.seconds, help="how long a client has for its next bytes (%(default)s)")
+    number, seconds = number_from(1), number_from(0.001, 86_400, float)
+    parser.add_argument("--most-body", metavar="BYTES", type=number, default=limits.body, help="the most bytes of a body (%(default)s)")
+    parser.add_argument("--most-waiting", metavar="N", type=number, default=limits.waiting, help="the most requests that wait (%(default)s)")
+    parser.add_argument("--most-held", metavar="BYTES", type=number, default=limits.held, help="the most bytes of bodies and replies in memory (%(default)s)")
+    of_files = f"{limits.connections}, or {FILES_BESIDE} fewer than the files that it may open"
+    parser.add_argument("--most-connections", metavar="N", type=number, help=f"the most connections ({of_files})")
+    parser.add_argument("--client-seconds", metavar="S", type=seconds, default=limits.seconds, help="how long a client has for its next bytes (%(default)s)")
+
+
+def number_from(least: float, most: float = sys.maxsize, kind: Callable[[str], Any] = int) -> Callable[[str], Any]:
+    """The type of an option that is a number between two."""
+
+    def number(word: str) -> Any:
+        found = kind(word)
+        if not least <= found <= most:
+            raise argparse.ArgumentTypeError(f"{word} is not between {least:,} and {most:,}")
+        return found
+
+    return number
 
 
 def run(words: argparse.Namespace) -> int:
@@ -440,11 +497,17 @@ def run(words: argparse.Namespace) -> int:
         return fail(f"{words.token}: a token has at least {LEAST_TOKEN_BYTES} bytes: 'openssl rand -hex 32' prints one", 2)
     if token is None and not is_loopback(words.host):
         return fail(f"{words.host} can be reached by others: it needs --token FILE", 2)
-    limits = Limits(words.most_body, words.most_waiting, words.most_held, words.client_seconds)
+    files = raised_limit_of_files()
+    connections = words.most_connections or max(1, min(Limits().connections, files - FILES_BESIDE))
+    if connections + FILES_BESIDE > files:
+        return fail(f"--most-connections {connections:,} needs {connections + FILES_BESIDE:,} open files, and the limit is {files:,}", 2)
+    limits = Limits(words.most_body, words.most_waiting, words.most_held, words.client_seconds, connections)
     if limits.held < limits.body:
         return fail(f"--most-held is at least --most-body, which is {limits.body:,}", 2)
+    service = Service(words.path, limits, token, words.read_only)
+    logging.getLogger().addHandler(service.notices)
     try:
-        return asyncio.run(serve(Service(words.path, limits, token, words.read_only), words.host, words.port))
+        return asyncio.run(serve(service, words.host, words.port))
     except Exception as fault:
         return fail(str(fault) or type(fault).__name__, 1)
 
@@ -459,19 +522,22 @@ async def serve(service: Service, host: str, port: int) -> int:
     ended, opened = asyncio.Event(), asyncio.Event()
     for number in (signal.SIGTERM, signal.SIGINT):
         asyncio.get_running_loop().add_signal_handler(number, ended.set)
-    runner = web.AppRunner(service.application(), access_log=None, auto_decompress=False)
+    runner, connections = web.AppRunner(service.application()), service.connections
     engine = asyncio.create_task(service.engine.serve(opened))
     try:
         await first_of(opened.wait(), ended.wait(), engine)
         if not ended.is_set():
             await runner.setup()
-            site = web.TCPSite(runner, host, port, shutdown_timeout=service.limits.seconds)
-            await site.start()
-            address = runner.addresses[0]
-            name = f"[{address[0]}]" if ":" in address[0] else address[0]
-            print(f"betable: {service.engine.path} is served at http://{name}:{address[1]}", flush=True)
+            assert runner.server is not None
+            address, port = await connections.listen(host, port, runner.server)
+            name = f"[{address}]" if ":" in address else address
+            print(f"betable: {service.engine.path} is served at http://{name}:{port}", flush=True)
             await first_of(ended.wait(), engine)
     finally:
+        connections.stop_listening()
+        if runner.server is not None:
+            await runner.shutdown()
+            await runner.server.shutdown(service.limits.seconds)
         await runner.cleanup()
         service.engine.end()
         await asyncio.wait([engine])
