@@ -7,6 +7,7 @@ import tempfile
 from importlib import import_module
 from pathlib import Path
 
+from clients import library
 from common import expect, expect_within, explained, imported, run, run_forked, SECONDS, TABLE, TOP
 from mistakes import MISTAKES
 
@@ -214,6 +215,9 @@ def explain_finds_the_key_that_comes_again():
     expect((status, lines[0]), (1, "line 2: load"))
     expect(lines[1:3], ["  14 DuplicateKey 3: key 1 in line 7 is that of line 4 too", "  14 DuplicateKey 4: key 2 in line 8 is that of line 6 too"])
     expect(lines[3:], ["  14 DuplicateKey 6: key 0 in line 10 is that of line 9 too", "2 commands: 1 answered, 1 refused", "  1 times 14 DuplicateKey"])
+    # More zeros than Python reads.
+    status, lines = explained(f"{TABLE}\nload\nid,city,qty\n1,a,1\n{'0' * 5_000}1,b,2\n.\n")
+    expect((status, lines[1]), (1, "  14 DuplicateKey 2: key 1 in line 5 is that of line 4 too"))
 
 
 def explain_says_what_a_load_wants():
@@ -326,6 +330,7 @@ def explain_warns_of_empty_ranges():
         ("sums primary 1 n", "-1", "-01", equal.format("'to -01'", 8, "write 'to 0'")),
         ("scan primary", "9223372036854775807", "9223372036854775807", equal.format("'to 9223372036854775807'", 8, see)),
         ("scan primary", "10", "9", "comes after 'to 9' of line 8, so the range is empty: exchange the bounds"),
+        ("scan primary", "10", "0" * 5_000 + "9", f"comes after 'to {'0' * 37}…' of line 8, so the range is empty: exchange the bounds"),
         ("scan primary", "1,b", "1,a", "comes after 'to 1,a' of line 8, so the range is empty: exchange the bounds"),
         ("scan primary", "1,b", "1", "comes after 'to 1' of line 8, so the range is empty: exchange the bounds"),
         ("scan by_t", "Oslo", "Oslo", equal.format("'to Oslo'", 8, see)),
@@ -471,6 +476,18 @@ def line_of_item(command, item):
     return next(line.number for line in command.lines if line.word == (b"from", b"to")[item - 1])
 
 
+def what_is_said_of_random_mistakes_is_true():
+    """Of scripts with mistakes at random: a session, tools/explain, the prompt and the server report each refusal, with its line, its name and a reason."""
+    library()
+    # Debian's Python has the modules of the server.
+    ended = subprocess.run(["/usr/bin/python3", TOP / "tools/fuzz/explanations", "--scripts", "300", "--processes", "1"], capture_output=True, timeout=SECONDS)
+    *others, last = ended.stdout.decode().splitlines() or [""]
+    expect((ended.returncode, ended.stderr.decode(), [line for line in others if line.startswith("seed ")]), (0, "", []))
+    print("".join(line + "\n" for line in others), end="")
+    refusals = re.fullmatch(r"300 scripts, ([0-9]+) refusals, 0 faults", last)
+    expect(refusals is not None and int(refusals[1]) > 1_000, True)
+
+
 def records_are_those_of_the_model():
     """Of random CSV texts: the fields of each record, the line in which it begins, and which quotes look broken."""
     language, model = import_module("betable.language"), imported("tools/fuzz/model.py")
@@ -499,6 +516,7 @@ def requoted(raw, language):
 
 TESTS_OF_TEXTS = [
     reasons_are_those_of_the_model,
+    what_is_said_of_random_mistakes_is_true,
     records_are_those_of_the_model,
 ]
 
@@ -538,3 +556,4 @@ TESTS = [
     explain_finds_one_upsert_of_60000,
     explain_knows_the_language_of_the_program,
 ]
+BUILDS = [library]

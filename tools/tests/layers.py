@@ -1,16 +1,19 @@
 """Tests of tables among shards and on replicas: what they reply is what one session replies, byte for byte. tools/crash has the same at length.
 
-Replicas are tested over a log in this process, and with their processes killed over redis-server and PostgreSQL, and shards over Dask too. Where one of these
-is not installed a line says so, and what needs it passes without a look. Debian's modules are those of /usr/bin/python3, which runs these tests."""
+Replicas are tested over a log in this process, and over redis-server and PostgreSQL, with their processes killed and by server_logs.py, and shards over Dask
+too. Where one of these is not installed a line says so, and what needs it passes without a look. Debian's modules are those of /usr/bin/python3, which runs
+these tests."""
 
 import os
 import pickle
 import re
 import shutil
+import signal
 import subprocess
 import sys
 import tempfile
-from functools import cache
+from functools import cache, partial
+from hashlib import sha256
 from pathlib import Path
 
 from clients import library
@@ -170,6 +173,42 @@ def a_killed_shard_loses_the_table():
         expect(type_of_fault(lambda: table.replies("get 1\n")), package.sharded.ShardLost)
 
 
+def a_shard_that_hangs_loses_the_table():
+    """Its process is stopped: it takes no more of a script that is longer than the pipe to it, or gives no reply. A durable table makes its shards again."""
+    package = betable()
+    for wrong in (0, -1, 1.9, float("inf"), float("nan")):
+        expect(type_of_fault(lambda wrong=wrong: package.shards.ProcessShard(patience=wrong)), ValueError)
+    shards = [package.shards.ProcessShard(patience=4) for _ in range(2)]
+    with package.sharded.Sharded(shards, [(10,)]) as table:
+        table.replies(TABLE)
+        os.kill(shards[1].process.pid, signal.SIGSTOP)
+        batch = "batch\n" + "put 11,a,1\n" * 400_000 + "end\n"
+        expect(raised(package.sharded.ShardLost, lambda: table.replies(batch)).shard, 1)
+        expect((shards[1].process.returncode, type_of_fault(lambda: table.replies("get 1\n"))), (-signal.SIGKILL, package.sharded.ShardLost))
+    with tempfile.TemporaryDirectory() as folder:
+        made = []
+
+        def make():
+            made.append([package.shards.ProcessShard(patience=4) for _ in range(2)])
+            return package.sharded.Sharded(made[-1], [(10,)])
+
+        with package.open(os.path.join(folder, "table"), make=make) as table:
+            table.replies(TABLE + "batch\nput 1,a,1\nput 11,a,1\nend\n")
+            os.kill(made[0][0].process.pid, signal.SIGSTOP)
+            batch = "batch\nups 1,add,qty,1\nups 11,add,qty,1\nend\nscan primary\ngo\n"
+            expect(type_of_fault(lambda: table.replies(batch)), package.durable.RolledBack)
+            expect(table.replies(batch), b"batch 2\nrow 1,a,2\nrow 11,a,2\nrows 2\n")
+        expect([[shard.process.returncode for shard in shards] for shards in made], [[-signal.SIGKILL, 0], [0, 0]])
+
+
+def a_shard_that_works_for_longer_than_the_patience_is_not_lost():
+    """It gives signs of life meanwhile."""
+    code = "import time; from betable import shard; shard.SIGN_SECONDS = 0.1; shard.Worker.run = lambda *_: time.sleep(6) or b'done'; shard.main()"
+    shard = betable().shards.ProcessShard([sys.executable, "-P", "-c", code], patience=4)
+    expect(shard.call("run", b"")(), b"done")
+    shard.close()
+
+
 def a_durable_table_makes_its_shards_again():
     betable()
     expect(imported("tools/crash/shards").durable_is_equal(2, 3), True)
@@ -199,37 +238,57 @@ class Log:
     """A log in this process, from which scripts can be lost, and which can be out of reach."""
 
     def __init__(self):
-        self.scripts, self.kept, self.trimmed, self.failures = [], None, 0, []
+        self.scripts, self.kept, self.trimmed, self.failures, self.engine = [], None, 0, [], 0
 
     def reach(self):
         if self.failures:
             raise self.failures.pop()
 
-    def append(self, request_id, script, seen, checksum):
+    def open(self, engine):
+        if self.engine == 0 or (self.engine < engine and len(self.scripts) == (self.kept.position if self.kept else 0)):
+            self.engine = engine
+        return self.engine
+
+    def link(self, chain, request_id, script):
+        return betable().logs.linked(lambda text: sha256(text).digest(), chain, request_id, script)
+
+    def chain_at(self, position):
+        return b"" if position == 0 else self.scripts[position - 1].chain if self.trimmed <= position <= len(self.scripts) else None
+
+    def append(self, request_id, script, position, chain, engine):
+        if self.engine != engine or self.chain_at(position) != chain:
+            return None
         known = [entry.position for entry in self.scripts if entry.request_id == request_id]
         if not known:
-            self.scripts.append(betable().logs.Entry(len(self.scripts) + 1, request_id, script, seen, checksum))
+            self.add(request_id, script)
         self.reach()
-        return (known or [len(self.scripts)])[0], not known
+        return (known or [len(self.scripts)])[0]
 
-    def end(self):
+    def add(self, request_id, script):
+        last = len(self.scripts)
+        self.scripts.append(betable().logs.Entry(last + 1, request_id, script, self.link(self.chain_at(last), request_id, script)))
+
+    def end(self, position):
         self.reach()
-        return len(self.scripts)
+        return betable().logs.End(len(self.scripts), self.chain_at(position), self.engine)
 
     def entries(self, first, last):
-        return [entry for entry in self.scripts if self.trimmed < entry.position and first <= entry.position <= last][:2]
+        return self.scripts[max(first, self.trimmed) - 1 : last][:2]
 
     def wait(self, position, seconds):
-        self.scripts.append(betable().logs.Entry(position, "another", b"get 1\n", 0, 0))
+        self.add("another", b"get 1\n")
 
     def checkpoint(self):
         return self.kept
 
-    def keep(self, position, checkpoint):
-        self.kept = position, checkpoint
+    def keep(self, checkpoint):
+        if self.chain_at(checkpoint.position) != checkpoint.chain:
+            return False
+        self.kept = checkpoint
+        return True
 
     def trim(self):
-        self.trimmed = self.kept[0]
+        self.trimmed = self.kept.position
 
     def close(self):
         pass
@@ -299,37 +358,196 @@ def reads_see_what_they_say():
         expect((local.catch_up(1), log.scripts[-1].request_id), (3, "another"))
 
 
-def a_log_that_lost_scripts_is_noticed():
+CALLS = (
+    lambda replica: replica.scan(), lambda replica: replica.catch_up(), lambda replica: replica.put([(9, "x", 9)]),
+    lambda replica: replica.replies("drain primary\n"), lambda replica: replica.once("id", "get 1\n"), lambda replica: replica.checkpoint(),
+)  # fmt: skip
+
+
+def a_replica_whose_scripts_were_lost_stops_and_changes_nothing():
+    """Each of its calls stops it, whether what replaced them has equal replies or others, or is shorter, also if its request id is known."""
     package = betable()
-    diverged = package.replicas.Diverged
+    for new in ([[(2, "b", 2)]] * 3, [[(2, "b", 2), (3, "b", 3)]] * 3, [[(2, "b", 2)]], []):
+        for call in CALLS:
+            log = Log()
+            with package.replicas.Replicas(log) as one, package.replicas.Replicas(log) as two:
+                one.run(TABLE)
+                two.once("id", "get 1\n")
+                one.catch_up()
+                for _ in range(2):
+                    one.put([(1, "lost", 1)])
+                del log.scripts[2:]
+                for rows in new:
+                    two.put(rows)
+                kept = list(log.scripts)
+                fault = raised(package.replicas.Diverged, partial(call, one))
+                expect((fault.position, type_of_fault(partial(call, one)), one.is_lost), (min(len(kept), 4), package.replicas.Diverged, True))
+                expect((log.scripts, log.kept), (kept, None))
+                # The others go on, and so does this one when it is opened again.
+                expect(two.put([(4, "c", 4)]), 1)
+                with package.replicas.Replicas(log) as again:
+                    expect((again.put([(5, "d", 5)]), again.scan()), (1, two.scan()))
+    expect(pickle.loads(pickle.dumps(fault)).position, 2)
 
-    def prepared():
+
+def a_replica_that_has_run_nothing_follows_any_log():
+    """One that was opened on an empty log appends to what others have put there. One of an earlier log stops, however long ago that was."""
+    package, log = betable(), Log()
+    with package.replicas.Replicas(log) as old, package.replicas.Replicas(log) as empty:
+        old.run(TABLE)
+        log.scripts = []
+        with package.replicas.Replicas(log) as new:
+            new.run(TABLE.replace("city", "town"))
+            expect(empty.once("put", "batch\nput 1,a,1\nend\n"), b"batch 1\n")
+            expect((new.scan(), empty.scan()), ([(1, "a", 1)],) * 2)
+        for number in range(20_000):
+            log.add(str(number), b"get 1\n")
+        expect((type_of_fault(old.scan), old.position), (package.replicas.Diverged, 1))
+
+
+def the_checkpoint_of_a_wrong_replica_is_refused():
+    """The log loses scripts after the replica has run the one of its checkpoint."""
+    package = betable()
+
+    class Losing(Log):
+        def keep(self, checkpoint):
+            del self.scripts[1:]
+            for number in range(5):
+                self.add(f"new {number}", b"batch\nput 2,new,1\nend\n")
+            return super().keep(checkpoint)
+
+    log = Losing()
+    with package.replicas.Replicas(log) as one:
+        one.run(TABLE)
+        one.put([(1, "lost", 1)])
+        expect((type_of_fault(one.checkpoint), log.kept), (package.replicas.Diverged, None))
+
+
+def a_damaged_log_opens_again_after_a_checkpoint():
+    """A script or a request id that was changed, or a script that is missing: no replica runs it, and those that have run the right one go on."""
+    package = betable()
+    for change in ({"script": b"batch\nput 1,b,1\nend\n"}, {"request_id": "other"}, {"position": 0}):
         log = Log()
-        return log, package.replicas.Replicas(log), package.replicas.Replicas(log)
+        with package.replicas.Replicas(log) as one, package.replicas.Replicas(log) as two:
+            one.run(TABLE)
+            one.once("id", "batch\nput 1,a,1\nend\n")
+            one.put([(2, "c", 2)])
+            log.scripts[1] = log.scripts[1]._replace(**change)
+            fault = raised(package.logs.UnusableLog, lambda two=two: two.scan())
+            expect((fault.name, two.position, type_of_fault(lambda log=log: package.replicas.Replicas(log))), ("betable", 1, package.logs.UnusableLog))
+            expect_within("script 2 is missing, or was changed", str(pickle.loads(pickle.dumps(fault))))
+            one.checkpoint()
+            with package.replicas.Replicas(log) as new:
+                expect([each.scan() for each in (one, two, new)], [[(1, "a", 1), (2, "c", 2)]] * 3)
 
-    log, one, _ = prepared()
-    one.run(TABLE)
-    one.put([(1, "a", 1)])
-    log.scripts.pop()
-    expect(type_of_fault(one.catch_up), diverged)
-    expect((type_of_fault(lambda: one.put([(1, "a", 1)])), one.is_lost, len(log.scripts)), (diverged, True, 1))
-    log, one, _ = prepared()
-    one.run(TABLE)
-    log.scripts.pop()
-    expect(type_of_fault(lambda: one.once("r", "drain primary\n")), diverged)
-    # The log has lost a script, and another one is in its place: what comes next shows it.
-    log, one, two = prepared()
-    one.run(TABLE)
-    one.put([(1, "a", 1)])
-    log.scripts.pop()
-    two.replies("drain primary\n")
-    two.put([(2, "b", 1)])
-    expect(type_of_fault(one.catch_up), diverged)
-    # What was trimmed without a checkpoint.
-    log, one, two = prepared()
-    one.run(TABLE)
-    log.trimmed = 1
-    expect(type_of_fault(two.catch_up), diverged)
+
+def a_log_that_loses_a_request_at_once_is_asked_again():
+    """It was appended, and the server is started again without it, before the replica reads it; another one may have its place."""
+    package = betable()
+    for new in ([], ["other"]):
+
+        class Losing(Log):
+            lost = 0
+
+            def entries(self, first, last):
+                if self.lost:
+                    del self.scripts[self.lost :]
+                    self.lost = 0
+                    for name in new:
+                        self.add(name, b"get 1\n")
+                return super().entries(first, last)
+
+        log = Losing()
+        with package.replicas.Replicas(log) as one, package.replicas.Replicas(log) as two:
+            one.run(TABLE)
+            two.catch_up()
+            log.lost = 1
+            expect(type_of_fault(lambda: one.once("id", "batch\nput 1,a,1\nend\n")), package.replicas.Unanswered)
+            expect((one.once("id", "batch\nput 1,a,1\nend\n"), one.scan()), (b"batch 1\n", [(1, "a", 1)]))
+            # One that only reads has run none of what is lost.
+            log.lost = 1
+            expect((two.scan(), two.position, type_of_fault(one.scan)), ([], len(log.scripts), package.replicas.Diverged))
+
+
+def a_replica_behind_a_trimmed_log_begins_with_the_checkpoint():
+    """Also if it appends before it reads."""
+    package, log = betable(), Log()
+    with package.replicas.Replicas(log) as one, package.replicas.Replicas(log) as two:
+        one.run(TABLE)
+        two.catch_up()
+        one.put([(1, "a", 1)])
+        one.checkpoint()
+        one.put([(2, "b", 2)])
+        one.trim()
+        expect((log.chain_at(two.position), two.once("id", "batch\nups 1,add,qty,1\nend\nget 1\n")), (None, b"batch 1\nrow 1,a,2\n"))
+        expect((one.scan(), two.position), (two.scan(), 5))
+        # What was trimmed without a later checkpoint is lost.
+        log.trimmed = 6
+        for kept in (None, log.kept, log.kept._replace(position=5)):
+            log.kept = kept
+            expect((type_of_fault(two.scan), type_of_fault(lambda: two.put([(3, "c", 3)]))), (package.logs.UnusableLog,) * 2)
+
+
+def two_engines_are_never_on_one_log():
+    """A newer one takes a log over that is as its checkpoint."""
+    package, log = betable(), Log()
+    unusable, engine = package.logs.UnusableLog, package.replicas.ENGINE
+    try:
+        with package.replicas.Replicas(log) as one, package.replicas.Replicas(log) as two:
+            one.run(TABLE)
+            one.put([(1, "a", 1)])
+            two.catch_up()
+            package.replicas.ENGINE = engine + 1
+            expect_within("close all replicas, and update", str(raised(unusable, lambda: package.replicas.Replicas(log))))
+            expect((type_of_fault(lambda: one.put([(2, "b", 2)])), len(log.scripts), log.engine), (unusable, 2, engine))
+            package.replicas.ENGINE = engine
+            one.checkpoint()
+            one.put([(2, "b", 2)])
+            package.replicas.ENGINE = engine + 1
+            expect(type_of_fault(lambda: package.replicas.Replicas(log)), unusable)
+            package.replicas.ENGINE = engine
+            one.checkpoint()
+            package.replicas.ENGINE = engine + 1
+            with package.replicas.Replicas(log) as new:
+                new.put([(3, "c", 3)])
+                package.replicas.ENGINE = engine
+                last = len(log.scripts)
+                for call in (lambda: package.replicas.Replicas(log), lambda: one.replies("drain primary\n"), lambda: one.once("id", "get 1\n"), two.scan):
+                    expect_within("use a version of this package with that engine", str(raised(unusable, call)))
+                expect((len(log.scripts), log.engine, two.position), (last, engine + 1, 2))
+    finally:
+        package.replicas.ENGINE = engine
+
+
+def a_request_whose_id_the_log_has_lost_is_not_run_again():
+    """All replicas leave it out, those that begin with a checkpoint too, and those that keep no replies since they are large."""
+    package, log, letters = betable(), Log(), betable().replicas.MOST_REPLY_LETTERS
+    add = b"batch\nups 1,add,qty,1\nend\nget 1\n"
+    try:
+        with package.replicas.Replicas(log) as one, package.replicas.Replicas(log, make=lambda: sharded(10)) as two:
+            one.run(TABLE)
+            expect(one.once("id", add), b"batch 1\nrow 1,,1\n")
+            log.add("id", add)
+            log.add("id", b"drain primary\n")
+            expect((one.once("id", add), type_of_fault(lambda: two.once("id", "get 1\n"))), (b"batch 1\nrow 1,,1\n", package.durable.RequestReused))
+            package.replicas.MOST_REPLY_LETTERS = 10
+            one.checkpoint()
+            log.add("id", add)
+            with package.replicas.Replicas(log) as three:
+                expect([each.scan() for each in (one, two, three)], [[(1, "", 1)]] * 3)
+                expect([type_of_fault(lambda each=each: each.once("id", add)) for each in (one, two)], [package.replicas.ReplyForgotten] * 2)
+                expect([list(each._outcomes.found) for each in (one, two)], [list(three._outcomes.found)] * 2)
+    finally:
+        package.replicas.MOST_REPLY_LETTERS = letters
+
+
+def request_ids_that_no_server_takes_are_refused_at_once():
+    package, log = betable(), Log()
+    with package.replicas.Replicas(log) as one:
+        for request_id in ("a\0b", "\ud800", "\xe9" * 501, "a" * 1_001):
+            expect(type_of_fault(lambda request_id=request_id: one.once(request_id, "get 1\n")), ValueError)
+        expect([one.once(request_id, "get 1\n") for request_id in ("", "\xe9" * 500)], [b"refused 3 NoTable\n"] * 2)
+        expect([entry.request_id for entry in log.scripts], ["", "\xe9" * 500])
 
 
 def a_replica_that_fails_begins_again():
@@ -356,6 +574,11 @@ def a_replica_that_fails_begins_again():
         expect((type(fault.__cause__), one.is_lost), (package.OutOfMemory, False))
         expect((one.get(1), len(sessions)), ((1, "a", 1), 2))
         expect(one.once(fault.request_id, "batch\nput 1,a,1\nend\n"), b"batch 1\n")
+        # It is interrupted after it has run a script, and before it has noted that.
+        one._note = interrupt
+        raised(KeyboardInterrupt, lambda: one.replies("batch\nups 1,add,qty,1\nend\n"))
+        del one._note
+        expect(one.get(1), (1, "a", 2))
     expect(type_of_fault(lambda: one.replies("get 1\n")), ValueError)
 
 
@@ -380,14 +603,29 @@ def logs_are_named_by_urls():
 
 
 def replicas_over_redis_are_killed_and_come_back():
-    if is_installed("redis-server", "replicas over Redis are") and has_module("redis", "replicas over Redis are"):
+    if has_redis():
         run("tools/crash/replicas", "redis", "--scripts", "60", "--kills", "5", "--server-kills", "1", "--checkpoints", "2", "--sharded")
 
 
 def replicas_over_postgresql_are_killed_and_come_back():
-    has_server = is_installed("/usr/lib/postgresql", "replicas over PostgreSQL are")
-    if has_server and has_module("psycopg2", "replicas over PostgreSQL are"):
+    if has_postgresql():
         run("tools/crash/replicas", "postgresql", "--scripts", "40", "--kills", "4", "--server-kills", "1", "--checkpoints", "2")
+
+
+def logs_of_redis_notice_what_is_lost():
+    if has_redis():
+        run_checks_of_logs("redis")
+
+
+def logs_of_postgresql_notice_what_is_lost():
+    if has_postgresql():
+        run_checks_of_logs("postgresql")
+
+
+def run_checks_of_logs(log):
+    library()
+    ended = subprocess.run([PYTHON, "-B", TOP / "tools/tests/server_logs.py", log], capture_output=True, text=True, timeout=2 * SECONDS)
+    expect((ended.returncode, ended.stderr), (0, ""))
 
 
 # ---- the page ----
@@ -420,6 +658,10 @@ def printed(program, wanted):
 # ---- what tests share ----
 
 
+def interrupt(*_):
+    raise KeyboardInterrupt
+
+
 def raised(kind, call):
     """The exception of a kind that a call raises."""
     try:
@@ -427,6 +669,14 @@ def raised(kind, call):
     except kind as fault:
         return fault
     return expect("no fault", kind.__name__)
+
+
+def has_redis():
+    return is_installed("redis-server", "replicas over Redis are") and has_module("redis", "replicas over Redis are")
+
+
+def has_postgresql():
+    return is_installed("/usr/lib/postgresql", "replicas over PostgreSQL are") and has_module("psycopg2", "replicas over PostgreSQL are")
 
 
 def is_installed(tool, what):
@@ -459,18 +709,30 @@ TESTS_OF_TEXTS = [
     bounds_are_keys_of_the_table,
     calls_on_shards_are_those_of_a_session,
     a_killed_shard_loses_the_table,
+    a_shard_that_hangs_loses_the_table,
+    a_shard_that_works_for_longer_than_the_patience_is_not_lost,
     a_durable_table_makes_its_shards_again,
     shards_are_started_by_a_command,
     shards_are_actors_of_dask,
     replicas_reply_as_one_session_does,
     requests_are_run_once,
     reads_see_what_they_say,
-    a_log_that_lost_scripts_is_noticed,
+    a_replica_whose_scripts_were_lost_stops_and_changes_nothing,
+    a_replica_that_has_run_nothing_follows_any_log,
+    the_checkpoint_of_a_wrong_replica_is_refused,
+    a_damaged_log_opens_again_after_a_checkpoint,
+    a_log_that_loses_a_request_at_once_is_asked_again,
+    a_replica_behind_a_trimmed_log_begins_with_the_checkpoint,
+    two_engines_are_never_on_one_log,
+    a_request_whose_id_the_log_has_lost_is_not_run_again,
+    request_ids_that_no_server_takes_are_refused_at_once,
     a_replica_that_fails_begins_again,
     replicas_may_have_shards,
     logs_are_named_by_urls,
     replicas_over_redis_are_killed_and_come_back,
     replicas_over_postgresql_are_killed_and_come_back,
+    logs_of_redis_notice_what_is_lost,
+    logs_of_postgresql_notice_what_is_lost,
     programs_of_the_page_print_what_they_say,
 ]
 TESTS = []

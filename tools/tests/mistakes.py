@@ -4,7 +4,7 @@ from common import TABLE
 
 LONG = "x" * 250
 FORM = {line.split()[0]: f"the form: {line}" for line in (
-    "table F C L K name:kind ..", "get record", "scan NAME", "sums NAME G COLUMN", "build NAME N", "drop NAME", "image NAME",
+    "table F C L K name:kind ..", "batch", "load", "get record", "scan NAME", "sums NAME G COLUMN", "build NAME N", "drop NAME", "image NAME",
     "index NAME on LIST [include LIST] [where COLUMN OP record]",
 )}  # fmt: skip
 
@@ -68,6 +68,9 @@ MISTAKES = [
      "G is the number of columns of a group. By qty: 'sums by_qty 1 COLUMN'"),
     ("sums primary city qty\ngo", "'city' is no number: G has 1 to 9 digits", FORM["sums"],
      "G is the number of columns of a group. By city: 'index by_city on city include qty', 'build by_city 999999999', 'sums by_city 1 qty'"),
+    ("sums\ngo", "NAME is missing: the rows are 'primary', and an index has its own name", "G is missing", "COLUMN is missing", FORM["sums"]),
+    (b"sums primary city \xff\ngo", "'city' is no number: G has 1 to 9 digits", "'\\xff' is no name: a name has only a to z, 0 to 9 and _", FORM["sums"],
+     "G is the number of columns of a group. By city: 'index by_city on city include COLUMN', 'build by_city 999999999', 'sums by_city 1 COLUMN'"),
     ("sums primary id qty\ngo", "'id' is no number: G has 1 to 9 digits", FORM["sums"], "G is the number of columns of a group. By id: 'sums primary 1 qty'"),
     ("sums primary 0 qty\ngo", "15 NoSuchColumn: G is 0, and from 1 to 1: the key of primary is id; for all rows see docs/HOW_TO.md, A grand total"),
     ("sums primary 1 qty from 1 to 5\ngo",
@@ -87,6 +90,10 @@ MISTAKES = [
      "'limit' is one word too many: a scan has no limit; bounds keep it short, and head and tail take some of the replies", FORM["scan"]),
     ("scan primary where qty > 5\ngo", f"'where' is one word too many: {CONDITION}", FORM["scan"]),
     ("scan primary order by qty\ngo", f"'order' is one word too many: {ORDER}", FORM["scan"]),
+    ("batch \t\nput 5,a,1\nend", "'→' is one word too many", FORM["batch"]),
+    ("load \t\n.", "'→' is one word too many", FORM["load"]),
+    ("scan primary\t\ngo", "'primary→' is no name: a name has only a to z, 0 to 9 and _", FORM["scan"]),
+    ("drop\tindex", "a tab follows 'drop', where a space belongs"),
     ("scan primary;\ngo", "'primary;' ends with a semicolon, which no line has: write 'primary'", FORM["scan"]),
     ("build by_qty 5;", "'5;' is no number: N has 1 to 9 digits and a line no semicolon", FORM["build"]),
     ("drop index by_qty", "'by_qty' is one word too many: write 'drop by_qty'", FORM["drop"]),

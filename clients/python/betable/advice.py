@@ -4,7 +4,8 @@ import re
 from typing import Any, Iterator
 
 from .language import (
-    BLOCK_WORDS, CLOSING, FORMS, GREATEST_INT, NULL_WORDS, Command, Line, Table, any_of, counted, fields, printed_record, record_of_line, visible,
+    BLOCK_WORDS, CLOSING, FORMS, GREATEST_INT, NAME, NULL_WORDS, Command, Line, Table, any_of, counted, fields, int_of, printed_record, record_of_line,
+    visible,
 )  # fmt: skip
 
 # ---- words of other languages ----
@@ -65,7 +66,7 @@ def reason_for_more_words(line: Line, words: list[bytes]) -> str:
             return f"{shown}: bounds are lines of their own before 'go', {', then '.join(bounds_among(words))}"
         advice = {b"limit": LIMIT, b"top": LIMIT, b"where": CONDITION, b"order": ORDER, b"asc": ORDER, b"desc": ORDER}.get(first)
         return f"{shown}: {advice or 'bounds are lines of their own before ' + repr('go') + ', as ' + repr('from ' + visible(words[0], 40))}"
-    kind = line.text.split()[1]
+    kind = line.words[1]
     if line.word == b"drop" and kind in (b"table", b"index"):
         return f"{shown}: {'write ' + repr('drop ' + visible(words[0].rstrip(b';'), 40)) if kind == b'index' else 'a run has one table, and ends with it'}"
     return shown
@@ -111,10 +112,11 @@ def advice_for_get(head: Line, table: Table) -> str | None:
 
 def advice_for_sums(head: Line, table: Table) -> str | None:
     """The sums that were meant by a column for a group in place of a number of columns."""
-    _, tree, group, *column = [*head.text.split(), b"COLUMN"][:4]
-    if group not in table.names or not table.has_tree(tree):
+    words = head.words
+    if len(words) < 3 or not table.has_tree(words[1]) or words[2] not in table.names:
         return None
-    number, name = (column or [b"COLUMN"])[0].decode(), group.decode()
+    tree, group, name = words[1], words[2], words[2].decode()
+    number = words[3].decode() if len(words) > 3 and NAME.fullmatch(words[3]) else "COLUMN"
     trees = [tree, *table.indexes]
     there = next((tree.decode() for tree in trees if table.key_of(tree)[0][0] == group), None)
     lines = [f"'sums {there or 'by_' + name} 1 {number}'"]
@@ -145,13 +147,13 @@ def single_quotes(command: Command) -> Iterator[str]:
 def value_of(kind: bytes, field: bytes) -> Any:
     """A value that orders as keys do."""
     if kind == b"int":
-        return int(field)
+        return int_of(field)
     return field.lower() == b"true" if kind == b"flag" else bytes.fromhex(field.decode()) if kind == b"bytes" else field
 
 
 def empty_ranges(command: Command, table: Table | None) -> Iterator[str]:
     """A warning of bounds between which there is no key."""
-    lines, words = {line.word: line for line in command.messages()}, command.head.text.split()
+    lines, words = {line.word: line for line in command.messages()}, command.head.words
     if table is None or {b"from", b"to"} - lines.keys() or not table.has_tree(words[1]):
         return
     key = table.key_of(words[1])

@@ -416,7 +416,8 @@ def _shown_condition(index: language.Index, kinds: dict[bytes, bytes]) -> tuple[
     if index.condition is None:
         return None
     column, operator, constant = index.condition
-    return column.decode(), operator.decode(), VALUES[kinds[column].decode()](constant.decode())
+    kind = kinds[column]
+    return column.decode(), operator.decode(), VALUES[kind.decode()](language.KINDS[kind].printed(constant).decode())
 
 
 def _refuse_gzip(start: bytes, path: str | os.PathLike[str]) -> None:
@@ -473,7 +474,7 @@ def note(state: State, command: Command, reply: bytes) -> None:
 def note_unanswered(state: State, command: Command) -> None:
     """Takes the first command without a reply, after a run that ran out of memory, into a state. It may have been carried out, so a table or an index that it
     would make counts as made: if it was not, the library refuses each command on it."""
-    words = command.head.text.split()
+    words = command.head.words
     if head_faults(command.head):
         return
     if words[0] == b"table" and state.table is None:

@@ -4,7 +4,7 @@ import re
 from itertools import chain, islice
 from typing import Iterable, Iterator
 
-from .forms import head_faults, no_block_word, record_reasons, spelled, words_of
+from .forms import head_faults, no_block_word, record_reasons, spelled
 from .language import (
     any_of, BLOCK_WORDS, BUFFERS, BUFFERS_IN_BYTES, Columns, Command, counted, FANOUTS, FIELD, fields, FORMS, index_of, INT_OPERATIONS, KINDS, LEAVES, Line,
     MARK, matched, MOST_COLUMNS, MOST_INCLUDED, MOST_INDEXES, MOST_KEY_COLUMNS, MOST_MESSAGES, MOST_ON, MOST_OPERATIONS, OPERATIONS, PRIMARY, printed_field,
@@ -310,7 +310,7 @@ def bound_faults(command: Command, state: State) -> Iterator[Fault]:
     """The faults of the bounds of a scan or of sums."""
     words = BLOCK_WORDS[command.head.word]
     numbers: dict[bytes, int] = {}
-    tree = (words_of(command.head)[1:2] or [b""])[0]
+    tree = (command.head.words[1:2] or [b""])[0]
     for line in command.messages():
         if line.word not in words:
             yield Fault(no_block_word(line, command.head.word), line=line.number)
@@ -349,7 +349,7 @@ def get_faults(command: Command, table: Table) -> list[Fault]:
 
 def sums_faults(command: Command, state: State) -> Iterator[Fault]:
     """Why the tree does not have the columns of sums."""
-    _, tree, count, name = words_of(command.head)
+    _, tree, count, name = command.head.words
     if not state.table or not state.table.has_tree(tree):
         return
     key, columns = state.table.key_of(tree), dict(state.table.columns_of(tree))
@@ -364,7 +364,7 @@ def sums_faults(command: Command, state: State) -> Iterator[Fault]:
 
 def index_faults(command: Command, table: Table) -> Iterator[Fault]:
     """Why an index cannot be made."""
-    index, name = index_of(command.head), words_of(command.head)[1]
+    index, name = index_of(command.head), command.head.words[1]
     if name == PRIMARY or name in table.indexes:
         owner = "the tree of rows" if name == PRIMARY else f"the index of line {table.indexes[name].line.number}"
         yield Fault(f"'{name.decode()}' is the name of {owner}. Choose another, or drop that index first")
@@ -386,7 +386,7 @@ def index_faults(command: Command, table: Table) -> Iterator[Fault]:
 
 def table_faults(command: Command) -> Iterator[Fault]:
     """Why a table cannot have these columns, or this shape."""
-    words = words_of(command.head)
+    words = command.head.words
     names, key = [word.split(b":")[0] for word in words[5:]], int(words[4])
     if len(names) > MOST_COLUMNS:
         yield Fault(f"{len(names)} columns, and a table has at most {MOST_COLUMNS}")
@@ -405,7 +405,7 @@ def table_faults(command: Command) -> Iterator[Fault]:
 
 def tree_faults(command: Command, table: Table, refused: dict[bytes | None, Line]) -> Iterator[Fault]:
     """Why a tree is not there, or not complete."""
-    name = words_of(command.head)[1]
+    name = command.head.words[1]
     text = f"'{name.decode()}'"
     if name == PRIMARY:
         yield Fault(f"{text} is the tree of rows, which is not built or dropped")

@@ -6,8 +6,8 @@ from typing import Iterable
 
 from .advice import instead_of, reason_for_more_words
 from .language import (
-    BLOCK_WORDS, BUFFER, CLOSING, FORMS, KINDS, Line, MARK, MOST_DIGITS, MOST_NAME_BYTES, NAME, NUMBER, OPERATORS, any_of, fault_of_int, fields, record_of_line,
-    visible,
+    BLOCK_WORDS, BUFFER, CLOSING, FORMS, KINDS, Line, MARK, MOST_DIGITS, MOST_NAME_BYTES, NAME, NUMBER, OPERATORS, any_of, fault_of_int, fields, int_of,
+    record_of_line, visible,
 )  # fmt: skip
 
 TAB = b"\t"
@@ -61,16 +61,12 @@ OF_TREES = (b"scan", b"sums", b"image", b"drain", b"rebuild")
 ALL_ROWS = ": the rows are 'primary', and an index has its own name"
 
 
-def words_of(line: Line) -> list[bytes]:
-    return [word for word in line.text.split(b" ") if word]
-
-
 def head_faults(line: Line) -> list[str]:
     """Why a line is no command, in reasons."""
     if line.word not in FORMS:
         return [no_command(line)]
     if line.word == b"table":
-        return table_word_faults(words_of(line)[1:])
+        return table_word_faults(line.words[1:])
     if line.word == b"index":
         return index_word_faults(line)
     if line.word == b"get":
@@ -86,7 +82,7 @@ def record_reasons(line: Line) -> list[str]:
 
 
 def fixed_word_faults(line: Line) -> list[str]:
-    names, words = FIXED_WORDS[line.word], words_of(line)[1:]
+    names, words = FIXED_WORDS[line.word], line.words[1:]
     found = [number_fault(word, name) if name in ("N", "G") else name_fault(word) for name, word in zip(names, words)]
     found += [f"{name} is missing{ALL_ROWS if name == 'NAME' and line.word in OF_TREES else ''}" for name in names[len(words) :]]
     if len(words) > len(names):
@@ -160,7 +156,7 @@ def column_fault(word: bytes) -> str | None:
 
 def index_word_faults(line: Line) -> list[str]:
     """Why the words are no index: each part, up to the first that is missing."""
-    words = words_of(line)[1:]
+    words = line.words[1:]
     if not words:
         return ["NAME is missing"]
     found = [name_fault(words[0])]
@@ -206,7 +202,7 @@ def where_faults(line: Line, words: list[bytes]) -> list[str | None]:
     if len(words) == 1:
         return [*found, "OP and the record are missing: an operator is =, < or >="]
     if words[1] not in OPERATORS:
-        number = int(words[2]) if len(words) == 3 and fault_of_int(words[2]) is None else None
+        number = int_of(words[2]) if len(words) == 3 and fault_of_int(words[2]) is None else None
         following = {b">": f"of ints '> {number}' is '>= {(number or 0) + 1}'", b"<=": f"of ints '<= {number}' is '< {(number or 0) + 1}'"}.get(words[1])
         advice = f"; {following}" if following and number is not None else ""
         return [*found, f"'{visible(words[1], 40)}' is no operator: =, < or >={advice}"]

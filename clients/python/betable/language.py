@@ -124,11 +124,17 @@ def fault_of_int(field: bytes) -> str | None:
         return reason_for_no_number(field)
     is_negative = field.startswith(b"-")
     # Thirty digits are too many in any case, and a field may have millions.
-    size = int(digits.lstrip(b"0")[:30] or b"0")
+    size = int_of(digits.lstrip(b"0")[:30])
     if size <= (-LEAST_INT if is_negative else GREATEST_INT):
         return None
     limit = f"below the smallest int, {LEAST_INT}" if is_negative else f"over the largest int, {GREATEST_INT}"
     return f"'{visible(field, 40)}' is {limit}"
+
+
+def int_of(field: bytes) -> int:
+    """The value of an int. A field may have any number of zeros, and Python reads at most 4,300 digits."""
+    size = int(field.removeprefix(b"-").lstrip(b"0") or b"0")
+    return -size if field.startswith(b"-") else size
 
 
 # Words that other programs write for no value, and those of them that may also be texts.
@@ -218,7 +224,7 @@ class Kind:
 
 # Bytes of a text need not be UTF-8: `text_pattern` says of a block which are surely texts.
 KINDS = {
-    b"int": Kind("int", fault_of_int, lambda field: b"%d" % int(field), rb"-?[0-9]{1,18}", rb"(?:0|-?[1-9][0-9]{0,17})"),
+    b"int": Kind("int", fault_of_int, lambda field: b"%d" % int_of(field), rb"-?[0-9]{1,18}", rb"(?:0|-?[1-9][0-9]{0,17})"),
     b"text": Kind("text", fault_of_text, lambda field: field, rb"[a-z]{0,255}", rb'[^",\r\n]*'),
     b"flag": Kind("flag", fault_of_flag, lambda field: field.lower(), rb"(?i:true|false)", rb"(?:true|false)"),
     b"bytes": Kind("bytes", fault_of_bytes, lambda field: field.lower(), rb"(?:[0-9a-fA-F]{2}){0,255}", rb"(?:[0-9a-f]{2})*"),
@@ -390,10 +396,15 @@ class Line:
         self.text = raw.removesuffix(b"\r").lstrip(b" ")
         self.word = self.text.partition(b" ")[0]
 
+    @cached_property
+    def words(self) -> list[bytes]:
+        """Its words, as the engine divides a line: by spaces, and by no other byte. The first one is `word`."""
+        return [word for word in self.text.split(b" ") if word]
+
     def begins_command(self) -> bool:
         """Whether it has the first word of a command, and as many words."""
         least, most = WORDS.get(self.word, (1, 0))
-        return least <= sum(1 for word in self.text.split(b" ", 100) if word) <= most
+        return least <= len(self.words) <= most
 
     @property
     def rest(self) -> bytes | None:
@@ -476,7 +487,7 @@ class Table:
     """The table that a script has made so far, with the line that made it."""
 
     def __init__(self, line: Line) -> None:
-        words = line.text.split()
+        words = line.words
         self.line, self.key_length = line, int(words[4])
         self.columns: Columns = [(name, kind) for name, _, kind in (word.partition(b":") for word in words[5:])]
         # By their names; of those that were dropped the lines that did it.
@@ -528,7 +539,7 @@ class State:
         word = command.head.word
         if word not in ANSWERS or not answer or not answer[0].startswith((ANSWERS[word], b"refused ")):
             return
-        words = command.head.text.split()
+        words = command.head.words
         name = (words[1:2] or [b""])[0]
         if answer[0].startswith(b"refused "):
             if word in (b"table", b"index"):

@@ -120,7 +120,7 @@ def _rows(word: bytes, lines: list[str], kinds: Sequence[str]) -> list[tuple[Val
 
 def kinds_of_rows(state: State, command: Command) -> tuple[str, ...]:
     """The kinds of the columns that the rows of a command's reply have. Empty where the tree is unknown, or the command has another form."""
-    words = command.head.text.split()
+    words = command.head.words
     table, word = state.table, command.head.word
     if table is None or word not in ROW_WORDS:
         return ()

@@ -5,17 +5,22 @@ from __future__ import annotations
 import os
 import signal
 import sys
+import time
+from contextlib import suppress
+from threading import Lock, Thread
 from typing import IO
 
 from .errors import OutOfMemory
-from .shards import Worker, read_frame, write_frame
+from .shards import SIGN_SECONDS, WORKING, Worker, read_frame, write_frame
 
 
 def serve(requests: IO[bytes], replies: IO[bytes]) -> None:
     """Carries out the operations that are read from one stream, and writes each outcome to the other."""
-    worker = Worker()
+    worker, outcomes = Worker(), Outcomes(replies)
+    Thread(target=outcomes.give_signs, daemon=True).start()
     while frame := read_frame(requests):
         operation, arguments = frame
+        outcomes.is_working = True
         try:
             if operation not in Worker.OPERATIONS:
                 raise ValueError(f"{operation} is no operation of a shard")
@@ -24,8 +29,28 @@ def serve(requests: IO[bytes], replies: IO[bytes]) -> None:
             outcome, text = "out_of_memory", b""
         except Exception as fault:
             outcome, text = "failed", f"{type(fault).__name__}: {fault}".encode()
-        write_frame(replies, outcome, [text])
+        outcomes.write(outcome, text)
     worker.close()
+
+
+class Outcomes:
+    """The stream of outcomes, on which a thread gives signs of life while an operation is carried out. The calls of the library let this thread run."""
+
+    def __init__(self, stream: IO[bytes]) -> None:
+        self._stream, self._lock, self.is_working = stream, Lock(), False
+
+    def write(self, outcome: str, text: bytes) -> None:
+        with self._lock:
+            self.is_working = False
+            write_frame(self._stream, outcome, [text])
+
+    def give_signs(self) -> None:
+        with suppress(OSError):
+            while True:
+                time.sleep(SIGN_SECONDS)
+                with self._lock:
+                    if self.is_working:
+                        write_frame(self._stream, WORKING, [])
 
 
 def main() -> int:

@@ -24,8 +24,7 @@ from typing import NamedTuple
 
 from .calls import Calls, as_script, note
 from .errors import OutOfMemory
-from .forms import words_of
-from .language import ANSWERS, KINDS, MARK, MOST_MESSAGES, PRIMARY, Command, State, Table, commands, counted, fields, logical_lines
+from .language import ANSWERS, KINDS, MARK, MOST_MESSAGES, PRIMARY, Command, State, Table, commands, counted, fields, int_of, logical_lines
 from .rows import FIELDS, Value
 from .shards import Shard
 
@@ -214,7 +213,7 @@ class Sharded(Calls):
 
     def _build(self, table: Table, command: Command) -> bytes:
         """Of a step the first shard that is not complete reads the first rows, and if that completes it, the next one the rest."""
-        name, words = second_word(command), words_of(command.head)
+        name, words = second_word(command), command.head.words
         if name not in self._building or len(words) != 3:
             return self._of_one(command)
         script, number, count = script_of(command), 0, 0
@@ -234,7 +233,7 @@ class Sharded(Calls):
         return b"build %b %d %b\n" % (name, count, reply.split()[3])
 
     def _image(self, table: Table, command: Command) -> bytes:
-        if len(words_of(command.head)) == 2 and table.has_tree(name := second_word(command)):
+        if len(command.head.words) == 2 and table.has_tree(name := second_word(command)):
             raise NotSharded(f"image {name.decode()}: the shards have trees of their own, and not one")
         return self._of_one(command)
 
@@ -273,7 +272,7 @@ class Sharded(Calls):
     # ---- batches and loads ----
 
     def _batch(self, table: Table, command: Command) -> bytes:
-        if words_of(command.head) != [b"batch"]:
+        if command.head.words != [b"batch"]:
             return self._of_one(command)
         # Most lines begin with a letter; the others may be blank.
         lines = [line for line in command.block.split(b"\n") if line >= b"!" or line.removesuffix(b"\r").strip(b" ")]
@@ -329,7 +328,7 @@ class Sharded(Calls):
             self._rows_known = Rows.SOME
 
     def _load(self, table: Table, command: Command) -> bytes:
-        if words_of(command.head) != [b"load"]:
+        if command.head.words != [b"load"]:
             return self._of_one(command)
         header, *records = [raw for _, raw in command.records()] or [b""]
         places = [self._shard_of(table, fields(record)) for record in records]
@@ -417,13 +416,6 @@ class Sharded(Calls):
 # ---- values and keys ----
 
 
-def int_of(field: bytes) -> int:
-    # Python reads at most 4,300 digits, and a field may have any number of zeros.
-    digits = field.removeprefix(b"-")
-    number = int(digits.lstrip(b"0") or b"0")
-    return -number if field.startswith(b"-") else number
-
-
 Values = dict[bytes, Callable[[bytes], int | bool | bytes]]
 # By kind: a value that is ordered as the kind is. A field that is no value may have one, and is refused by any shard.
 VALUES: Values = {
@@ -482,7 +474,7 @@ def record_of(line: bytes) -> bytes:
 
 
 def second_word(command: Command) -> bytes:
-    words: list[bytes] = words_of(command.head)
+    words = command.head.words
     return words[1] if len(words) > 1 else b""
 
 

@@ -192,7 +192,7 @@ class Shell:
         """Shows a reply: rows as a table, and others as they are."""
         word = command.head.word
         if word in ROW_WORDS:
-            for line in table_of_reply(word, command.head.text.split(), reply, state, self.most_rows):
+            for line in table_of_reply(word, command.head.words, reply, state, self.most_rows):
                 print(line)
             print(f"{count_of_reply(word, reply)}{time_taken}")
             return

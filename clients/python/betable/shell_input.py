@@ -102,14 +102,14 @@ def completions(before: str, state: State, block: bytes | None, dot_commands: It
     columns = _texts(table.names) if table else []
     indexes = _texts(table.indexes) if table else []
     trees = [PRIMARY.decode(), *indexes] if table else []
-    words = before.split()
+    words = [word for word in before.split(" ") if word]
     if block is not None:
         if not words:
             return _texts([*BLOCK_WORDS.get(block, ()), CLOSING[block]])
         return [*_texts(OPERATIONS), *columns] if words[0] == "ups" and "," in before else []
     if not words:
         return [*_texts(FORMS), *dot_commands]
-    word, place = words[0].encode(), len(words)
+    word, place = words[0].encode(errors="surrogateescape"), len(words)
     if word.startswith(b"."):
         return _after_dot_command(words, trees)
     if word in TREE_COMMANDS and place == 1:
