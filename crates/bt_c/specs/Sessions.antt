@@ -1,5 +1,5 @@
 -- The session of a handle, before and after a call.
-use Rattle.std.specs.Prelude.{ℕ, ◌≡◌, Bool, true, false, List, Option, Some, None, Result, Err}
+use Rattle.std.specs.Prelude.{ℕ, ◌≡◌, Bool, true, false, List, [], Option, Some, None, Result, Err}
 use Rattle.std.specs.Option.{MatchOption}
 use Rattle.bt_value.specs.Refusals.{number_of}
 use Rattle.bt_value.specs.declared.refusal.Refusal.TheVariants.{NoTable}
@@ -71,6 +71,10 @@ fault_of fault = record { refusal = number_of fault.refusal; item = fault.item; 
 -- an answer is this fault, which C sees, and it is not that memory ran out
 abbrev pub IsFault : {T : Type 0} → Result T Fault → FaultInC → Type 0
 IsFault answer seen = (fault : Fault) × (answer ≡ Err fault) × (seen ≡ fault_of fault)
+
+-- a session has no places of replies and no refused commands
+abbrev pub IsUnmarked : Session → Type 0
+IsUnmarked session = (session.refused ≡ 0) × (session.marks.items ≡ [])
 
 -- a session keeps its table, or has lost it
 abbrev pub StaysOrIsLostIn : Session → Session → Type 0

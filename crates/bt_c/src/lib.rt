@@ -22,7 +22,7 @@ ghost use Rattle.bt_table.specs.Standing.{CompleteIndexesHold, IsSoundUnlessLost
 ghost use Rattle.bt_table.specs.Tables.{Lost};
 ghost use Rattle.bt_packed.specs.Calls.{got, packed_page, told_columns, told_sums, told_usage};
 ghost use Rattle.bt_c.specs.Replies.{checked_marks, marks_of, reply_at};
-ghost use Rattle.bt_c.specs.Sessions.{IsFault, StaysOpen, StaysOrIsLostIn, answer_of, applied_to, asked, code_of, fault_of, is_lost, session_of};
+ghost use Rattle.bt_c.specs.Sessions.{IsFault, IsUnmarked, StaysOpen, StaysOrIsLostIn, answer_of, applied_to, asked, code_of, fault_of, is_lost, session_of};
 ghost use Rattle.bt_c.specs.declared.status.Status.TheVariants as status;
 
 mod fault;
@@ -169,6 +169,8 @@ fn answered(
     ensures done { result ≡ code_of status.Done → StaysOpen handle.old handle.new (λ old new. asked (answer_of question) old.table bytes.now ≡ Ok new.text.items) }
     ensures refused { result ≡ code_of status.Refused → StaysOpen handle.old handle.new (λ old _. IsFault (asked (answer_of question) old.table bytes.now) fault.new) }
     ensures unanswered { result ≢ code_of status.Done → IfSome (session_of handle.new) (λ session. session.text.items ≡ []) }
+    ensures unmarked { IfSome (session_of handle.new) IsUnmarked }
+    ensures certain { IfSome (session_of handle.old) (λ session. session.table ≡ None → result ≡ code_of status.Refused) }
     ensures table { is_some (session_of handle.old) ≡ true → StaysOpen handle.old handle.new (λ old new. new.table ≡ old.table) }
 {
     let Some(mut session) = handle.take(alloc) else {
@@ -196,6 +198,8 @@ pub extern "C" fn betable_apply(
     ensures refused { result ≡ code_of status.Refused → StaysOpen handle.old handle.new (λ old new. IsFault (applied_to old.table changes.now) fault.new × (new.table ≡ old.table)) }
     ensures memory { result ≡ code_of status.OutOfMemory → StaysOpen handle.old handle.new StaysOrIsLostIn }
     ensures unanswered { IfSome (session_of handle.new) (λ session. session.text.items ≡ []) }
+    ensures unmarked { IfSome (session_of handle.new) IsUnmarked }
+    ensures certain { IfSome (session_of handle.old) (λ session. session.table ≡ None → result ≡ code_of status.Refused) }
     ensures sound { IfSome (session_of handle.new) (λ session. IfSome session.table IsSoundUnlessLost) }
     ensures complete { IfSome (session_of handle.new) (λ session. IfSome session.table CompleteIndexesHold) }
 {
@@ -220,6 +224,8 @@ pub extern "C" fn betable_get(
     ensures done { result ≡ code_of status.Done → StaysOpen handle.old handle.new (λ old new. asked got old.table key.now ≡ Ok new.text.items) }
     ensures refused { result ≡ code_of status.Refused → StaysOpen handle.old handle.new (λ old _. IsFault (asked got old.table key.now) fault.new) }
     ensures unanswered { result ≢ code_of status.Done → IfSome (session_of handle.new) (λ session. session.text.items ≡ []) }
+    ensures unmarked { IfSome (session_of handle.new) IsUnmarked }
+    ensures certain { IfSome (session_of handle.old) (λ session. session.table ≡ None → result ≡ code_of status.Refused) }
     ensures table { is_some (session_of handle.old) ≡ true → StaysOpen handle.old handle.new (λ old new. new.table ≡ old.table) }
 {
     answered(alloc, handle, Question::Row, key, fault)
@@ -238,6 +244,8 @@ pub extern "C" fn betable_page(
     ensures done { result ≡ code_of status.Done → StaysOpen handle.old handle.new (λ old new. asked packed_page old.table page.now ≡ Ok new.text.items) }
     ensures refused { result ≡ code_of status.Refused → StaysOpen handle.old handle.new (λ old _. IsFault (asked packed_page old.table page.now) fault.new) }
     ensures unanswered { result ≢ code_of status.Done → IfSome (session_of handle.new) (λ session. session.text.items ≡ []) }
+    ensures unmarked { IfSome (session_of handle.new) IsUnmarked }
+    ensures certain { IfSome (session_of handle.old) (λ session. session.table ≡ None → result ≡ code_of status.Refused) }
     ensures table { is_some (session_of handle.old) ≡ true → StaysOpen handle.old handle.new (λ old new. new.table ≡ old.table) }
 {
     answered(alloc, handle, Question::Page, page, fault)
@@ -256,6 +264,8 @@ pub extern "C" fn betable_sums(
     ensures done { result ≡ code_of status.Done → StaysOpen handle.old handle.new (λ old new. asked told_sums old.table sums.now ≡ Ok new.text.items) }
     ensures refused { result ≡ code_of status.Refused → StaysOpen handle.old handle.new (λ old _. IsFault (asked told_sums old.table sums.now) fault.new) }
     ensures unanswered { result ≢ code_of status.Done → IfSome (session_of handle.new) (λ session. session.text.items ≡ []) }
+    ensures unmarked { IfSome (session_of handle.new) IsUnmarked }
+    ensures certain { IfSome (session_of handle.old) (λ session. session.table ≡ None → result ≡ code_of status.Refused) }
     ensures table { is_some (session_of handle.old) ≡ true → StaysOpen handle.old handle.new (λ old new. new.table ≡ old.table) }
 {
     answered(alloc, handle, Question::Sums, sums, fault)
@@ -274,6 +284,8 @@ pub extern "C" fn betable_columns(
     ensures done { result ≡ code_of status.Done → StaysOpen handle.old handle.new (λ old new. asked told_columns old.table name.now ≡ Ok new.text.items) }
     ensures refused { result ≡ code_of status.Refused → StaysOpen handle.old handle.new (λ old _. IsFault (asked told_columns old.table name.now) fault.new) }
     ensures unanswered { result ≢ code_of status.Done → IfSome (session_of handle.new) (λ session. session.text.items ≡ []) }
+    ensures unmarked { IfSome (session_of handle.new) IsUnmarked }
+    ensures certain { IfSome (session_of handle.old) (λ session. session.table ≡ None → result ≡ code_of status.Refused) }
     ensures table { is_some (session_of handle.old) ≡ true → StaysOpen handle.old handle.new (λ old new. new.table ≡ old.table) }
 {
     answered(alloc, handle, Question::Columns, name, fault)
@@ -292,6 +304,8 @@ pub extern "C" fn betable_usage(
     ensures done { result ≡ code_of status.Done → StaysOpen handle.old handle.new (λ old new. asked told_usage old.table name.now ≡ Ok new.text.items) }
     ensures refused { result ≡ code_of status.Refused → StaysOpen handle.old handle.new (λ old _. IsFault (asked told_usage old.table name.now) fault.new) }
     ensures unanswered { result ≢ code_of status.Done → IfSome (session_of handle.new) (λ session. session.text.items ≡ []) }
+    ensures unmarked { IfSome (session_of handle.new) IsUnmarked }
+    ensures certain { IfSome (session_of handle.old) (λ session. session.table ≡ None → result ≡ code_of status.Refused) }
     ensures table { is_some (session_of handle.old) ≡ true → StaysOpen handle.old handle.new (λ old new. new.table ≡ old.table) }
 {
     answered(alloc, handle, Question::Usage, name, fault)

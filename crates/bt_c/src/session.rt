@@ -6,7 +6,7 @@ ghost use Rattle.bt_shell.specs.Runs.{after_commands, refused_count, replies};
 ghost use Rattle.bt_table.specs.Standing.{CompleteIndexesHold, IsSoundUnlessLost};
 ghost use Rattle.bt_table.specs.Tables.{Lost};
 ghost use Rattle.bt_c.specs.Replies.{checked_marks, marks_of};
-ghost use Rattle.bt_c.specs.Sessions.{StaysOrIsLostIn, answer_of, applied_to, asked, is_lost};
+ghost use Rattle.bt_c.specs.Sessions.{StaysOrIsLostIn, answer_of, applied_to, asked, is_lost, no_table};
 
 use crate::reply::{ReplyMark, ReplyMarks};
 use bt_packed::{
@@ -161,6 +161,7 @@ impl Session {
         ensures done { OnOk result (applied_to self.old.table changes.now ≡ Ok self.new.table) }
         ensures fault { IfErr result (λ fault. fault.refusal ≢ Refusal.OutOfMemory → (applied_to self.old.table changes.now ≡ Err fault) × (self.new.table ≡ self.old.table)) }
         ensures memory { IfErr result (λ fault. fault.refusal ≡ Refusal.OutOfMemory → StaysOrIsLostIn self.old self.new) }
+        ensures certain { self.old.table ≡ None → IsErrOf result no_table }
         ensures text { self.new.text.items ≡ [] }
         ensures refused { self.new.refused ≡ 0 }
         ensures marks { self.new.marks.items ≡ [] }
@@ -190,6 +191,7 @@ impl Session {
     pub fn ask(&mut self, alloc: Global, question: Question, bytes: &[u8]) -> Result<(), Fault>
         ensures done { OnOk result (asked (answer_of question) self.old.table bytes.now ≡ Ok self.new.text.items) }
         ensures fault { IfErr result (λ fault. fault.refusal ≢ Refusal.OutOfMemory → asked (answer_of question) self.old.table bytes.now ≡ Err fault) }
+        ensures certain { self.old.table ≡ None → IsErrOf result no_table }
         ensures no_text { IfErr result (λ _. self.new.text.items ≡ []) }
         ensures table { self.new.table ≡ self.old.table }
         ensures refused { self.new.refused ≡ 0 }

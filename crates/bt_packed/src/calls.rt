@@ -1,8 +1,11 @@
 //! The calls of a table on packed bytes.
-ghost use Rattle.std.specs.Prelude.{◌≡◌, ◌≢◌, Err, IfErr, IfOk, OnOk, Ok};
+ghost use Rattle.std.specs.Prelude.{◌≡◌, ◌≢◌, Err, IfErr, IfOk, IsErrOf, None, OnOk, Ok};
 ghost use Rattle.bt_batch.specs.Changes.{AreOfSchema};
 ghost use Rattle.bt_table.specs.Calls.{StaysOrIsLost};
 ghost use Rattle.bt_table.specs.Standing.{CompleteIndexesHold, IsSoundUnlessLost};
+ghost use Rattle.bt_table.specs.Tables.{Lost};
+ghost use Rattle.bt_value.specs.declared.refusal.Refusal.TheVariants.{Failed};
+ghost use Rattle.bt_packed.specs.Layout.{fault_at, header_at as bytes_header, no_header};
 ghost use Rattle.bt_packed.specs.Calls as spec;
 
 use crate::changes::{key_at, read_changes};
@@ -33,6 +36,7 @@ fn read_messages(alloc: Global, schema: &Schema, bytes: &[u8]) -> Result<Packet<
 /// Applies packed changes in order. If one is refused, none is applied. After `OutOfMemory` the table is as it was, or lost.
 pub fn apply_packed(alloc: Global, table: &mut Table, bytes: &[u8]) -> Result<(), Fault>
     ensures done { OnOk result (spec.applied table.old bytes.now ≡ Ok table.new) }
+    ensures failed { table.old ≡ Lost → IsErrOf result (fault_at Failed 0 0) }
     ensures fault { IfErr result (λ fault. fault.refusal ≢ Refusal.OutOfMemory → (spec.applied table.old bytes.now ≡ Err fault) × (table.new ≡ table.old)) }
     ensures memory { IfErr result (λ fault. fault.refusal ≡ Refusal.OutOfMemory → StaysOrIsLost table.old table.new) }
     ensures complete { CompleteIndexesHold table.new }
@@ -87,6 +91,7 @@ pub fn get_packed(
     room: Vec<u8>,
 ) -> Result<Vec<u8>, Fault>
     ensures done { IfOk result (λ reply. spec.got table.now bytes.now ≡ Ok reply.items) }
+    ensures failed { table.now ≡ Lost → IsErrOf result (fault_at Failed 0 0) }
     ensures fault { IfErr result (λ fault. fault.refusal ≢ Refusal.OutOfMemory → spec.got table.now bytes.now ≡ Err fault) }
 {
     let key = match table.schema() {
@@ -139,6 +144,7 @@ pub fn page_packed(
     room: Vec<u8>,
 ) -> Result<Vec<u8>, Fault>
     ensures done { IfOk result (λ reply. spec.packed_page table.now bytes.now ≡ Ok reply.items) }
+    ensures headless { bytes_header bytes.now ≡ None → IsErrOf result no_header }
     ensures fault { IfErr result (λ fault. fault.refusal ≢ Refusal.OutOfMemory → spec.packed_page table.now bytes.now ≡ Err fault) }
 {
     let Some((limit, rest)) = header_at(bytes) else {
@@ -152,6 +158,7 @@ pub fn page_packed(
 // The name that packed bytes encode.
 fn read_name(alloc: Global, bytes: &[u8]) -> Result<Text, Fault>
     ensures done { IfOk result (λ name. spec.packed_name bytes.now ≡ Ok name) }
+    ensures headless { bytes_header bytes.now ≡ None → IsErrOf result no_header }
     ensures fault { IfErr result (λ fault. fault.refusal ≢ Refusal.OutOfMemory → spec.packed_name bytes.now ≡ Err fault) }
 {
     let Some((1, rest)) = header_at(bytes) else {
@@ -173,6 +180,7 @@ pub fn columns_packed(
     room: Vec<u8>,
 ) -> Result<Vec<u8>, Fault>
     ensures done { IfOk result (λ reply. spec.told_columns table.now bytes.now ≡ Ok reply.items) }
+    ensures headless { bytes_header bytes.now ≡ None → IsErrOf result no_header }
     ensures fault { IfErr result (λ fault. fault.refusal ≢ Refusal.OutOfMemory → spec.told_columns table.now bytes.now ≡ Err fault) }
 {
     let name = read_name(alloc, bytes)?;
@@ -190,6 +198,7 @@ pub fn usage_packed(
     room: Vec<u8>,
 ) -> Result<Vec<u8>, Fault>
     ensures done { IfOk result (λ reply. spec.told_usage table.now bytes.now ≡ Ok reply.items) }
+    ensures headless { bytes_header bytes.now ≡ None → IsErrOf result no_header }
     ensures fault { IfErr result (λ fault. fault.refusal ≢ Refusal.OutOfMemory → spec.told_usage table.now bytes.now ≡ Err fault) }
 {
     let name = read_name(alloc, bytes)?;
@@ -226,6 +235,7 @@ pub fn sums_packed(
     room: Vec<u8>,
 ) -> Result<Vec<u8>, Fault>
     ensures done { IfOk result (λ reply. spec.told_sums table.now bytes.now ≡ Ok reply.items) }
+    ensures headless { bytes_header bytes.now ≡ None → IsErrOf result no_header }
     ensures fault { IfErr result (λ fault. fault.refusal ≢ Refusal.OutOfMemory → spec.told_sums table.now bytes.now ≡ Err fault) }
 {
     let Some((grouping, rest)) = header_at(bytes) else {
