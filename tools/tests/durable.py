@@ -19,7 +19,7 @@ from hashlib import sha256
 from pathlib import Path
 
 from clients import betable, library
-from common import expect, expect_within, fault_of, SECONDS, TOP, type_of_fault
+from common import expect, expect_within, fault_of, imported, SECONDS, TOP, type_of_fault
 
 TABLE = "table 4 3 2 1 id:int city:text qty:int\n"
 ADD = "batch\nups 1,add,qty,1\nend\n"
@@ -706,23 +706,11 @@ def a_log_is_replayed_into_its_own_file_alone():
             expect(table.number, 1)
 
 
-FORMAT_1 = """
-    PRAGMA journal_mode=WAL;
-    CREATE TABLE about(engine INTEGER NOT NULL, number INTEGER NOT NULL, checksum INTEGER NOT NULL, rollbacks INTEGER NOT NULL);
-    CREATE TABLE checkpoint(part INTEGER PRIMARY KEY, text BLOB NOT NULL);
-    CREATE TABLE log(number INTEGER PRIMARY KEY, script BLOB NOT NULL, checksum INTEGER NOT NULL);
-    CREATE TABLE requests(number INTEGER PRIMARY KEY, id TEXT NOT NULL UNIQUE, script BLOB NOT NULL, replies BLOB NOT NULL);
-    INSERT INTO about VALUES(1, 0, 0, 0);
-    PRAGMA application_id=0x6274626C;
-    PRAGMA user_version=1;
-"""
-
-
 def old_file(folder, scripts):
     """A file of format 1 in a new folder, by the schema that it had."""
     folder.mkdir()
     db = sqlite3.connect(folder / "t", isolation_level=None)
-    db.executescript(FORMAT_1)
+    db.executescript(imported("tools/crash/history.py").FORMAT_1)
     with betable().Session() as session:
         for number, script in enumerate(scripts, 1):
             replies = session.replies(script)
