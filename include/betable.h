@@ -103,8 +103,8 @@ betable_status betable_run(betable_session *session, const unsigned char *script
 /* Finds which commands of a script would be refused, each by itself, on the table as it is. None is carried out, and nothing changes. So no command is judged
  * with the effects of those before it: without a table, each command except `table` would be refused. Afterwards betable_reply_count is the number of commands.
  * betable_reply has for each the kind that a run of this command alone would give it, with offset 0 and length 0. The replies are empty, and
- * betable_refused_count is 0. The rows of a load are read, checked and dropped, so that the call takes as much memory as the load. DONE, OUT_OF_MEMORY or
- * NOT_OPEN. After OUT_OF_MEMORY betable_reply_count is 0. */
+ * betable_refused_count is 0. The rows of a load are read, sorted by key and dropped; no tree is made. DONE, OUT_OF_MEMORY or NOT_OPEN. After OUT_OF_MEMORY
+ * betable_reply_count is 0. */
 betable_status betable_check(betable_session *session, const unsigned char *script, size_t length) BETABLE_NOT_NULL;
 
 /* The calls on packed bytes do what commands do, without text in between. Packed bytes begin with the letters BTV, the version of the layout, 1, and a number of
@@ -119,7 +119,8 @@ betable_status betable_check(betable_session *session, const unsigned char *scri
  *   - a del: 1, and the values of the key columns; or
  *   - an upsert: 2, the values of the key columns, the number of operations in one byte, and each operation: 0 for set, 1 for add, 2 for max or 3 for min, the
  *     place of its column, counted from 0, in one byte, and the value to set, or the number in eight bytes.
- * The reply is empty. DONE, OUT_OF_MEMORY, NOT_OPEN or REFUSED. After OUT_OF_MEMORY the table is as it was, or lost. */
+ * There may be more changes than the 65,536 messages of a batch. The reply is empty. DONE, OUT_OF_MEMORY, NOT_OPEN or REFUSED. After OUT_OF_MEMORY the table is
+ * as it was, or lost. */
 betable_status betable_apply(betable_session *session, const unsigned char *changes, size_t length, betable_fault *fault) BETABLE_NOT_NULL;
 
 /* Replies with the row of a key, or with no row. After the header, whose number is 1, are the values of the key columns. DONE, OUT_OF_MEMORY, NOT_OPEN or

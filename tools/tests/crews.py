@@ -1,4 +1,4 @@
-"""Tests of the program by crews: worked scripts by all crews, how many threads a batch starts, and a deep tree on the stack of a worker."""
+"""Tests of the program by crews: worked scripts by all crews, which threads a batch and a load start, and a deep tree on the stack of a worker."""
 
 import os
 import shutil
@@ -6,12 +6,21 @@ import subprocess
 import tempfile
 from functools import cache
 from pathlib import Path
+from typing import NamedTuple
 
 from common import expect, PROGRAM, run, SECONDS
 
 HERE = Path(__file__).resolve().parent
 TABLE = "table 4 1 2 1 id:int qty:int"
 INDEX = "index by_qty on qty\nbuild by_qty 1"
+WORKER_STACK = 1 << 20  # bytes of a worker, who takes jobs from the queue; a thread of rayon has the stack that the C library gives
+
+
+class Started(NamedTuple):
+    """How many threads a run started: workers of the queue, and threads of rayon."""
+
+    workers: int = 0
+    of_rayon: int = 0
 
 
 def worked_scripts_have_the_same_replies_by_all_crews():
@@ -34,7 +43,7 @@ def libraries():
 
 
 def library_of_threads():
-    """The preloaded library, which counts threads and lets each run to its end before it returns to the thread that started it."""
+    """The preloaded library, which tells each thread's stack and lets it run to its end before it returns to the thread that started it."""
     path = Path(libraries().name) / "threads.so"
     if not path.exists():
         words = ["cc", "-std=c11", "-O1", "-Wall", "-Wextra", "-Werror", "-shared", "-fPIC", HERE / "c/threads.c", "-o", path]
@@ -44,14 +53,14 @@ def library_of_threads():
 
 
 def run_and_threads(script, workers):
-    """The replies to a script by this many workers, with a cut and a grain of 1, and how many threads were started."""
+    """The replies to a script by this many workers, with a cut and a grain of 1, and which threads were started."""
     words = [PROGRAM, "--workers", str(workers), "--cut", "1", "--grain", "1"]
     with tempfile.NamedTemporaryFile() as threads:
         settings = {"LD_PRELOAD": str(library_of_threads()), "THREADS_FILE": threads.name}
         ended = subprocess.run(words, input=script.encode(), capture_output=True, env={**os.environ, **settings}, timeout=SECONDS)
-        count = len(threads.read())
-    expect((ended.returncode, ended.stderr), (0, b""))
-    return ended.stdout.decode(), count
+        stacks = [int(line) for line in threads.read().split()]
+    expect((ended.returncode, ended.stderr, set(stacks) - {0, WORKER_STACK}), (0, b"", set()))
+    return ended.stdout.decode(), Started(stacks.count(WORKER_STACK), stacks.count(0))
 
 
 def puts(keys):
@@ -66,7 +75,7 @@ def pieces_of_a_batch_are_worked_by_two_threads():
         script = "\n".join([*heads, puts(range(2_000))])
         alone, none = run_and_threads(script, 1)
         by_two, some = run_and_threads(script, 2)
-        expect((by_two == alone, none, some), (True, 0, started))
+        expect((by_two == alone, none, some), (True, Started(), Started(workers=started)))
 
 
 def a_batch_has_five_rounds_for_any_number_of_indexes():
@@ -77,25 +86,69 @@ def a_batch_has_five_rounds_for_any_number_of_indexes():
         before = [TABLE, puts(range(0, 4_000, 2)), *heads]
         _, some = run_and_threads("\n".join([*before, ""]), 2)
         _, more = run_and_threads("\n".join([*before, puts(range(1, 4_000, 2))]), 2)
-        expect((indexes, more - some), (indexes, rounds))
+        expect((indexes, more.workers - some.workers, more.of_rayon), (indexes, rounds, 0))
 
 
-def a_load_is_made_by_the_workers_of_the_crew():
-    """Records enough for several pieces. In each round every worker but the caller is started once: to read a piece, to merge a range, to make leaves of the
-    rows, and for the index to sort a piece of the entries, to merge a range of them, and to make leaves. Before these last three, one thread is started to read
-    rows, because the root of the tree has two children. A record whose key an earlier one has is named, although another worker may have read that one."""
+def halvings():
+    """How many times rayon halves its work: until there are two parts for each processor that the program may use, but at most 64 parts."""
+    processors = min(os.sysconf("SC_NPROCESSORS_ONLN"), len(os.sched_getaffinity(0)), 32)
+    quota = Path("/sys/fs/cgroup/cpu.max")
+    limit, period = quota.read_text().split() if quota.exists() else ("max", "1")
+    processors = processors if limit == "max" else min(processors, max(1, int(limit) // int(period)))
+    return (2 * processors).bit_length() - 1
+
+
+def threads_for_pieces(count, depth):
+    """How many threads rayon starts for this many pieces: one for each time that they are halved."""
+    low = count // 2
+    return 0 if count <= 1 or depth == 0 else 1 + threads_for_pieces(low, depth - 1) + threads_for_pieces(count - low, depth - 1)
+
+
+def threads_to_type(records, workers):
+    """Or to encode keys, in one piece for each worker, but of at least 1,024 records."""
+    return threads_for_pieces(-(-records // max(1024, -(-records // workers))), halvings())
+
+
+def load(*records, heads=(TABLE,)):
+    return "\n".join([*heads, "load", "id,qty", *records, ".", ""])
+
+
+def a_load_by_four_workers_starts_threads_of_rayon_and_by_one_none():
+    """Of 100,000 records. If their keys rise, threads are started to type the records and to encode the keys. If not, rayon also sorts, for which it starts at
+    most one thread less than there are parts."""
+    records = [f"{row},{row}" for row in range(100_000)]
+    least = 2 * threads_to_type(len(records), 4)
+    for given, extra in ((records, range(1)), (records[::-1], range(1, 2 ** halvings()))):
+        alone, none = run_and_threads(load(*given), 1)
+        by_four, some = run_and_threads(load(*given), 4)
+        expect((alone.split("\n")[1], none, by_four == alone, some.workers), ("loaded 100000", Started(), True, 0))
+        expect((least > 1, some.of_rayon - least in extra, some), (True, True, some))
+
+
+def a_batch_by_four_workers_starts_workers_of_the_queue_and_by_one_none():
+    """Of 2,000 lines into an empty table: three workers read lines with the caller, and three merge what the four have sorted."""
+    script = f"{TABLE}\n{puts(range(2_000))}"
+    alone, none = run_and_threads(script, 1)
+    by_four, some = run_and_threads(script, 4)
+    expect((none, by_four == alone, some), (Started(), True, Started(workers=6)))
+
+
+def a_load_is_typed_and_sorted_by_as_many_pieces_as_workers():
+    """Records are typed, keys encoded and entries of the index made in such pieces, and keys and entries sorted. A record whose key an earlier one has is named
+    after the first sort. No key is encoded if a record cannot be read, not even by another worker."""
     rows = [f"{row * 7919 % 10_007},{row}" for row in range(10_000)]
     twice = [*rows, rows[17]]
     unreadable = [*rows, "x,1", *rows, "7"]
-    for records, reply, rounds, readers in (
-        (rows, "loaded 10000", 6, 1), (twice, "refused 14 DuplicateKey 10001", 2, 0), (unreadable, "refused 6 BadField 10001", 1, 0),
+    for records, reply, steps, sorts in (
+        (rows, "loaded 10000", 3, 2), (twice, "refused 14 DuplicateKey 10001", 2, 1), (unreadable, "refused 6 BadField 10001", 1, 0),
     ):  # fmt: skip
-        script = "\n".join([TABLE, INDEX, "load", "id,qty", *records, ".", ""])
+        script = load(*records, heads=(TABLE, INDEX))
         alone, none = run_and_threads(script, 1)
-        expect((alone.split("\n")[3], none), (reply, 0))
+        expect((alone.split("\n")[3], none), (reply, Started()))
         for workers in (2, 3, 5):
-            replies, started = run_and_threads(script, workers)
-            expect((replies == alone, workers, started), (True, workers, (workers - 1) * rounds + readers))
+            replies, some = run_and_threads(script, workers)
+            extra = some.of_rayon - steps * threads_to_type(len(records), workers)
+            expect((replies == alone, workers, some.workers, sorts <= extra <= sorts * (2 ** halvings() - 1)), (True, workers, 0, True))
 
 
 def a_worker_goes_down_a_deep_tree():
@@ -106,7 +159,7 @@ def a_worker_goes_down_a_deep_tree():
     alone, none = run_and_threads(script, 1)
     by_two, some = run_and_threads(script, 2)
     expect("\nimage primary height 10\n" in alone, True)
-    expect((by_two == alone, none, some > 0), (True, 0, True))
+    expect((by_two == alone, none, some.workers > 0), (True, Started(), True))
 
 
 def a_crew_frees_what_it_takes():
@@ -129,7 +182,9 @@ TESTS = [
     every_crew_finds_other_replies,
     pieces_of_a_batch_are_worked_by_two_threads,
     a_batch_has_five_rounds_for_any_number_of_indexes,
-    a_load_is_made_by_the_workers_of_the_crew,
+    a_load_by_four_workers_starts_threads_of_rayon_and_by_one_none,
+    a_batch_by_four_workers_starts_workers_of_the_queue_and_by_one_none,
+    a_load_is_typed_and_sorted_by_as_many_pieces_as_workers,
     a_worker_goes_down_a_deep_tree,
     a_crew_frees_what_it_takes,
 ]

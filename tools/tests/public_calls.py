@@ -1,49 +1,31 @@
-"""Tests of tools/promises, and of the public functions that it finds: each is called somewhere in crates/, by the program, by another library or by a test.
-
-Only names are compared. A function of a type without `self` is called where the name of the type precedes it, a method where a point or any type does, and
-any other function where no point does. So of two methods with the same name one may have no call, which these tests do not see."""
+"""Tests of tools/promises, and of who calls the public functions that it finds: each is reached by the program, the library for C, an example or a test, as
+callers.py finds by the types of the sources."""
 
 import re
 import tempfile
 from pathlib import Path
 from typing import Any
 
+from callers import House
 from common import expect, expect_within, imported, run, TOP
 
 promises: Any = imported("tools/promises")
 
-
-def calls(function: Any) -> str:
-    """What a call of a function looks like."""
-    if not function.type:
-        return rf"(?<![.\w]){function.name}\b"
-    if function.has_self or function.is_of_trait:
-        return rf"(?:\.|::){function.name}\b"
-    return rf"\b(?:{function.type}|Self)(?:::<[^()]*>)?::{function.name}\b"
-
-
-def code_of(path: Path) -> str:
-    """The code of a file without what is no call: comments, strings, clauses, `use` items, and the name after `fn`."""
-    code = promises.USES.sub("", promises.GHOSTS.sub("", promises.NO_CODE.sub("", path.read_text())))
-    return re.sub(r"\bfn \w+", "fn", code)
+# Public functions that nothing calls, each with the reason why it stays.
+UNCALLED: dict[str, str] = {
+    "bt_batch::Changes::is_empty": "stands beside `len`, as on the lists of the standard library",
+    "bt_batch::Changes::len": "for callers in Rattle who collect changes: how many there are so far",
+    "bt_messages::Packet::is_empty": "stands beside `len`, as on the lists of the standard library",
+    "bt_record::Fields::is_empty": "stands beside `len`, as on the lists of the standard library",
+    "bt_view::KeyRange::after": "the rest of a range after a page, for callers in Rattle; the library for C takes packed bounds instead",
+}
 
 
-def libraries(top: Path) -> set[str]:
-    """The crates that another one lists in crates.txt, and the static library. Others are programs, tests, and laws that nothing calls."""
-    lines = [line.partition(":") for line in (top / "crates.txt").read_text().splitlines() if not line.startswith("#")]
-    return {name for _, _, names in lines for name in names.split()} | {head.split()[0] for head, _, _ in lines if head.endswith(" staticlib")}
-
-
-def uncalled(top: Path) -> list[str]:
-    """Those that no code of any crate calls."""
-    codes = "\n".join(code_of(path) for path in sorted(top.glob("crates/*/src/**/*.rt")))
-    listed = libraries(top)
-    functions = [function for function in promises.functions_of(top) if function.crate in listed and not function.is_for_c]
-    return [str(function) for function in functions if not re.search(calls(function), codes)]
-
-
-def each_public_function_is_called() -> None:
-    expect(uncalled(TOP), [])
+def each_public_function_is_reached_by_a_program_or_a_test() -> None:
+    found = House(TOP).callers()
+    expect(sorted(name for name, programs in found if not programs), sorted(UNCALLED))
+    listed = {crate for crate, _, _ in (name.partition("::") for name, _ in found)}
+    expect(sorted(name for name, _ in found), sorted(str(one) for one in promises.functions_of(TOP) if one.crate in listed and not one.is_for_c))
 
 
 LIBRARY = """pub use list::{List, unused};
@@ -105,10 +87,88 @@ def repository(folder: str) -> Path:
     return top
 
 
-def functions_without_a_call_are_found() -> None:
+def functions_that_no_program_reaches_are_found() -> None:
     """The words after `use`, in comments, strings and clauses are no calls, and neither is that of a function with the name of a method."""
     with tempfile.TemporaryDirectory() as folder:
-        expect(uncalled(repository(folder)), ["lists::unused", "lists::List::first"])
+        found = House(repository(folder)).callers()
+    expect([name for name, programs in found if programs != ["program"]], ["lists::unused", "lists::List::first"])
+    expect(len(found), 7)
+
+
+STORE = """mod inside;
+pub use inside::{Session, Table as Board};
+pub fn open() -> Result<Session, ()> { Ok(Session { tables: Vec::new(), last: None }) }
+pub fn never() { open(); by_never() }
+pub fn by_never() {}
+pub trait Counts { fn count(&self) -> usize; }
+impl Counts for Session { fn count(&self) -> usize { counted(self.tables().len()) } }
+pub fn counted(n: usize) -> usize { n }
+"""
+INSIDE = """pub struct Table { rows: Vec<u8> }
+impl Table { pub fn load(&mut self, text: &[u8]) -> usize { text.len() } }
+pub struct Session { tables: Vec<Table>, last: Option<Table> }
+impl Session {
+    pub fn load(&mut self, text: &[u8]) {}
+    pub fn tables(&self) -> &[Table] { self.tables.as_slice() }
+    pub fn last(&mut self) -> Option<&mut Table> { self.last.as_mut() }
+}
+"""
+
+
+def house_of(*programs: str) -> House:
+    """That of the library `store`, and of these programs on it, whose names are a, b and so on."""
+    sources = {"store/src/lib.rt": STORE, "store/src/inside.rt": INSIDE}
+    for name, text in zip("abc", programs):
+        sources[f"{name}/src/main.rt"] = f"use store::{{Board, Counts, Session, counted, open}};\n{text}"
+    with tempfile.TemporaryDirectory() as folder:
+        for path, text in sources.items():
+            (Path(folder) / "crates" / path).parent.mkdir(parents=True, exist_ok=True)
+            (Path(folder) / "crates" / path).write_text(text)
+        (Path(folder) / "crates.txt").write_text("".join(["store:\n", *(f"{name}: store\n" for name, _ in zip("abc", programs))]))
+        return House(Path(folder))
+
+
+def reached_by(*programs: str) -> dict[str, str]:
+    """The public functions of the library, each with the names of the programs that reach it."""
+    return {name.removeprefix("store::"): "".join(names) for name, names in house_of(*programs).callers()}
+
+
+def a_call_of_the_same_name_on_another_type_does_not_count() -> None:
+    """Also on a type that is not known."""
+    loads = [reached_by(text) for text in (
+        "fn main() { let Ok(mut session) = open() else { return }; session.load(b\"\"); }", "fn main() { Session::load(s, b\"\") }",
+        "struct Mine; impl Mine { fn load(&self, text: &[u8]) {} } fn f(mine: &Mine) { mine.load(b\"\") }", "fn load() { load() }",
+    )]  # fmt: skip
+    expect([(found["Session::load"], found["Table::load"]) for found in loads], [("a", ""), ("a", ""), ("", ""), ("", "")])
+    unknown = house_of("fn f(other: &Other) { other.table().load(b\"\") }")
+    expect((unknown.unknown, [names for name, names in unknown.callers() if name.endswith("load")]), (["a::f: .load()"], [[], []]))
+
+
+def the_type_of_a_receiver_is_found() -> None:
+    """From parameters, fields, results, options, patterns, loops, closures, imports under another name, and types with parameters."""
+    for text in (
+        "fn f(table: &mut Board) { (*table).load(b\"\"); }",
+        "struct Held { board: Board } impl Held { fn f(&mut self) { self.board.load(b\"\"); } }",
+        "fn f(session: &mut Session) { if let Some(table) = session.last() && true { table.load(b\"\"); } }",
+        "fn f(session: &mut Session) { match session.last() { Some(session) if true => session.load(b\"\"), _ => 0 }; }",
+        "fn f() -> Result<(), ()> { for table in open()?.tables() { table.load(b\"\"); } Ok(()) }",
+        "fn f(session: &Session) { session.tables().iter().map(|table| table.load(b\"\")); }",
+        "fn f(mut all: Vec<(u8, Board)>) { while let Some((_, table)) = all.pop() { table.load(b\"\"); } }",
+        "use store::Board as Other; fn f(tables: &mut [Other; 2]) { let load = |n: usize| tables[n].load(b\"\"); }",
+        "struct Pair<T> { one: T } impl<T> Pair<T> { fn one(self) -> T { self.one } } fn f(pair: Pair<Board>) { pair.one().load(b\"\"); }",
+        "enum Either<A, B> { Left(A), Right { of: B } } fn f(e: Either<Session, Board>) { if let Either::Right { of } = e { of.load(b\"\"); } }",
+        "fn f(mut all: Vec<Option<Board>>) { let mut kept = Vec::new(); for one in all { kept.push(one?); } kept[0].load(b\"\"); }",
+        "fn f() { let load = Board::load; }",
+    ):  # fmt: skip
+        found = reached_by(text)
+        expect((text, found["Table::load"], found["Session::load"]), (text, "a", ""))
+
+
+def a_function_is_reached_by_each_program_that_calls_what_calls_it() -> None:
+    """A trait's method reaches each implementation, and a function that nothing calls reaches nothing."""
+    found = reached_by("fn main() { all(&open()?) } fn all<C: Counts>(c: &C) { c.count(); }", "fn main() { counted(1); }", "fn main() {}")
+    names = ("open", "never", "by_never", "Counts::count", "counted", "Session::tables", "Session::last")
+    expect([found[name] for name in names], ["a", "", "", "a", "ab", "a", ""])
 
 
 LINES = """8 functions in 2 files, as `tools/promises` finds them.
@@ -170,8 +230,11 @@ def contracts_that_a_page_quotes_are_those_of_the_sources() -> None:
 
 
 TESTS_OF_TEXTS = [
-    each_public_function_is_called,
-    functions_without_a_call_are_found,
+    each_public_function_is_reached_by_a_program_or_a_test,
+    functions_that_no_program_reaches_are_found,
+    a_call_of_the_same_name_on_another_type_does_not_count,
+    the_type_of_a_receiver_is_found,
+    a_function_is_reached_by_each_program_that_calls_what_calls_it,
     each_public_function_is_listed_with_its_clauses,
     promises_are_put_between_their_two_lines,
     promises_of_the_document_are_those_of_the_sources,

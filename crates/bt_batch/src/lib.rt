@@ -2,10 +2,10 @@
 //!
 //! Each line of a batch encodes a message: a put of a row, or a del or an upsert of the row of a key. [`read_packet`] returns the packet of a
 //! batch, which the trees take. The lines are divided into pieces, at most one for each worker and at most one for every four grains of lines.
-//! A worker types the lines of its piece and sorts their messages by key, so that each piece is a packet. Then [`merged_pieces`] divides the
-//! keys into ranges, and a worker merges the messages of all packets in its range. The results follow each other in one packet. Indexes use
+//! A worker types the lines of its piece and sorts their messages by key, so that each piece is a packet. Then the keys
+//! are divided into ranges, and a worker merges the messages of all packets in its range. The results follow each other in one packet. Indexes use
 //! [`merged_groups`], which does this for several batches in one round. [`read_packet_alone`] works without threads: the whole batch is one piece.
-//! [`read_items`] reads any number of records in the same way, and [`sorted_messages`] sorts messages that are made in another way.
+//! [`sorted_messages`] sorts messages that are made in another way.
 //!
 //! The result doesn't depend on the division into pieces or on the workers. It is the messages sorted by key, those of one key in the order of
 //! their lines, or else the least refusal that applies. The refusal of a line has the number of the line in the batch. `TooMany` is the refusal
@@ -34,8 +34,8 @@ mod line_messages;
 mod merging;
 mod sorting;
 
-pub use batch_packet::{read_items, read_items_alone, read_packet, read_packet_alone};
+pub use batch_packet::{read_packet, read_packet_alone};
 pub use changes::Changes;
 pub use line_messages::MOST_MESSAGES;
-pub use merging::{merged_groups, merged_pieces};
+pub use merging::merged_groups;
 pub use sorting::sorted_messages;

@@ -2,7 +2,6 @@ pub mod Batches
 pub mod BuildPackets
 pub mod Builds
 pub mod EffectJobs
-pub mod EntryPuts
 pub mod Entries
 pub mod GroupEffects
 pub mod Groups

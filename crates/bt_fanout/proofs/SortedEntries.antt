@@ -1,8 +1,8 @@
 -- The entries of rows, sorted by key, are what an index selects of the rows.
 use Rattle.std.proofs.Common.{◌≡◌, ℕ, ◌+◌, ◌<◌, ◌≤◌, Bool, true, false, cond, T, List, [], ◌∷◌, ◌++◌, ◌&&◌, All, IsPermutation, append-nil, append_assoc}
-use Rattle.std.proofs.Common.{drop, filter, get_or, length, not, refl, subst, sym, ap, arith, ◌∙◌, Option, Some, None, true≢false}
+use Rattle.std.proofs.Common.{◌-◌, ◌⊎◌, inl, inr, zero, suc, set, Result, Ok, drop, filter, get_or, length, not, refl, subst, sym, ap, arith, ◌∙◌, Option, Some, None, true≢false}
 use Rattle.std.proofs.Math.ListN.{drop_of_length-le}
-use Rattle.std.proofs.lemmas.List.{drop_more, nil_from_length}
+use Rattle.std.proofs.lemmas.List.{drop_more, get_or_default, get_or-set_other, get_or-set_same, nil_from_length}
 use Rattle.std.proofs.lemmas.List.Elements.{All-filter, All-head, All-tail, filter_passes}
 use Rattle.std.proofs.lemmas.List.Sorted.{All-permutation, sum_by-IsPermutation}
 use Rattle.std.proofs.lemmas.List.Sums.{length-filter}
@@ -22,7 +22,7 @@ use Rattle.bt_messages.proofs.offered.Stable.{earlier, stable_is_sorted_batch, t
 use Rattle.bt_fanout.specs.Entries.{Definition, StandsUnder, entry_of}
 use Rattle.bt_fanout.specs.Promises.{SuitsRows}
 use Rattle.bt_fanout.specs.Selections.{AreApart, EachStands, entry_in, select, with_entry}
-use Rattle.bt_fanout.specs.inside.RowEntries.{entries_of}
+use Rattle.bt_fanout.specs.inside.RowEntries.{AreEntriesOrFailed, IsEntryOrFailed, entries_of}
 use Rattle.bt_fanout.proofs.Entries.{apart}
 use Rattle.bt_fanout.proofs.Lookups.{equal_itself, find-select, find_below, is_at, sorted-select, value_at}
 use Rattle.bt_fanout.proofs.Owners.{owns}
@@ -162,3 +162,42 @@ one_more def rows i row whole old new within is so more =
 pub all_collected : (def : Definition) (rows : Rows (List Value)) (i : ℕ) (whole entries : Rows (List Value)) → length rows ≤ i
     → whole ≡ entries ++ entries_of (entry_of def) (drop i rows) → entries ≡ whole
 all_collected def rows i whole entries past e = sym (e ∙ ap (λ rs. entries ++ entries_of (entry_of def) rs) (drop_of_length-le rows past) ∙ append-nil entries)
+
+-- of entries that are left, the first is that of the next row, and the others are those of the rows after it
+module _ {F : Type 0} (def : Definition) (rows : Rows (List Value)) (made : Result (Option (List ℕ × List Value)) F) (rest all : List (Result (Option (List ℕ × List Value)) F))
+    (next : all ≡ made ∷ rest) (few : length all ≤ length rows) (are : AreEntriesOrFailed def (length rows - length all) rows all) where
+  pub first_made : IsEntryOrFailed def (get_or rows (length rows - length all) ([], [])) made
+  first_made =
+      let here : length rows - length all + 0 ≡ length rows - length all = omega arith in
+      subst (λ i. IsEntryOrFailed def (get_or rows i ([], [])) made) here
+      (subst (λ ms. IsEntryOrFailed def (get_or rows (length rows - length all + 0) ([], [])) (get_or ms 0 (Ok None))) next (are 0 (omega (arith, ap length next))))
+
+  pub others_made : AreEntriesOrFailed def (length rows - length rest) rows rest
+  others_made k within =
+      let place : length rows - length all + (k + 1) ≡ length rows - length rest + k = omega (arith, ap length next, few) in
+      let one : k + 1 ≡ suc k = omega arith in
+      subst (λ i. IsEntryOrFailed def (get_or rows i ([], [])) (get_or rest k (Ok None))) place
+      (subst (λ i. IsEntryOrFailed def (get_or rows (length rows - length all + (k + 1)) ([], [])) (get_or (made ∷ rest) i (Ok None))) one
+      (subst (λ ms. IsEntryOrFailed def (get_or rows (length rows - length all + (k + 1)) ([], [])) (get_or ms (k + 1) (Ok None))) next (are (k + 1) (omega (arith, within, ap length next)))))
+
+at_or_before : (k n : ℕ) → k < n + 1 → (k ≡ n) ⊎ (k < n)
+at_or_before zero zero within = inl refl
+at_or_before zero (suc n) within = inr (omega arith)
+at_or_before (suc k) zero within = absurd (omega (arith, within))
+at_or_before (suc k) (suc n) within = elim (at_or_before k n (omega (arith, within))) [
+  | inl e ↦ inl (ap suc e)
+  | inr l ↦ inr (omega (arith, l))
+]
+
+-- one more entry of a piece
+pub set_entry : {F : Type 0} (def : Definition) (rows : Rows (List Value)) (start offset : ℕ) (piece : List (Result (Option (List ℕ × List Value)) F)) (made : Result (Option (List ℕ × List Value)) F)
+    → offset < length piece → ((k : ℕ) → k < offset → IsEntryOrFailed def (get_or rows (start + k) ([], [])) (get_or piece k (Ok None))) → (row : List ℕ × List Value) → start + offset < length rows → row ≡ get_or rows (start + offset) row → IsEntryOrFailed def row made
+    → (k : ℕ) → k < offset + 1 → IsEntryOrFailed def (get_or rows (start + k) ([], [])) (get_or (set piece offset made) k (Ok None))
+set_entry def rows start offset piece made here so_far row there row_is is k within = elim (at_or_before k offset within) [
+  | inl e ↦
+      subst (λ i. IsEntryOrFailed def (get_or rows (start + i) ([], [])) (get_or (set piece offset made) i (Ok None))) (sym e)
+      (subst (IsEntryOrFailed def (get_or rows (start + offset) ([], []))) (sym (get_or-set_same piece offset made (Ok None) here))
+      (subst (λ r. IsEntryOrFailed def r made) (row_is ∙ get_or_default rows (start + offset) row ([], []) there) is))
+  | inr before ↦
+      subst (IsEntryOrFailed def (get_or rows (start + k) ([], []))) (sym (get_or-set_other piece offset k made (Ok None) (λ e. absurd (omega (arith, e, before))))) (so_far k before)
+]

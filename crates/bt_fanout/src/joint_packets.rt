@@ -61,9 +61,6 @@ pub(crate) struct JobGroup<'a> {
     pub(crate) jobs: Vec<EffectJob<'a>>,
 }
 
-// The depth of the whole tree, as one portion.
-const WHOLE_TREE: usize = 0;
-
 // The items between two places.
 fn between<T>(items: &[T], start: usize, end: usize) -> &[T]
     requires ordered { start ≤ end }
@@ -73,12 +70,14 @@ fn between<T>(items: &[T], start: usize, end: usize) -> &[T]
     &items[start..end]
 }
 
-// The jobs for the keys that a packet names, in this many groups of about as many keys. Each looks its keys up in the whole tree.
+// The jobs for the keys that a packet names, in this many groups of about as many keys. The jobs of a group are the portions of the tree at a depth that own
+// a key of the group.
 fn job_groups<'a>(
     alloc: Global,
     tree: &'a Tree<Row>,
     keys: &'a [&'a Key],
     others: &'a [usize],
+    depth: usize,
     count: usize,
 ) -> Result<Vec<JobGroup<'a>>, AllocError>
     requires some { 0 < count }
@@ -96,21 +95,14 @@ fn job_groups<'a>(
     for _ in 1..count {
         let end = start.saturating_add(share).min(keys.len());
         let own = between(others, start, end);
-        let jobs = effect_jobs(
-            alloc,
-            tree,
-            between(keys, start, end),
-            own,
-            skipped,
-            WHOLE_TREE,
-        )?;
+        let jobs = effect_jobs(alloc, tree, between(keys, start, end), own, skipped, depth)?;
         groups.push(JobGroup { jobs })?;
         skipped += message_count(own);
         start = end;
     }
     let last = between(keys, start, keys.len());
     let own = between(others, start, keys.len());
-    let jobs = effect_jobs(alloc, tree, last, own, skipped, WHOLE_TREE)?;
+    let jobs = effect_jobs(alloc, tree, last, own, skipped, depth)?;
     groups.push(JobGroup { jobs })?;
     Ok(groups)
 }
@@ -234,8 +226,8 @@ fn packet_groups(
 
 /// The packets of indexes for a packet of rows, which the tree does not have yet. Keys outside of the cover are not looked up.
 ///
-/// A job of the first round has consecutive keys. It looks them up, works out how the messages change the rows, and makes of that a packet for each index. The
-/// second round merges them. There is at most one worker for each job, and at most one for every four grains of messages. With one worker, or without an
+/// The keys are divided among the workers, as many consecutive ones for each. A worker looks its keys up in the portions of the tree at the crew's cut that own
+/// them, works out how the messages change the rows, and makes of that a packet for each index. A second round merges the packets. There is at most one worker for each job, and at most one for every four grains of messages. With one worker, or without an
 /// index, no thread starts. An `Err` is a failed allocation; every worker has ended by then. The tree is only read.
 pub fn index_packets<G: Gate + Sync, T: Threads + Wait + Sync>(
     rt: &T,
@@ -259,6 +251,7 @@ pub fn index_packets<G: Gate + Sync, T: Threads + Wait + Sync>(
         tree,
         keys.as_slice(),
         others.as_slice(),
+        crew.cut,
         crew.workers,
     )?;
     let lists = job_values(rt, alloc, &JobPackets { packet, indexes }, groups, &crew)?;

@@ -20,8 +20,8 @@
 //! let packets = index_packets(&rt, alloc, &rows, &packet, &Cover::Whole, &indexes, &crew)?;
 //! // the messages of a step of building that reads the first hundred rows not covered yet, and the cover after it
 //! let BuildStep { packet, cover, read } = build_step(&rt, alloc, &def, &cover, &rows, 100, &crew)?;
-//! // the entries of all rows, from which the tree of an index is packed
-//! let puts = entry_puts(&rt, alloc, &def, &rows, &crew)?;
+//! // the entries of sorted rows, from which the tree of an index is packed
+//! let entries = sorted_entries(alloc, &def, &pairs)?;
 //! ```
 //!
 //! `specs` has the definitions. `Selections` says, for any kind of entries, what an index selects of a map and which messages a batch
@@ -44,14 +44,13 @@ mod row_effects;
 mod selecting;
 mod step;
 
-pub use building::sorted_entries;
+pub use building::{sorted_entries, sorted_entries_in_threads};
 pub use cover::{Cover, covers, wider};
 pub use definition::{Condition, IndexDef, MOST_INCLUDED, MOST_ON};
 pub use effect::Effect;
 pub use effect_jobs::effects;
 pub use entry_packet::index_packet;
 pub use joint_packets::{IndexTarget, index_packets, index_packets_alone};
-pub use puts::entry_puts;
 pub use row_effects::effects_alone;
 pub use selecting::{entry, entry_at};
 pub use step::{BuildStep, build_step, build_step_alone};

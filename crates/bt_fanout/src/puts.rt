@@ -1,6 +1,5 @@
 //! The entries of rows as messages, made in portions of a tree.
 ghost use Rattle.std.specs.Prelude.{◌≡◌, [], IfOk, fold, length};
-ghost use Rattle.bt_gather.specs.Puts.{AllPuts, put_rows};
 ghost use Rattle.bt_node.specs.Flushes.{holds};
 ghost use Rattle.bt_fanout.specs.Effects.{row_effect};
 ghost use Rattle.bt_fanout.specs.Entries.{entry_of};
@@ -14,7 +13,6 @@ use crate::building::add_put;
 use crate::cover::{Cover, next_key};
 use crate::definition::IndexDef;
 use crate::selecting::entry_at;
-use bt_batch::sorted_messages;
 use bt_gang::{Crew, Gate};
 use bt_gather::read;
 use bt_keycode::Key;
@@ -140,30 +138,4 @@ pub(crate) fn portion_puts<'a, G: Gate + Sync, T: Threads + Wait + Sync>(
     let from = key_after(alloc, earlier)?;
     let to = key_after(alloc, later)?;
     read(rt, alloc, tree, from.as_ref(), to.as_ref(), puts, crew)
-}
-
-/// The entries of all rows of a tree as a packet that puts them, in ascending order of their keys. It has the contents of an index that is made from these rows.
-/// The workers of a crew read the rows in portions of the tree, and sort the messages in pieces. With one worker, no thread starts. An `Err` is a failed
-/// allocation; every worker has ended by then.
-pub fn entry_puts<G: Gate + Sync, T: Threads + Wait + Sync>(
-    rt: &T,
-    alloc: Global,
-    def: &IndexDef,
-    tree: &Tree<Row>,
-    crew: &Crew<G>,
-) -> Result<Packet<Entry>, AllocError>
-    requires { SuitsRows def.now (holds row_effect tree.now.1) }
-    ensures puts { IfOk result AllPuts }
-    ensures rows { IfOk result (λ packet. put_rows packet ≡ select (entry_of def.now) (holds row_effect tree.now.1)) }
-{
-    let EntryPuts { messages, .. } = portion_puts(
-        rt,
-        alloc,
-        def,
-        &Cover::Nothing,
-        &Cover::Whole,
-        tree,
-        crew,
-    )?;
-    sorted_messages(rt, alloc, messages, crew)
 }

@@ -11,7 +11,6 @@ pub mod PieceShares
 pub mod PiecesAtHoles
 pub mod PlaceSearch
 pub mod Placing
-pub mod PutLeaves
 pub mod SeenPieces
 pub mod SunkTrees
 pub mod offered

@@ -1,6 +1,5 @@
 pub mod Eithers
 pub mod Fillings
-pub mod LeafJobs
 pub mod Marks
 pub mod OwnedKeys
 pub mod RoundJobs

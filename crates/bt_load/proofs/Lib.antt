@@ -1,13 +1,14 @@
+pub mod Lefts
 pub mod Maps
 pub mod offered
 pub mod Orders
 pub mod Typed
 pub mod Encoded
+pub mod Firsts
 pub mod Pieces
 pub mod Places
 pub mod Repeats
 pub mod Rows
 pub mod RowsLeft
 pub mod Stands
-pub mod TextPuts
 pub mod WorkedRows

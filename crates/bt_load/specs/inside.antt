@@ -1,3 +1,4 @@
 -- Definitions that only private clauses cite: the steps of the code.
+pub mod Marks
 pub mod Sorts
 pub mod Typed

@@ -1,5 +1,9 @@
 //! Loads the rows of a CSV text: types them and sorts them by key, on several threads or on one.
 //!
+//! The library `csv` reads the header, and the records of each piece in which a record has a quote. In any other piece each line is cut at
+//! its commas. If a record is refused or an allocation fails, all lines are read again, one by one and without `csv`'s reader, to find
+//! the least refusal.
+//!
 //! ```text
 //! let rows = read_records(&rt, alloc, b"id,name\n2,b\n1,a\n", &schema)?;
 //! let pairs = load_rows(&rt, alloc, rows, &schema)?;     // the rows of the keys 1 and 2, each with its key
@@ -10,27 +14,19 @@
 //!
 //! ```text
 //! let rows = read_records_by(&InTurn, alloc, text, &schema)?;
-//! let pairs = load_rows_by(&InThreads { rt: &rt }, alloc, rows, &schema)?;
-//! ```
-//!
-//! A crew reads a text as the puts of a batch, sorted by key:
-//!
-//! ```text
-//! let packet = read_puts(&rt, alloc, text, &schema, &crew)?;
-//! keys_rise(&packet)                                      // whether no two records have the same key
+//! let pairs = load_rows_by(&InThreads { rt: &rt, workers: 4 }, alloc, rows, &schema)?;
 //! ```
 #![tactic(auto)]
 
+mod lines;
 mod loading;
 mod placed;
-mod puts;
 mod read;
 mod sort;
 mod sorted_rows;
 mod typing;
 
-pub use loading::{InThreads, InTurn, Loading};
-pub use puts::{keys_rise, read_puts};
+pub use loading::{InThreads, InTurn, Loading, MOST_THREADS};
 pub use read::{read_records, read_records_by};
 pub use sort::{load_rows, load_rows_by, sorted_rows_by};
 pub use sorted_rows::SortedRows;

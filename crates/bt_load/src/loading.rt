@@ -3,34 +3,31 @@ ghost use Rattle.std.specs.List.Sorted.{IsPermutation, IsSorted};
 ghost use Rattle.std.specs.Prelude.{◌≡◌, ◌≤◌, ◌+◌, length};
 ghost use Rattle.bt_load.specs.Steps.{AreKeysOrNone, AreRowsOrNone, placed_cmp};
 
+use crate::lines::Lines;
 use crate::placed::{Placed, encode_piece, placed_order};
 use crate::typing::type_piece;
-use bt_record::RecordLine;
 use bt_row::{Row, Schema};
 use rayon::prelude::*;
 use std::alloc::Global;
 use std::thread::Threads;
 
-// The number of records that are typed, or of keys that are encoded, in one job. It is large enough that the work costs far more
-// than the job itself.
-const PIECE: usize = 1024;
+/// The largest number of threads that `rayon` keeps busy.
+pub const MOST_THREADS: usize = 64;
+
+// The smallest number of records that are typed, or of keys that are encoded, in one job. It is large enough that the work costs
+// far more than the job itself.
+const SMALL_PIECE: usize = 1024;
 
 /// The three steps of a load that may run on several threads. A program has a runtime with threads, but a library for C has none.
 /// Code that is generic over a loading serves both, and starts threads only if its loading does.
 ///
-/// There are two loadings: [`InThreads`] and [`InTurn`]. Other crates can't write their own, because [`Placed`] isn't public.
+/// There are two loadings: [`InThreads`] and [`InTurn`]. Other crates can't write their own, because [`Lines`] and [`Placed`] aren't public.
 pub trait Loading {
     /// What a loading requires. One on several threads requires that these may share the runtime.
     ghost accepts: { Self → Type 0 };
 
     /// Writes the row of each record to its place, or a row without values if the record is refused or an allocation fails.
-    fn type_records(
-        &self,
-        alloc: Global,
-        schema: &Schema,
-        records: &[RecordLine<'_>],
-        rows: &mut [Row],
-    )
+    fn type_records(&self, alloc: Global, schema: &Schema, records: &Lines<'_>, rows: &mut [Row])
         requires ready { accepts self.now }
         requires same { length rows.old ≡ length records.now }
         ensures long { length rows.new ≡ length rows.old }
@@ -51,10 +48,21 @@ pub trait Loading {
         ensures sorted { IsSorted placed_cmp placed.new.items };
 }
 
-/// Loads on the threads of a runtime, with `rayon`.
+/// Loads on the threads of a runtime, with `rayon`. At most `workers` threads type records and encode keys at the same time. The sort
+/// of `rayon` takes its number of threads from the machine: two for each processor, and at most 64.
 #[derive(Clone, Copy)]
 pub struct InThreads<'a, R> {
     pub rt: &'a R,
+    pub workers: usize,
+}
+
+impl<'a, R> InThreads<'a, R> {
+    /// The largest number of records or rows of one job, if there are `count` of them. There are then at most `workers` jobs.
+    pub fn piece_len(&self, count: usize) -> usize
+        ensures { 1 ≤ result }
+    {
+        count.div_ceil(self.workers.max(1)).max(SMALL_PIECE)
+    }
 }
 
 impl<'a, R: Threads + Sync> Loading for InThreads<'a, R> {
@@ -62,17 +70,12 @@ impl<'a, R: Threads + Sync> Loading for InThreads<'a, R> {
 
     ghost accepts = { λ _. IsSync R.row };
 
-    fn type_records(
-        &self,
-        alloc: Global,
-        schema: &Schema,
-        records: &[RecordLine<'_>],
-        rows: &mut [Row],
-    ) {
+    fn type_records(&self, alloc: Global, schema: &Schema, records: &Lines<'_>, rows: &mut [Row]) {
+        let len = self.piece_len(rows.len());
         par_chunks_mut_for_each(
             self.rt,
             rows,
-            PIECE,
+            len,
             |start: usize, piece: &mut [Row]|
                 requires { start + length piece.now ≤ length records.now }
                 ensures long { length piece.new ≡ length piece.old }
@@ -82,10 +85,11 @@ impl<'a, R: Threads + Sync> Loading for InThreads<'a, R> {
     }
 
     fn encode_keys(&self, alloc: Global, rows: &[Row], keys: usize, placed: &mut [Placed]) {
+        let len = self.piece_len(placed.len());
         par_chunks_mut_for_each(
             self.rt,
             placed,
-            PIECE,
+            len,
             |start: usize, piece: &mut [Placed]|
                 requires { start + length piece.now ≤ length rows.now }
                 ensures long { length piece.new ≡ length piece.old }
@@ -108,13 +112,7 @@ impl Loading for InTurn {
 
     ghost accepts = { λ _. ⊤ };
 
-    fn type_records(
-        &self,
-        alloc: Global,
-        schema: &Schema,
-        records: &[RecordLine<'_>],
-        rows: &mut [Row],
-    ) {
+    fn type_records(&self, alloc: Global, schema: &Schema, records: &Lines<'_>, rows: &mut [Row]) {
         type_piece(alloc, schema, records, 0, rows);
     }
 

@@ -1,4 +1,4 @@
-//! The rows of a text.
+//! The rows of a text. `csv` reads its header.
 ghost use Rattle.std.specs.Prelude.{◌≡◌, ◌≢◌, Err, IfErr, IfOk};
 ghost use Rattle.std.specs.Result.{result_map_both};
 ghost use Rattle.bt_value.specs.Answers.{Answers};
@@ -6,20 +6,18 @@ ghost use Rattle.bt_value.specs.Results.{all_read};
 ghost use Rattle.bt_load.specs.Loads.{text_rows, typed_from};
 ghost use Rattle.bt_keycode.specs.Standing.{AreOf};
 
-use crate::loading::{InThreads, Loading};
+use crate::lines::Lines;
+use crate::loading::{InThreads, Loading, MOST_THREADS};
 use crate::typing::{all_have_values, rows_or_none, type_in_turn};
-use bt_record::{RecordLine, Records};
+use bt_record::{Fields, Records};
 use bt_row::{Row, Schema};
-use bt_rowtype::RecordReader;
+use bt_rowtype::is_header;
 use bt_value::Refusal;
-use std::alloc::{AllocError, Global};
+use std::alloc::Global;
 use std::thread::Threads;
 
-// The list of records starts with capacity for one record for every this many bytes, so that for most texts it isn't reallocated.
-pub(crate) const SHORT_RECORD: usize = 6;
-
-/// The records of a CSV text after its header. `BadSchema` means that the header isn't the names of the columns in order.
-pub(crate) fn records_under_header<'a>(
+// The records of a CSV text after its header. `BadSchema` means that the header isn't the names of the columns in order.
+fn records_under_header<'a>(
     alloc: Global,
     text: &'a [u8],
     schema: &Schema,
@@ -30,29 +28,15 @@ pub(crate) fn records_under_header<'a>(
     let Some(mut records) = Records::new(text) else {
         return Err(Refusal::BadSchema);
     };
-    let Some(header) = records.next() else {
-        return Err(Refusal::BadSchema);
-    };
-    if !RecordReader::new(alloc).is_header(schema.columns(), &header)? {
+    let columns = schema.columns();
+    let mut reader = records.csv_reader(alloc);
+    let mut names = Fields::new(alloc);
+    // one name more than there are columns shows that there are too many
+    if !reader.next(&mut names, columns.len() + 1)? || !is_header(columns, &names) {
         return Err(Refusal::BadSchema);
     }
+    records.next();
     Ok(records)
-}
-
-// The records that are left of a text of `len` bytes.
-fn all_left<'a>(
-    alloc: Global,
-    records: Records<'a>,
-    len: usize,
-) -> Result<Vec<RecordLine<'a>>, AllocError>
-    ensures { IfOk result (λ lines. lines.items ≡ records.entry) }
-{
-    let mut records = records;
-    let mut lines = Vec::with_capacity(alloc, len / SHORT_RECORD)?;
-    while let Some(line) = records.next() {
-        lines.push(line)?;
-    }
-    Ok(lines)
 }
 
 // The rows of lines, or the least refusal.
@@ -60,7 +44,7 @@ fn rows_of_lines<L: Loading>(
     loading: &L,
     alloc: Global,
     schema: &Schema,
-    lines: &[RecordLine<'_>],
+    lines: &Lines<'_>,
 ) -> Result<Vec<Row>, Refusal>
     requires ready { L.accepts loading.now }
     ensures { Answers (all_read (typed_from schema.now.columns 1 lines.now)) (result_map_both (λ rows. rows.items) (λ e. e) result) }
@@ -69,8 +53,8 @@ fn rows_of_lines<L: Loading>(
     if all_have_values(rows.as_slice()) {
         return Ok(rows);
     }
-    // A record was refused, or an allocation failed. One pass over all records finds the least refusal.
-    let reading = type_in_turn(alloc, schema, lines)?;
+    // A record was refused, or an allocation failed. One pass over all lines finds the least refusal.
+    let reading = type_in_turn(alloc, schema, lines.as_slice())?;
     match reading.finish() {
         Ok(rows) => Ok(rows.into_vec()),
         Err(refusal) => Err(refusal),
@@ -91,7 +75,15 @@ pub fn read_records(
     ensures answer { Answers (text_rows schema.now.columns text.now) (result_map_both (λ rows. rows.items) (λ e. e) result) }
     ensures rows { IfOk result (λ rows. AreOf schema.now.columns rows.items) }
 {
-    read_records_by(&InThreads { rt }, alloc, text, schema)
+    read_records_by(
+        &InThreads {
+            rt,
+            workers: MOST_THREADS,
+        },
+        alloc,
+        text,
+        schema,
+    )
 }
 
 /// The rows of a CSV text as returned by [`read_records`], typed on several threads or on one.
@@ -106,6 +98,6 @@ pub fn read_records_by<L: Loading>(
     ensures rows { IfOk result (λ rows. AreOf schema.now.columns rows.items) }
 {
     let records = records_under_header(alloc, text, schema)?;
-    let lines = all_left(alloc, records, text.len())?;
-    rows_of_lines(loading, alloc, schema, lines.as_slice())
+    let lines = Lines::of(alloc, records, text.len())?;
+    rows_of_lines(loading, alloc, schema, &lines)
 }

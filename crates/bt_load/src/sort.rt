@@ -7,7 +7,7 @@ ghost use Rattle.bt_keycode.specs.Keys.{key_cmp};
 ghost use Rattle.bt_load.specs.Maps.{map_of};
 ghost use Rattle.bt_keycode.specs.Standing.{AllAreUnder, AllStand, AreOf};
 
-use crate::loading::{InThreads, Loading};
+use crate::loading::{InThreads, Loading, MOST_THREADS};
 use crate::placed::{ordered_keys, with_rows};
 use crate::sorted_rows::SortedRows;
 use bt_keycode::Key;
@@ -31,7 +31,15 @@ pub fn load_rows(
     ensures keys { IfOk result (λ pairs. AllAreUnder schema.now.keys pairs.items) }
     ensures stand { AreOf schema.now.columns rows.items → IfOk result (λ pairs. AllStand schema.now pairs.items) }
 {
-    load_rows_by(&InThreads { rt }, alloc, rows, schema)
+    load_rows_by(
+        &InThreads {
+            rt,
+            workers: MOST_THREADS,
+        },
+        alloc,
+        rows,
+        schema,
+    )
 }
 
 /// The rows in rising order of keys as returned by [`load_rows`], sorted on several threads or on one.

@@ -6,7 +6,6 @@ pub mod Fits
 pub mod Flushes
 pub mod Folds
 pub mod Laws
-pub mod LeafParts
 pub mod Loops
 pub mod Marks
 pub mod Messages

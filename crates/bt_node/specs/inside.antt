@@ -2,6 +2,7 @@
 pub mod Bounds
 pub mod Falls
 pub mod Flushing
+pub mod KeyedLeaves
 pub mod Limits
 pub mod Lookups
 pub mod Marks

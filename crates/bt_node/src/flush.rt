@@ -3,6 +3,6 @@
 pub(crate) mod crown;
 pub(crate) mod flushing;
 pub(crate) mod group;
-pub(crate) mod leaf_parts;
 pub(crate) mod opening;
 pub(crate) mod planning;
+pub(crate) mod source_leaves;

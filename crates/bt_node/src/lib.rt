@@ -27,17 +27,15 @@
 //! children under inner nodes. [`absorb_alone`] and [`drain_alone`] take all steps on one thread. To divide a flush among threads, call
 //! [`open`] and [`close`].
 //!
-//! [`pack`] builds a tree from sorted rows at once, and [`pack_source`] from rows that come one at a time. To divide the work among threads,
-//! make the leaves in parts with [`pack_part`], and the tree of all parts with [`pack_parts`]. [`leaf_count`] and [`rows_in_part`] say how to
-//! divide the rows. [`Tree::drain`] sends all messages down to the leaves. [`Tree::rebuild`] packs the rows of a tree into a new one.
+//! [`pack`] builds a tree from sorted rows at once, and [`pack_source`] from rows that come one at a time. [`Tree::drain`] sends all messages
+//! down to the leaves. [`Tree::rebuild`] packs the rows of a tree into a new one.
 //!
 //! [`Tree::walk`] returns a [`Walk`], which reads a tree as the map that it represents. It gives the value at one key (`get`) and at several
 //! keys (`values`). It shows the rows between two bounds to a [`Visitor`] (`visit`) or copies them (`rows`). It shows the first rows from a
 //! key on, up to a limit (`visit_first`, `visit_page`), at a cost that depends only on the rows shown and on the nodes on the way.
 //!
 //! The definitions are in `specs`. `Trees` defines the nodes. `Flushes` defines how a node takes a packet in each mode. `Drains` defines
-//! trees without pending messages and trees built from rows alone, and `LeafParts` the leaves of a tree in parts. `Fits` says which trees
-//! are in order. `Plans` and `Loops` say which children are flushed, and `Marks` says it for each child, and when a node has room.
+//! trees without pending messages and trees built from rows alone. `Fits` says which trees are in order. `Plans` and `Loops` say which children are flushed, and `Marks` says it for each child, and when a node has room.
 //! `Children` defines children with their bins, and `Steps` the result of [`open`]. `Shapes` has the sizes that a tree may have. `Deals`
 //! defines how items are dealt into even parts, `Parts` the parts of a node, and `Messages` the rows of a map and the messages that change
 //! them. `Walks`, `Portions` and `Folds` define what is read: one node, subtrees with the messages above them, and a visitor that takes
@@ -52,9 +50,8 @@ mod read;
 mod tree;
 
 pub use flush::group::close;
-pub use flush::leaf_parts::{LeafPart, leaf_count, pack_part, rows_in_part};
 pub use flush::opening::{Opened, Step, open};
-pub use flush::planning::next_planned;
+pub use flush::planning::plan;
 pub use form::children::Children;
 pub use form::mode::Mode;
 pub use form::node::{Node, Parts, Siblings};
@@ -66,4 +63,4 @@ pub use form::source::RowSource;
 pub use read::portions::Portion;
 pub use read::visitor::{Copies, ForkVisitor, Visitor};
 pub use read::walk::Walk;
-pub use tree::{Tree, absorb_alone, crown, drain_alone, pack, pack_parts, pack_source, regroup};
+pub use tree::{Tree, absorb_alone, crown, drain_alone, pack, pack_source, regroup};

@@ -12,7 +12,6 @@ ghost use Rattle.bt_node.specs.Drains.{AreDry, IsDry, drain, drained, packed, re
 ghost use Rattle.bt_node.specs.Fits.{AreFit, HasShape, IsInOrder};
 ghost use Rattle.bt_node.specs.Flushes.{absorb, crown, flush_in, grouped, holds, shared, sunk};
 ghost use Rattle.bt_node.specs.Laws.{ChosenArePlanned, ComeByOneRule, FitAbove, FitThere, FlushesInTurn, HoldAllAfter, HoldRowsAfter, HoldsAfter, HoldsAll, HoldsTheSame, KeepHeight, StandsAbove, StayWithoutPacket};
-ghost use Rattle.bt_node.specs.LeafParts.{AreLeavesOf};
 ghost use Rattle.bt_node.specs.Messages.{Rows as RowsOf};
 ghost use Rattle.bt_node.specs.Trees.{leaf, nodes, pivots_of};
 ghost use Rattle.bt_node.specs.inside.Flushing.{IsReady};
@@ -20,7 +19,7 @@ ghost use Rattle.bt_node.specs.inside.Flushing.{IsReady};
 use crate::flush::crown::crown_node;
 use crate::flush::flushing::flush;
 use crate::flush::group::{close, leaves};
-use crate::flush::leaf_parts::{LeafPart, joined_leaves, source_leaves};
+use crate::flush::source_leaves::source_leaves;
 use crate::form::children::Children;
 use crate::form::mode::Mode;
 use crate::form::node::{Node, Siblings};
@@ -187,23 +186,6 @@ pub fn pack_source<V: Merge, S: RowSource<V>>(
     ensures dry { IfOk result (λ tree. IsDry tree.1) }
 {
     let siblings = source_leaves(alloc, shape, count, rows)?;
-    Ok(crown(alloc, shape, siblings)?)
-}
-
-/// The tree that [`pack`] builds, from parts of its leaves that [`pack_part`](crate::pack_part) made, perhaps on several threads. The parts, in order, have
-/// all leaves of some sorted rows. No row is moved. An `Err` drops the parts.
-pub fn pack_parts<V: Merge>(
-    alloc: Global,
-    shape: Shape,
-    parts: Vec<LeafPart<V>>,
-) -> Result<Tree<V>, AllocError>
-    requires { (rows : RowsOf V) × AreLeavesOf shape rows parts.items }
-    ensures tree { IfOk result (λ tree. (rows : RowsOf V) → AreLeavesOf shape rows parts.items → tree ≡ (shape, packed shape rows)) }
-    ensures fits { IfOk result (λ tree. HasShape (weigh_of V.terms) tree.0 tree.1) }
-    ensures rows { IfOk result (λ tree. (rows : RowsOf V) → AreLeavesOf shape rows parts.items → holds (effect_of V.terms.merged) tree.1 ≡ rows) }
-    ensures dry { IfOk result (λ tree. IsDry tree.1) }
-{
-    let siblings = joined_leaves(alloc, parts)?;
     Ok(crown(alloc, shape, siblings)?)
 }
 

@@ -1,12 +1,12 @@
 -- The packed layout, version 1: values, rows and headers as bytes. Numbers are little endian, and there are no pointers.
 use Rattle.std.specs.Int.{cast_signed, cast_unsigned, from_le_bytes, to_le_bytes, w32, w64}
-use Rattle.std.specs.Prelude.{ℕ, ℤ, ◌≡◌, ◌≢◌, ◌+◌, ◌==◌, ◌++◌, true, false, List, [], ◌∷◌, length, take, drop, nat_le, option_map}
+use Rattle.std.specs.Prelude.{ℕ, ℤ, ◌+◌, ◌==◌, ◌++◌, true, false, List, [], ◌∷◌, length, take, drop, nat_le, option_map}
 use Rattle.std.specs.Prelude.{Option, Some, None, Result, Ok, Err, if◌then◌else◌}
 use Rattle.std.specs.Cmp.Lexicographic.{pointwise}
 use Rattle.bt_value.specs.Kinds.{Content, Number, Bytes, Bit, content_of, form_of, value_with}
 use Rattle.bt_value.specs.Values.{takes_content}
 use Rattle.bt_value.specs.declared.refusal.Refusal.{Refusal}
-use Rattle.bt_value.specs.declared.refusal.Refusal.TheVariants.{BadField, OutOfMemory, Syntax}
+use Rattle.bt_value.specs.declared.refusal.Refusal.TheVariants.{BadField, Syntax}
 use Rattle.bt_value.specs.declared.value.Form.{Form}
 use Rattle.bt_value.specs.declared.value.Form.TheVariants as form
 use Rattle.bt_value.specs.declared.value.Kind.{Kind}
@@ -97,11 +97,6 @@ bad_bytes item column = fault_at (BadField item) item column
 -- the bytes do not begin with a header
 abbrev pub no_header : Fault
 no_header = fault_at Syntax 0 0
-
--- a call's result is this answer, or says that it ran out of memory
-abbrev pub AnswersAt : {T : Type 0} → Result T Fault → Result T Fault → Type 0
-AnswersAt answer (Ok value) = answer ≡ Ok value
-AnswersAt answer (Err fault) = fault.refusal ≢ OutOfMemory → answer ≡ Err fault
 
 -- ---- rows and headers
 

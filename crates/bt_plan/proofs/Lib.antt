@@ -6,6 +6,5 @@ pub mod offered
 pub mod Opening
 pub mod Passes
 pub mod Places
-pub mod PlanSizes
 pub mod Steps
 pub mod WorkedRows

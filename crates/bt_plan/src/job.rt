@@ -4,7 +4,6 @@ ghost use Rattle.bt_plan.specs.Cuts.{child_place, root_place};
 ghost use Rattle.bt_plan.specs.Pieces.{node_place_cmp};
 ghost use Rattle.bt_plan.specs.Views.{node_place};
 
-use crate::arrays::array_copy;
 use arrayvec::ArrayVec;
 use bt_gang::DEEPEST_CUT;
 use bt_messages::{Merge, Packet};
@@ -33,9 +32,13 @@ impl Place {
     pub fn copy(&self) -> Self
         ensures { node_place result ≡ node_place self.now }
     {
+        let mut path = ArrayVec::new();
+        if path.try_extend_from_slice(self.path.as_slice()).is_err() {
+            unreachable!()
+        }
         Place {
             tree: self.tree,
-            path: array_copy(self.path.as_slice()),
+            path,
         }
     }
 

@@ -10,14 +10,11 @@
 //! a tree in pieces. `proofs` has small trees cut and filled, in `WorkedRows`.
 #![tactic(auto)]
 
-mod arrays;
 mod cutting;
-mod flush_plan;
 mod holed;
 mod job;
 
-pub use bt_node::Mode;
+pub use bt_node::{Mode, plan};
 pub use cutting::cut;
-pub use flush_plan::plan;
 pub use holed::{Holed, HoledNode, HoledParts};
 pub use job::{Job, Place};

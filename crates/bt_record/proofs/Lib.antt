@@ -1,3 +1,4 @@
+pub mod CsvReads
 pub mod Found
 pub mod Marks
 pub mod Pieces

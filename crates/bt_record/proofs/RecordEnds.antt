@@ -20,7 +20,7 @@ use Rattle.bt_record.specs.inside.RecordParts.{EndsAt, begins_record, is_line_en
 use Rattle.bt_value.specs.PlainFields.{is_special}
 use Rattle.bt_record.proofs.Found.{ends_inside, is_inside, or-left, or-right, step_inside}
 use Rattle.bt_record.proofs.ReaderSteps.{at_byte, ends, goes_on}
-use Rattle.bt_record.proofs.RecordsOf.{first_record}
+use Rattle.bt_record.proofs.RecordsOf.{first_record, line_end_more}
 
 -- ---- bytes in a record
 
@@ -108,12 +108,17 @@ fields_before text place s so_far begins =
     let read = from_field bytes begins ∙ ap (next_record default_config st.StartField [] []) (sym (append-nil bytes)) ∙ so_far.3 [] ∙ end in
     ap (option_map (λ p. p.0)) read
 
--- the same fields, and the text after the byte at the place
-ends_with : (text : List ℕ) (place : ℕ) (fields : List (List ℕ)) (t : State) → begins_record text ≡ true → csv_record (take place text) ≡ Some fields
-    → next_record default_config st.StartRecord [] [] text ≡ Some (fields, t, drop (place + 1) text) → EndsAt text place
-ends_with text place fields t begins alone read =
+-- the same fields, and the text from the place on
+ends_with : (text : List ℕ) (place : ℕ) (fields : List (List ℕ)) (t : State) (rest : List ℕ) → begins_record text ≡ true → csv_record (take place text) ≡ Some fields
+    → next_record default_config st.StartRecord [] [] text ≡ Some (fields, t, rest) → records default_config rest ≡ records default_config (drop place text)
+    → begins_record (drop place text) ≡ false → EndsAt text place
+ends_with text place fields t rest begins alone read others line_end =
     let same : fields_in (take place text) ≡ fields = ap (λ (o : Option (List (List ℕ))). unwrap_or o []) alone in
-    (ap is_some alone, rw same (first_of text (fields, t, drop (place + 1) text) begins read))
+    (ap is_some alone, rw same (first_of text (fields, t, rest) begins read ∙ ap (λ (l : List (List (List ℕ))). fields ∷ l) others), line_end)
+
+-- a byte that ends a record is a line end
+end_is : (s : State) (b : ℕ) → is_inside s ≡ true → is_end (step default_config s b).1 ≡ true → is_line_end b ≡ true
+end_is s b inside ends = elim (cases_Bool (is_line_end b)) [ inl is ↦ is | inr other ↦ absurd (false≢true (sym (ends_none s b inside other) ∙ ends)) ]
 
 -- a text, by the bytes before a place
 from_place : (text : List ℕ) (place : ℕ) (s : State) (so_far : Inside text place s)
@@ -126,10 +131,15 @@ pub ends_here : (text : List ℕ) (place : ℕ) (s : State) (x : Action) → beg
 ends_here text place s x begins within action is so_far =
     let b = get_or text place 0 in
     let fields = so_far.1 ++ so_far.2 ∷ [] in
-    let before = begins_before text place s begins so_far.0 (ap is_end (sym action ∙ is)) in
-    let last = ends s so_far.1 so_far.2 b (drop (place + 1) text) (sym is ∙ action) in
-    let read = from_field text begins ∙ from_place text place s so_far ∙ ap (next_record default_config s so_far.1 so_far.2) (at_byte text place within) ∙ last in
-    ends_with text place fields (step default_config s b).0 begins (fields_before text place s so_far before) read
+    let ended = ap is_end (sym action ∙ is) in
+    let line_end = end_is s b so_far.0 ended in
+    let rest = drop (place + 1) text in
+    let here = at_byte text place within in
+    let before = begins_before text place s begins so_far.0 ended in
+    let last = ends s so_far.1 so_far.2 b rest (sym is ∙ action) in
+    let read = from_field text begins ∙ from_place text place s so_far ∙ ap (next_record default_config s so_far.1 so_far.2) here ∙ last in
+    ends_with text place fields (step default_config s b).0 rest begins (fields_before text place s so_far before) read
+    (sym (ap (records default_config) here ∙ line_end_more b rest line_end)) (ap begins_record here ∙ ap not line_end)
 
 -- the record ends with the text
 pub ends_last : (text : List ℕ) (place : ℕ) (s : State) → begins_record text ≡ true → place ≡ length text → Inside text place s → EndsAt text (length text)
@@ -137,13 +147,13 @@ unfolding next_record
 ends_last text place s begins is so_far =
     let fields = so_far.1 ++ so_far.2 ∷ [] in
     let none : drop place text ≡ [] = drop_all place text (omega (arith, is)) in
-    let behind : drop (length text + 1) text ≡ [] = drop_all (length text + 1) text (omega arith) in
+    let no_rest : drop (length text) text ≡ [] = drop_all (length text) text (omega arith) in
     let end : next_record default_config s so_far.1 so_far.2 [] ≡ Some (fields, st.StartRecord, []) = rw (ends_inside s so_far.0) refl in
     let read : next_record default_config st.StartRecord [] [] text ≡ Some (fields, st.StartRecord, []) =
     from_field text begins ∙ from_place text place s so_far ∙ ap (next_record default_config s so_far.1 so_far.2) none ∙ end in
     let whole : csv_record text ≡ Some fields = ap (option_map (λ p. p.0)) read in
     let alone : csv_record (take (length text) text) ≡ Some fields = ap csv_record (take_all (length text) text (omega arith)) ∙ whole in
-    ends_with text (length text) fields st.StartRecord begins alone (read ∙ ap (λ (rest : List ℕ). Some (fields, st.StartRecord, rest)) (sym behind))
+    ends_with text (length text) fields st.StartRecord [] begins alone read (ap (records default_config) (sym no_rest)) (ap begins_record no_rest)
 
 -- ---- a record without quotes
 

@@ -1,7 +1,7 @@
 -- The records of a text: the first record, then those of the text after it. Serves iterating over them.
 use Rattle.std.proofs.Common.{ℕ, zero, suc, Bool, List, [], ◌∷◌, ◌≡◌, ◌==◌, ◌<◌, ◌≤◌, ◌+◌, ◌-◌, ◌++◌, ◌∙◌, refl, ap, sym, arith, true, false, inl, inr, drop, get_or, length, take, Option, Some, None}
 use Rattle.std.proofs.lemmas.Bool.{cases_Bool, false≢true}
-use Rattle.std.proofs.lemmas.List.{take_all}
+use Rattle.std.proofs.lemmas.List.{nil_from_length, take_all}
 use Rattle.std.specs.Prelude.{IfSome, if◌then◌else◌}
 use Rattle.csv.specs.Machine.{Read, ends_at_end, field_after, fields_after, in_field, is_end, next_record, step}
 use Rattle.csv.specs.Reading.{default_config, records, records_from, records_next}
@@ -124,9 +124,9 @@ from_between (suc n) st.AfterQuote text is = absurd cc
 from_between (suc n) st.InEscape text is = absurd cc
 from_between (suc n) st.InComment text is = absurd cc
 
-one_turn : (n : ℕ) (text : List ℕ) → records_from default_config (suc n) st.StartRecord text ≡ records_next (records_from default_config n) (next_record default_config st.StartRecord [] [] text)
+one_turn : (n : ℕ) (s : State) (text : List ℕ) → records_from default_config (suc n) s text ≡ records_next (records_from default_config n) (next_record default_config s [] [] text)
 unfolding records_from
-one_turn n text = refl
+one_turn n s text = refl
 
 none_of_nothing : next_record default_config st.StartRecord [] [] [] ≡ None
 unfolding next_record
@@ -147,29 +147,50 @@ turns_behind n m size (Some r) same more_n more_m left =
 turns : (n m : ℕ) (text : List ℕ) → length text < n → length text < m → records_from default_config n st.StartRecord text ≡ records_from default_config m st.StartRecord text
 turns zero m text more_n more_m = absurd (omega (arith, more_n))
 turns (suc n) zero text more_n more_m = absurd (omega (arith, more_m))
-turns (suc n) (suc m) [] more_n more_m = rw (one_turn n [], one_turn m [], none_of_nothing) refl
+turns (suc n) (suc m) [] more_n more_m = rw (one_turn n st.StartRecord [], one_turn m st.StartRecord [], none_of_nothing) refl
 turns (suc n) (suc m) (b ∷ bs) more_n more_m =
     let behind = turns_behind n m (length bs) (next_record default_config st.StartRecord [] [] (b ∷ bs)) (turns n m) (omega (arith, more_n))
     (omega (arith, more_m)) (leaves st.StartRecord [] [] (b ∷ bs)) in
-    one_turn n (b ∷ bs) ∙ behind ∙ sym (one_turn m (b ∷ bs))
+    one_turn n st.StartRecord (b ∷ bs) ∙ behind ∙ sym (one_turn m st.StartRecord (b ∷ bs))
 
 -- a text with nothing left has no records
 pub no_more : records default_config [] ≡ []
 unfolding records_from
 no_more = rw none_of_nothing refl
 
-opened : (text : List ℕ) → records default_config text ≡ records_next (records_from default_config (length text)) (next_record default_config st.StartRecord [] [] text)
-opened text =
+-- the records of a text that is read from a state
+abbrev from_state : State → List ℕ → List (List (List ℕ))
+from_state s text = records_from default_config (length text + 1) s text
+
+opened : (s : State) (text : List ℕ) → from_state s text ≡ records_next (records_from default_config (length text)) (next_record default_config s [] [] text)
+opened s text =
     let one_more : length text + 1 ≡ suc (length text) = omega arith in
-    ap (λ (n : ℕ). records_from default_config n st.StartRecord text) one_more ∙ one_turn (length text) text
+    ap (λ (n : ℕ). records_from default_config n s text) one_more ∙ one_turn (length text) s text
+
+-- if no record was read, there is none
+pub none_from : (s : State) (text : List ℕ) → next_record default_config s [] [] text ≡ None → from_state s text ≡ []
+none_from s text none = opened s text ∙ ap (records_next (records_from default_config (length text))) none
+
+-- the records of what is left after a record do not depend on the number of iterations
+left_after : (text : List ℕ) (r : Read) → Leaves (length text) r → records_from default_config (length text) r.1 r.2 ≡ from_state r.1 r.2
+unfolding records_from
+left_after [] r left =
+    let nothing : r.2 ≡ [] = nil_from_length r.2 (omega (arith, left.1)) in
+    sym (from_between (length r.2 + 1) r.1 r.2 left.0 ∙ rw nothing (rw none_of_nothing refl))
+left_after (b ∷ bs) r left =
+    from_between (length (b ∷ bs)) r.1 r.2 left.0 ∙ turns (length (b ∷ bs)) (length r.2 + 1) r.2 (omega (arith, left.1)) (omega arith) ∙ sym (from_between (length r.2 + 1) r.1 r.2 left.0)
+
+-- the record that was read from a state is the first, and those that are read from the next state follow
+pub next_from : (s : State) (text : List ℕ) (r : Read) → next_record default_config s [] [] text ≡ Some r → from_state s text ≡ r.0 ∷ from_state r.1 r.2
+next_from s text r read =
+    let left : Leaves (length text) r = rw read at (leaves s [] [] text) in
+    opened s text ∙ ap (records_next (records_from default_config (length text))) read ∙ ap (λ (others : List (List (List ℕ))). r.0 ∷ others) (left_after text r left)
 
 -- the record that was read is the first, and those of the rest follow
 pub first_record : (b : ℕ) (bs : List ℕ) (r : Read) → next_record default_config st.StartRecord [] [] (b ∷ bs) ≡ Some r → records default_config (b ∷ bs) ≡ r.0 ∷ records default_config r.2
 first_record b bs r read =
-    let size = suc (length bs) in
-    let left : Leaves size r = rw read at (leaves st.StartRecord [] [] (b ∷ bs)) in
-    let behind : records_from default_config size r.1 r.2 ≡ records default_config r.2 = from_between size r.1 r.2 left.0 ∙ turns size (length r.2 + 1) r.2 (omega (arith, left.1)) (omega arith) in
-    opened (b ∷ bs) ∙ ap (records_next (records_from default_config size)) read ∙ ap (λ (others : List (List (List ℕ))). r.0 ∷ others) behind
+    let left : Leaves (length (b ∷ bs)) r = rw read at (leaves st.StartRecord [] [] (b ∷ bs)) in
+    next_from st.StartRecord (b ∷ bs) r read ∙ ap (λ (others : List (List (List ℕ))). r.0 ∷ others) (from_between (length r.2 + 1) r.1 r.2 left.0)
 
 reads_over : (b : ℕ) (bs : List ℕ) → is_line_end b ≡ true → next_record default_config st.StartRecord [] [] (b ∷ bs) ≡ next_record default_config st.StartRecord [] [] bs
 unfolding next_record
@@ -179,7 +200,7 @@ reads_over b bs is = rw is refl
 pub line_end_more : (b : ℕ) (bs : List ℕ) → is_line_end b ≡ true → records default_config (b ∷ bs) ≡ records default_config bs
 line_end_more b bs is =
     let size = suc (length bs) in
-    opened (b ∷ bs) ∙ ap (records_next (records_from default_config size)) (reads_over b bs is) ∙ sym (one_turn size bs) ∙ turns (suc size) (length bs + 1) bs (omega arith) (omega arith)
+    opened st.StartRecord (b ∷ bs) ∙ ap (records_next (records_from default_config size)) (reads_over b bs is) ∙ sym (one_turn size st.StartRecord bs) ∙ turns (suc size) (length bs + 1) bs (omega arith) (omega arith)
 
 -- the same, by the first byte of a text and the bytes after it
 pub line_end_first : (text : List ℕ) → 1 ≤ length text → true ≡ is_line_end (get_or text 0 0) → records default_config (take (length text - 1) (drop 1 text)) ≡ records default_config text

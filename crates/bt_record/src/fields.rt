@@ -115,6 +115,14 @@ impl Fields {
         Fields { bytes, spans }
     }
 
+    /// Removes all fields, and keeps the memory for others.
+    pub fn clear(&mut self)
+        ensures { self.new ≡ [] }
+    {
+        self.bytes.clear();
+        self.spans.clear();
+    }
+
     /// The fields, borrowed.
     pub fn as_ref(&self) -> FieldsRef<'_>
         ensures { result ≡ self.now }

@@ -1,27 +1,33 @@
 //! The records of a text, one after the other.
-ghost use Rattle.std.specs.Prelude.{◌≡◌, ◌≤◌, ◌+◌, ◌∷◌, [], drop, false, length, true, IfNone, IfSome, MatchOption};
+ghost use Rattle.std.specs.Prelude.{◌≡◌, ◌≤◌, ◌∷◌, [], false, length, true, IfNone, IfSome, MatchOption};
 ghost use Rattle.csv.specs.Reading.{default_config, records, strip_bom};
 ghost use Rattle.bt_record.specs.Records.{has_mark as is_behind_mark};
 ghost use Rattle.bt_record.specs.inside.RecordParts.{EndsAt, begins_record, is_line_end as ends_line};
 
+use crate::csv_reader::CsvReader;
 use crate::csv_states::record_end;
 use crate::line::{RecordLine, has_mark, without_mark};
 use memchr::memchr3;
+use std::alloc::Global;
 use std::marker::Model;
 
 /// The rest of the records of a text, as `csv` reads them, borrowed. A contract sees the fields of each.
 #[derive(Drop)]
 pub struct Records<'a> {
+    // the rest of the text, from the line end that ended the last record
     rest: &'a [u8],
 }
 
 impl<'a> Model for Records<'a> {
-    ghost use Rattle.std.specs.Prelude.{List, ℕ};
+    ghost use Rattle.std.specs.Prelude.{◌≡◌, List, ℕ, false};
     ghost use Rattle.csv.specs.Reading.{default_config, records};
+    ghost use Rattle.bt_record.specs.Records.{has_mark as is_behind_mark};
 
     ghost Value = { List (List (List ℕ)) };
 
     ghost view = { λ a. records default_config a.rest.now };
+
+    ghost invariant = { λ a. is_behind_mark a.rest.now ≡ false };
 }
 
 // Whether a byte ends a line.
@@ -62,17 +68,6 @@ fn find_record_end(text: &[u8]) -> usize
     }
 }
 
-// The text after the byte at a place.
-fn rest_behind(text: &[u8], place: usize) -> &[u8]
-    requires { place ≤ length text.now }
-    ensures { result.now ≡ drop (place + 1) text.now }
-{
-    match &text[place..] {
-        [_, rest @ ..] => rest,
-        [] => &[],
-    }
-}
-
 impl<'a> Records<'a> {
     /// The records of a text. One byte order mark at its start is dropped; if there are two, the result is `None`.
     pub fn new(text: &'a [u8]) -> Option<Self>
@@ -87,14 +82,29 @@ impl<'a> Records<'a> {
         Some(Records { rest })
     }
 
+    /// The same records again.
+    pub fn copy(&self) -> Records<'a>
+        ensures { result ≡ self.now }
+    {
+        Records { rest: self.rest }
+    }
+
+    /// A `csv` reader of these records.
+    pub fn csv_reader(&self, alloc: Global) -> CsvReader<'a>
+        ensures { result ≡ self.now }
+    {
+        CsvReader::new(alloc, self.rest)
+    }
+
     /// The next record, if there is one.
+    #[tactic(auto, using(crate::proofs::Marks::unmarked))]
     pub fn next(&mut self) -> Option<RecordLine<'a>>
         ensures some { IfSome result (λ line. self.old ≡ line ∷ self.new) }
         ensures none { IfNone result ((self.old ≡ []) × (self.new ≡ [])) }
     {
         let text = skip_line_ends(self.rest)?;
         let place = find_record_end(text);
-        self.rest = rest_behind(text, place);
+        self.rest = &text[place..];
         Some(RecordLine::of(&text[..place]))
     }
 }

@@ -1,9 +1,9 @@
 //! Records that have the names of columns.
 ghost use Rattle.std.specs.Prelude.{◌≡◌, ◌==◌};
 ghost use Rattle.std.specs.Cmp.Lexicographic.{pointwise};
-ghost use Rattle.bt_rowtype.specs.Loads.{is_header};
+ghost use Rattle.bt_rowtype.specs.Loads as loads;
 
-use bt_record::FieldsRef;
+use bt_record::Fields;
 use bt_row::Column;
 
 // Whether a column has this name.
@@ -14,8 +14,8 @@ fn is_named(column: &Column, name: &[u8]) -> bool
 }
 
 /// Whether fields are the names of the columns, in order.
-pub(crate) fn are_names(columns: &[Column], names: &FieldsRef<'_>) -> bool
-    ensures { result ≡ is_header columns.now names.now }
+pub fn is_header(columns: &[Column], names: &Fields) -> bool
+    ensures { result ≡ loads.is_header columns.now names.now }
 {
     if names.len() != columns.len() {
         return false;

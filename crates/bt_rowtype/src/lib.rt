@@ -5,7 +5,8 @@
 //! change single columns of a row. Together with the row to begin with, they are a [`Change`].
 //!
 //! The records of a CSV text are borrowed one after the other ([`Records`]). A [`RecordReader`] reads rows, keys and upserts directly from
-//! lines. If you already have owned [`Fields`], then [`read_row`], [`read_key`], [`read_ops`] and [`read_upsert`] return the same.
+//! lines. If you already have owned [`Fields`], then [`read_row`], [`read_key`], [`read_ops`] and [`read_upsert`] return the same, and
+//! [`is_header`] compares them with the names of columns.
 //!
 //! The crate depends on three crates: `bt_value` has kinds, values and refusals, `bt_record` cuts texts into records and fields, and
 //! `bt_row` has rows, schemas and operations. This crate re-exports the parts of them that most callers need. A crate that needs only
@@ -53,6 +54,7 @@ pub use bt_value::{
     Sequence, Text, Texts, TryClone, Value, ValueRef, clone_all, least_with, read_field, write_hex,
     write_number,
 };
+pub use header::is_header;
 pub use item::Item;
 pub use record_reader::RecordReader;
 pub use row_reader::{read_key, read_row};

@@ -2,18 +2,16 @@
 ghost use Rattle.std.specs.Prelude.{◌≡◌, ◌≢◌, ◌<◌, ◌≤◌, length, take, IfErr, IfOk};
 ghost use Rattle.std.specs.Result.{result_map_both};
 ghost use Rattle.bt_value.specs.Answers.{Answers};
-ghost use Rattle.bt_rowtype.specs.Loads as loads;
 ghost use Rattle.bt_row.specs.Ops as spec;
 ghost use Rattle.bt_row.specs.Schemas.{prefix_as, read_as};
 
-use crate::header::are_names;
 use crate::plain_row::read_plain_row;
 use crate::row_reader::{read_fields, read_values};
 use crate::upsert::{Upsert, read_plain_upsert, read_upsert_record};
 use bt_record::{FieldsRef, RecordCutter, RecordLine};
 use bt_row::{Change, Column, MOST_OPS, Row, Schema, default_row, one_op};
 use bt_value::Refusal;
-use std::alloc::{AllocError, Global};
+use std::alloc::Global;
 
 /// Reads lines, one after the other. Lines share the reader's memory. A line with too many fields takes no more of it than one
 /// with as many fields as are allowed.
@@ -44,20 +42,6 @@ impl RecordReader {
         match self.cutter.fields(line, most)? {
             Some(fields) => Ok(fields),
             None => Err(Refusal::BadLength(item)),
-        }
-    }
-
-    /// Whether a line encodes the names of these columns, in order.
-    pub fn is_header(
-        &mut self,
-        columns: &[Column],
-        line: &RecordLine<'_>,
-    ) -> Result<bool, AllocError>
-        ensures { IfOk result (λ same. same ≡ loads.is_header columns.now line.now) }
-    {
-        match self.cutter.fields(line, columns.len())? {
-            Some(fields) => Ok(are_names(columns, &fields)),
-            None => Ok(false),
         }
     }
 

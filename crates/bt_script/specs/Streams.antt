@@ -1,9 +1,11 @@
 -- Streams that record whether a call failed, how many bytes passed and whether all were flushed, in terms of the bytes that a reader has left and a writer
 -- holds.
-use Rattle.std.specs.Prelude.{◌≡◌, ◌==◌, ◌&&◌, ◌+◌, ◌<◌, ◌≤◌, ◌⊎◌, length, not, ℕ, Bool, false, true, List, take, Option, Result, Ok, Err, MatchResult}
+use Rattle.std.specs.Prelude.{codes, ◌≡◌, ◌==◌, ◌&&◌, ◌++◌, ◌+◌, ◌<◌, ◌≤◌, ◌⊎◌, length, not, ℕ, Bool, false, true, List, take, Option, Result, Ok, Err, MatchResult}
 use Rattle.std.specs.Io.KnownBytes.{Appends, Consumes}
 use Rattle.std.specs.Io.Iter.{u64_saturate}
 use Rattle.bt_script.specs.declared.counted.Counted.{Counted}
+use Rattle.bt_script.specs.declared.streams.RunFault.{RunFault}
+use Rattle.bt_script.specs.declared.streams.RunFault.TheVariants.{OutOfMemory, Read, Write}
 
 -- the largest number of bytes of a script, 64 MiB
 abbrev pub script_limit : ℕ
@@ -66,3 +68,13 @@ write_failed (Err error) offered = true
 abbrev pub took_some : {E : Type 0} → Result ℕ E → Bool
 took_some (Ok taken) = not (taken == 0)
 took_some (Err error) = false
+
+-- why a run ends early, in words
+abbrev pub fault_text : RunFault → List ℕ
+fault_text Read = codes "read failed"
+fault_text Write = codes "write failed"
+fault_text OutOfMemory = codes "out of memory"
+
+-- the line of the error stream with these words
+abbrev pub error_line : List ℕ → List ℕ
+error_line words = codes "betable: " ++ (words ++ codes "\n")

@@ -28,5 +28,5 @@ pub use command::{Bounds, Capacity, Command, IndexForm, Items, Parsed, SumsForm,
 pub use counted::Counted;
 pub use load::BlockText;
 pub use parse::parse_command;
-pub use streams::{RunFault, SCRIPT_LIMIT, read_script, write_text};
+pub use streams::{RunFault, SCRIPT_LIMIT, read_script, write_error, write_text};
 pub use words::{Words, WordsError, read_words};

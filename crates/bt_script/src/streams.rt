@@ -1,6 +1,6 @@
 //! Reading a whole script, and writing text.
 ghost use Rattle.std.specs.Prelude.{◌≡◌, ◌≤◌, ◌+◌, true, length, IfOk, OnOk, OnErr, IfSome, IsErrOf};
-ghost use Rattle.bt_script.specs.Streams.{FailsToGive, Gave, GaveAtMost, Took, TookPrefix, has_failed, script_limit, source_of};
+ghost use Rattle.bt_script.specs.Streams.{FailsToGive, Gave, GaveAtMost, Took, TookPrefix, error_line, fault_text, has_failed, script_limit, source_of};
 
 use crate::counted::Counted;
 use std::alloc::{AllocError, Global};
@@ -20,16 +20,28 @@ const ROOM_SIZE: usize = 33_488_896;
 
 /// Why a run ends early.
 #[derive(Debug, Drop, Error)]
+#[error("{text}", text = self.text())]
 pub enum RunFault {
     /// A read failed, the file of the script did not open, or the script is longer than [`SCRIPT_LIMIT`].
-    #[error("read failed")]
     Read,
     /// A write or a flush failed.
-    #[error("write failed")]
     Write,
     /// An allocation failed.
-    #[error("out of memory")]
     OutOfMemory,
+}
+
+impl RunFault {
+    /// The fault in words, as `Display` shows it. The derive of `Display` has no contract, so the program, whose line of the error stream is proved, writes
+    /// this text.
+    pub fn text(&self) -> &'static str
+        ensures { result.now ≡ fault_text self.now }
+    {
+        match self {
+            RunFault::Read => "read failed",
+            RunFault::Write => "write failed",
+            RunFault::OutOfMemory => "out of memory",
+        }
+    }
 }
 
 impl From<AllocError> for RunFault {
@@ -86,4 +98,15 @@ pub fn write_text<W: Write>(writer: &mut Counted<W>, text: &[u8]) -> Result<(), 
         }
     }
     Ok(())
+}
+
+/// Writes these words as a line of the error stream, after `betable: `. If it fails, a prefix of the line is written.
+pub fn write_error<W: Write>(errors: &mut Counted<W>, words: &str) -> Result<(), RunFault>
+    ensures ok { OnOk result (Took W.contents errors.old errors.new (error_line words.now)) }
+    ensures err { OnErr result (TookPrefix W.contents errors.old errors.new (error_line words.now)) }
+    ensures fault { OnErr result (has_failed errors.new ≡ true) }
+{
+    write_text(errors, b"betable: ")?;
+    write_text(errors, words.as_bytes())?;
+    write_text(errors, b"\n")
 }

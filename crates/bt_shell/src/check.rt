@@ -53,7 +53,7 @@ fn check_of_table(alloc: Global, table: &Table, command: Command<'_>) -> Result<
         }
         Command::Build(name, _count) => table.check_build(&name),
         Command::Drop(name) => table.check_drop(&name),
-        Command::Load(text) => table.check_load_by(&InTurn, alloc, text.as_bytes()),
+        Command::Load(text) => table.check_load(&InTurn, alloc, text.as_bytes()),
         Command::Drain(tree) => table.check_upkeep(&tree),
         Command::Rebuild(tree) => table.check_upkeep(&tree),
     }

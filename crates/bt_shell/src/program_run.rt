@@ -4,7 +4,7 @@ ghost use Rattle.bt_script.specs.Options.{AreWithinLimits, AsksHelp, IsFaulty, I
 ghost use Rattle.bt_script.specs.Streams.{FailsToGive, GaveAtMost, GivesWithin, Took, count_of, has_failed, has_unflushed, script_limit, source_of};
 ghost use Rattle.bt_shell.specs.Programs.{AnswersPrefix, AnswersReplies, AnswersScript, AreHealthy, HasCause, IsToRun, LeavesInput};
 ghost use Rattle.bt_shell.specs.Runs.{IsWholeRun, WritesPrefix, WritesReplies, WritesRun, state_after_commands};
-ghost use Rattle.bt_shell.specs.Statuses.{TookLine, line_of, status_of};
+ghost use Rattle.bt_shell.specs.Statuses.{TookLine, status_of, words_of};
 ghost use Rattle.bt_shell.specs.declared.program_run.ProgramFault.{ProgramFault};
 ghost use Rattle.bt_table.specs.Standing.{CompleteIndexesHold, IsSound};
 ghost use Rattle.std.specs.declared.option.Option.TheVariants.{None};
@@ -12,7 +12,7 @@ ghost use Rattle.std.specs.declared.option.Option.TheVariants.{None};
 use crate::context::Context;
 use crate::script_run::{RunMemory, flush_output};
 use bt_gang::{Crew, NoGate};
-use bt_script::{Counted, RunFault, Words, WordsError, read_words, write_text};
+use bt_script::{Counted, RunFault, Words, WordsError, read_words, write_error, write_text};
 use bt_value::Texts;
 use std::alloc::AllocError;
 use std::io::{Read, Write};
@@ -54,15 +54,13 @@ impl From<AllocError> for ProgramFault {
 }
 
 impl ProgramFault {
-    // The fault as a line of the standard error stream.
-    fn line(&self) -> &'static str
-        ensures { result.now ≡ line_of self.now }
+    // The fault in words.
+    fn text(&self) -> &'static str
+        ensures { result.now ≡ words_of self.now }
     {
         match self {
-            ProgramFault::Words => "betable: faulty command line\n",
-            ProgramFault::Run(RunFault::Read) => "betable: read failed\n",
-            ProgramFault::Run(RunFault::Write) => "betable: write failed\n",
-            ProgramFault::Run(RunFault::OutOfMemory) => "betable: out of memory\n",
+            ProgramFault::Words => "faulty command line",
+            ProgramFault::Run(fault) => fault.text(),
         }
     }
 
@@ -72,7 +70,7 @@ impl ProgramFault {
         ensures status { result ≡ status_of self.now }
         ensures line { TookLine E.contents errors.old errors.new self.now }
     {
-        let _ = write_text(errors, self.line().as_bytes());
+        let _ = write_error(errors, self.text());
         match self {
             ProgramFault::Words => 2,
             ProgramFault::Run(_) => 1,

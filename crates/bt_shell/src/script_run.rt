@@ -100,6 +100,9 @@ pub fn run_commands<W: Write, L: CommandLog, T, C: ScriptWorkforce<T>>(
     ensures sound { IfSome table.new IsSoundUnlessLost }
     ensures complete { IfSome table.new CompleteIndexesHold }
 
+    // A run that ends Ok loses no table.
+    ensures kept { IfSome table.old IsSound → OnOk result (IfSome table.new IsSound) }
+
     // This script, after any script that ends between two commands, is the rest of one script.
     ensures one_run { (first : List ℕ) (before : State) → EndsBetweenCommands first → AreOneRun before first script.now }
 

@@ -123,6 +123,6 @@ impl<T> Workforce<T> for Alone {
         table: &mut Table,
         text: &[u8],
     ) -> Result<Reply, Refusal> {
-        table.load_by(&InTurn, alloc, text)
+        table.load(&InTurn, alloc, text)
     }
 }

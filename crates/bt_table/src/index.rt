@@ -12,10 +12,9 @@ ghost use Rattle.bt_table.specs.Indexes.{index_of_ref, indexes_of};
 ghost use Rattle.bt_table.specs.inside.IndexTrees.{covers_all, empty_head, entry_tree, packet_for, count_for, of_head, of_target, widest, with_cover};
 
 use crate::reply::SentCount;
+use crate::table_loading::TableLoading;
 use crate::workforce::Workforce;
-use bt_fanout::{Cover, IndexDef, IndexTarget, entry_puts, sorted_entries, wider};
-use bt_gang::{Crew, Gate};
-use bt_gather::pack_puts;
+use bt_fanout::{Cover, IndexDef, IndexTarget, wider};
 use bt_keycode::Key;
 use bt_messages::{Entry, Packet};
 use bt_node::{Shape, Tree, pack};
@@ -23,8 +22,6 @@ use bt_row::Row;
 use bt_value::{Sequence, Text};
 use std::alloc::{AllocError, Global};
 use std::mem;
-use std::sync::Wait;
-use std::thread::Threads;
 
 /// An index of a table without the tree of its entries.
 #[derive(Drop)]
@@ -204,67 +201,37 @@ pub(crate) fn put_cover(heads: &mut Vec<IndexHead>, place: usize, cover: Cover)
 }
 
 // The tree of an index of these rows, built from their sorted entries.
-fn packed_entries(
+fn packed_entries<L: TableLoading>(
+    loading: &L,
     alloc: Global,
     shape: Shape,
     def: &IndexDef,
     rows: &[(Key, Row)],
 ) -> Result<Tree<Entry>, AllocError>
-    requires { SuitsRows def.now rows.now }
+    requires ready { L.accepts loading.now }
+    requires suits { SuitsRows def.now rows.now }
     ensures { IfOk result (λ tree. tree ≡ entry_tree shape rows.now def.now) }
 {
-    let entries = sorted_entries(alloc, def, rows)?;
+    let entries = loading.sorted_entries(alloc, def, rows)?;
     pack(alloc, shape, entries)
 }
 
 /// For each index the tree of the entries of these rows.
-pub(crate) fn pack_entries(
+pub(crate) fn pack_entries<L: TableLoading>(
+    loading: &L,
     alloc: Global,
     shape: Shape,
     heads: &[IndexHead],
     rows: &[(Key, Row)],
 ) -> Result<Vec<Tree<Entry>>, AllocError>
-    requires { All (λ head. SuitsRows head.def rows.now) heads.now }
+    requires ready { L.accepts loading.now }
+    requires suit { All (λ head. SuitsRows head.def rows.now) heads.now }
     ensures { IfOk result (λ entries. entries.items ≡ map (λ head. entry_tree shape rows.now head.def) heads.now) }
 {
     let mut entries = Vec::new(alloc);
     for head in heads {
         entries.reserve(1)?;
-        entries.push_reserved(packed_entries(alloc, shape, &head.def, rows)?);
-    }
-    Ok(entries)
-}
-
-// The tree of an index of the rows of a tree, made by the workers of a crew.
-fn packed_tree_entries<G: Gate + Sync, T: Threads + Wait + Sync>(
-    rt: &T,
-    alloc: Global,
-    def: &IndexDef,
-    tree: &Tree<Row>,
-    crew: &Crew<G>,
-) -> Result<Tree<Entry>, AllocError>
-    requires suits { SuitsRows def.now (holds row_effect tree.now.1) }
-    ensures { IfOk result (λ entries. entries ≡ entry_tree tree.now.0 (holds row_effect tree.now.1) def.now) }
-{
-    let puts = entry_puts(rt, alloc, def, tree, crew)?;
-    pack_puts(rt, alloc, tree.shape(), puts, crew)
-}
-
-/// For each index the tree of the entries of the rows of a tree, made by the workers of a crew.
-pub(crate) fn pack_tree_entries<G: Gate + Sync, T: Threads + Wait + Sync>(
-    rt: &T,
-    alloc: Global,
-    heads: &[IndexHead],
-    tree: &Tree<Row>,
-    crew: &Crew<G>,
-) -> Result<Vec<Tree<Entry>>, AllocError>
-    requires suit { All (λ head. SuitsRows head.def (holds row_effect tree.now.1)) heads.now }
-    ensures { IfOk result (λ entries. entries.items ≡ map (λ head. entry_tree tree.now.0 (holds row_effect tree.now.1) head.def) heads.now) }
-{
-    let mut entries = Vec::new(alloc);
-    for head in heads {
-        entries.reserve(1)?;
-        entries.push_reserved(packed_tree_entries(rt, alloc, &head.def, tree, crew)?);
+        entries.push_reserved(packed_entries(loading, alloc, shape, &head.def, rows)?);
     }
     Ok(entries)
 }

@@ -26,6 +26,7 @@ mod alone;
 mod index;
 mod reply;
 mod table;
+mod table_loading;
 mod trees;
 mod workforce;
 
@@ -33,4 +34,5 @@ pub use alone::Alone;
 pub use index::{IndexHead, IndexRef};
 pub use reply::{Reply, SentCount};
 pub use table::{MOST_INDEXES, Table, TreeRef};
+pub use table_loading::TableLoading;
 pub use workforce::Workforce;

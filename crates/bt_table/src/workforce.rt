@@ -24,6 +24,7 @@ use bt_fanout::{
 };
 use bt_gang::{Crew, Gate, NoGate};
 use bt_gather::{MOST_TREES, drain, rebuild, sink};
+use bt_load::{InThreads, InTurn};
 use bt_messages::{Entry, Packet};
 use bt_node::Tree;
 use bt_row::{Row, Schema};
@@ -159,6 +160,27 @@ fn crew_step<G: Gate + Sync, T: Threads + Wait + Sync>(
     build_step(rt, alloc, def, cover, tree, count, crew)
 }
 
+// Loads by at most this many threads of a runtime, or by the caller alone.
+fn crew_load<T: Threads + Sync>(
+    rt: &T,
+    alloc: Global,
+    table: &mut Table,
+    text: &[u8],
+    workers: usize,
+) -> Result<Reply, Refusal>
+    ensures done { IfOk result (IsStep table.old table.new (Load text.now)) }
+    ensures refused { IfErr result (IsRefused table.old table.new (Load text.now)) }
+    ensures unchanged { OnErr result (table.new ≡ table.old) }
+    ensures failed { table.old ≡ Lost → IsErrOf result refusal.Failed }
+    ensures complete { CompleteIndexesHold table.new }
+    ensures sound { IsSoundUnlessLost table.new }
+{
+    if workers > 1 {
+        return table.load(&InThreads { rt, workers }, alloc, text);
+    }
+    table.load(&InTurn, alloc, text)
+}
+
 impl<T: Threads + Wait + Sync> Workforce<T> for Crew<NoGate> {
     ghost use denote.Param.Send.{IsSync};
 
@@ -246,7 +268,7 @@ impl<T: Threads + Wait + Sync> Workforce<T> for Crew<NoGate> {
         table: &mut Table,
         text: &[u8],
     ) -> Result<Reply, Refusal> {
-        table.load_by_crew(rt, alloc, text, self)
+        crew_load(rt, alloc, table, text, self.workers)
     }
 }
 
@@ -337,6 +359,6 @@ impl<T: Threads + Wait + Sync> Workforce<T> for Crew<&(dyn Gate + Sync)> {
         table: &mut Table,
         text: &[u8],
     ) -> Result<Reply, Refusal> {
-        table.load_by_crew(rt, alloc, text, self)
+        crew_load(rt, alloc, table, text, self.workers)
     }
 }

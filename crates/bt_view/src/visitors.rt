@@ -40,14 +40,6 @@ impl RowList {
     {
         self.rows.as_slice()
     }
-
-    /// The rows that were shown, in order, as a vector.
-    pub fn into_rows(self) -> Vec<Row>
-        ensures { result.items ≡ self }
-    {
-        let RowList { rows } = self;
-        rows
-    }
 }
 
 impl Visitor<Row> for RowList {
@@ -106,14 +98,6 @@ impl RecordText {
         ensures { result.now ≡ self.now }
     {
         self.text.as_slice()
-    }
-
-    /// The text as a vector.
-    pub fn into_bytes(self) -> Vec<u8>
-        ensures { result.items ≡ self }
-    {
-        let RecordText { text } = self;
-        text
     }
 }
 

@@ -2,6 +2,7 @@
 use crate::gates::{Counting, Meeting};
 use crate::tables::{
     EIGHT_MESSAGES, SIX_ROWS, apply, create_index, image_of_rows, primary, table_after,
+    table_with_room_after,
 };
 use bt_gang::{Crew, Gate};
 use bt_rowtype::Text;
@@ -55,6 +56,22 @@ fn two_jobs_of_a_batch(rt: HostRuntime) -> Result<(), Fail> {
         image_of_rows(alloc, &table)?.as_slice(),
         AFTER_EIGHT.as_bytes()
     );
+    assert_eq!(&rt; gate.entered(), Some(2));
+    Ok(())
+}
+
+#[test]
+fn two_jobs_of_the_look_ups_of_a_batch(rt: HostRuntime) -> Result<(), Fail> {
+    let alloc = rt.alloc();
+    // Each root has room for the messages of the batch, so no flush is a job.
+    let mut table = table_with_room_after(alloc, 100, &[SIX_ROWS])?;
+    drop(create_index(alloc, &mut table)?);
+    let name = Text::new(alloc, "q")?;
+    drop(table.build_step(&(), alloc, &name, 7, &Alone)?);
+    let gate = Meeting::new();
+    let crew = Crew::new(2, 1, 1, &gate as &(dyn Gate + Sync))?;
+    let reply = apply(&rt, alloc, &mut table, EIGHT_MESSAGES, &crew)?;
+    assert!(&rt; matches!(reply, Reply::Batch { count: 8, .. }));
     assert_eq!(&rt; gate.entered(), Some(2));
     Ok(())
 }

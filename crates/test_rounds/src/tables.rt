@@ -15,8 +15,8 @@ pub(crate) const SIX_ROWS: &str =
 pub(crate) const EIGHT_MESSAGES: &str =
     "batch\nput 1,11\nput 2,21\nput 0,0\nput -1,-10\nput 3,31\nput 4,41\nput 5,51\nput 6,61\nend\n";
 
-/// A table of the columns `id`, which is the key, and `qty`: at most four children, three messages and two rows a node.
-pub(crate) fn empty_table(alloc: Global) -> Result<Table, Refusal> {
+// A table of the columns `id`, which is the key, and `qty`: at most four children, `buffer` messages and two rows a node.
+fn empty_table(alloc: Global, buffer: u32) -> Result<Table, Refusal> {
     let mut columns = Sequence::new(alloc);
     for name in ["id", "qty"] {
         columns.push(Column {
@@ -27,7 +27,7 @@ pub(crate) fn empty_table(alloc: Global) -> Result<Table, Refusal> {
     let Ok(schema) = Schema::new(columns, 1) else {
         return Err(Refusal::BadSchema);
     };
-    Ok(Table::new(alloc, schema, Shape::new(4, 3, 2)?))
+    Ok(Table::new(alloc, schema, Shape::new(4, buffer, 2)?))
 }
 
 /// Applies the batch at the start of a script.
@@ -49,9 +49,18 @@ pub(crate) fn apply<T, C: Workforce<T>>(
     }
 }
 
-/// A table after these batches, by the caller alone.
+/// A table after these batches, by the caller alone. A node has room for three messages.
 pub(crate) fn table_after(alloc: Global, batches: &[&str]) -> Result<Table, Refusal> {
-    let mut table = empty_table(alloc)?;
+    table_with_room_after(alloc, 3, batches)
+}
+
+/// A table after these batches, by the caller alone. A node has room for `buffer` messages.
+pub(crate) fn table_with_room_after(
+    alloc: Global,
+    buffer: u32,
+    batches: &[&str],
+) -> Result<Table, Refusal> {
+    let mut table = empty_table(alloc, buffer)?;
     for batch in batches {
         drop(apply(&(), alloc, &mut table, batch, &Alone)?);
     }

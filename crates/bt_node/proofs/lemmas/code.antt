@@ -7,10 +7,9 @@ pub mod DealLoop
 pub mod FirstChild
 pub mod FlushLoop
 pub mod GroupLoops
-pub mod LoadLoop
-pub mod LeafParts
 pub mod LeafPass
 pub mod LentMessages
+pub mod LoadLoop
 pub mod LookupPath
 pub mod OpeningStep
 pub mod PivotSearch
@@ -22,4 +21,5 @@ pub mod RowsLimited
 pub mod RowsOfChildren
 pub mod RowsShown
 pub mod SiblingParts
+pub mod SourceLeaves
 pub mod Together

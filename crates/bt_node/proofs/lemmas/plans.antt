@@ -2,4 +2,5 @@
 pub mod Capacity
 pub mod Marks
 pub mod OnePass
+pub mod PlanSizes
 pub mod RenewedChoice

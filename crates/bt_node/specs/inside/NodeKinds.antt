@@ -1,6 +1,8 @@
 -- The tree that a node represents, by the kind of the node.
+use Rattle.std.specs.Prelude.{◌≤◌, length}
 use Rattle.bt_node.specs.declared.form.node.NodeKind.{NodeKind}
 use Rattle.bt_node.specs.declared.form.node.NodeKind.TheVariants.{Leaf, Inner}
+use Rattle.bt_node.specs.declared.form.shape.TheConstants.{LARGEST_FANOUT}
 use Rattle.bt_value.specs.Lists.{concatenation}
 use Rattle.bt_messages.specs.Bins.{LieBetween}
 use Rattle.bt_messages.specs.declared.message.Message.{Message}
@@ -15,3 +17,8 @@ tree_of (Inner children bins) = inner (nodes children) (concatenation bins)
 abbrev pub HasBins : {V D : Type 0} → NodeKind V D → Type 0
 HasBins (Leaf rows) = Unit {0}
 HasBins (Inner children bins) = LieBetween (pivots_of children) bins
+
+-- an inner node has at most as many children as the largest fanout
+abbrev pub HasFew : {V D : Type 0} → NodeKind V D → Type 0
+HasFew (Leaf rows) = Unit {0}
+HasFew (Inner children bins) = length children ≤ LARGEST_FANOUT

@@ -1,5 +1,5 @@
 //! Builds nodes from parts: deals rows into leaves and groups children under inner nodes.
-ghost use Rattle.std.specs.Prelude.{◌≡◌, ◌≤◌, [], IfOk, OnOk, drop, length, map, take};
+ghost use Rattle.std.specs.Prelude.{◌≡◌, ◌≤◌, ◌*◌, [], IfOk, OnOk, drop, length, map, take};
 ghost use Rattle.bt_node.specs.Children.{AreDivided};
 ghost use Rattle.bt_node.specs.Deals.{even, parted};
 ghost use Rattle.bt_node.specs.Flushes.{first_key, gathered, grouped, leaves, pivot_first};
@@ -8,7 +8,7 @@ use crate::form::children::{ChildIterator, Children};
 use crate::form::deal::size_at;
 use crate::form::node::{Node, Siblings};
 use crate::form::rows::Rows;
-use crate::form::shape::Shape;
+use crate::form::shape::{LARGEST_FANOUT, Shape};
 use bt_keycode::Key;
 use bt_messages::Merge;
 use std::alloc::{AllocError, Global};
@@ -57,6 +57,7 @@ fn next_group<V: Merge>(
     size: usize,
 ) -> Result<(Key, Node<V>), AllocError>
     requires some { 1 ≤ size }
+    requires few { size ≤ LARGEST_FANOUT }
     requires enough { size ≤ length rest.old }
     requires divided { AreDivided rest.old }
     ensures node { IfOk result (λ node. (node.0, node.1) ≡ gathered (take size rest.old)) }
@@ -80,6 +81,7 @@ fn groups<V: Merge>(
 ) -> Result<Siblings<V>, AllocError>
     requires some { 1 ≤ many }
     requires enough { many ≤ length children }
+    requires few { length children ≤ many * LARGEST_FANOUT }
     requires divided { AreDivided children }
     ensures { IfOk result (λ siblings. siblings ≡ pivot_first [] (map gathered (parted (even (length children) many) children))) }
 {

@@ -1,5 +1,5 @@
 //! How messages enter an inner node. They stay there, or the node is opened and messages go down to its children.
-ghost use Rattle.std.specs.Prelude.{◌≡◌, ◌+◌, ◌<◌, ◌≤◌, IfOk, get_or, length, map};
+ghost use Rattle.std.specs.Prelude.{◌≡◌, ◌+◌, ◌<◌, ◌≤◌, IfOk, get_or, length, map, replicate};
 ghost use Rattle.bt_messages.specs.Bins.{LieBetween, each_with};
 ghost use Rattle.bt_messages.specs.Parts.{parted, total};
 ghost use Rattle.bt_messages.specs.Shares.{counts, share_of};
@@ -8,11 +8,12 @@ ghost use Rattle.bt_node.specs.Marks.{flush_marks};
 ghost use Rattle.bt_node.specs.Steps.{IsStep};
 ghost use Rattle.bt_node.specs.Trees.{pivots_of};
 
-use crate::flush::planning::{are_within, next_planned};
+use crate::flush::planning::{are_within, plan};
 use crate::form::children::Children;
 use crate::form::mode::Mode;
 use crate::form::node::{Node, Siblings};
-use crate::form::shape::Shape;
+use crate::form::shape::{LARGEST_FANOUT, Shape};
+use arrayvec::ArrayVec;
 use bt_messages::{Bins, Measure, Merge, Share, Stream};
 use std::alloc::{AllocError, Global};
 
@@ -24,7 +25,7 @@ pub struct Opened<V: Merge> {
     /// The number of incoming messages for each child.
     pub shares: Vec<Share>,
     /// Whether the pending messages of each child go down to it.
-    pub marks: Vec<bool>,
+    pub marks: ArrayVec<bool, LARGEST_FANOUT>,
 }
 
 /// The result of messages entering an inner node.
@@ -57,15 +58,26 @@ fn loads<V: Merge>(
     Ok(loads)
 }
 
-// Whether the plan flushes each child, given the loads. Sets the loads of the planned children to 0.
-fn planned_marks(alloc: Global, loads: &mut [u128], capacity: u64) -> Result<Vec<bool>, AllocError>
-    ensures { IfOk result (λ found. found.items ≡ flush_marks Mode.Absorb capacity loads.old) }
+// The same mark for each of `count` children.
+fn equal_marks(mark: bool, count: usize) -> ArrayVec<bool, LARGEST_FANOUT>
+    requires { count ≤ LARGEST_FANOUT }
+    ensures { result.items ≡ replicate count mark }
 {
-    let mut marks = vec![in alloc; false; loads.len()]?;
-    while let Some(place) = next_planned(loads, capacity) {
-        marks[place] = true;
+    let mut marks = ArrayVec::from([mark; LARGEST_FANOUT]);
+    marks.truncate(count);
+    marks
+}
+
+// Whether the plan flushes each child, given the loads.
+fn planned_marks(loads: &[u128], capacity: u64) -> ArrayVec<bool, LARGEST_FANOUT>
+    requires { length loads.now ≤ LARGEST_FANOUT }
+    ensures { result.items ≡ flush_marks Mode.Absorb capacity loads.now }
+{
+    let mut marks = equal_marks(false, loads.len());
+    for place in plan(loads, capacity) {
+        marks[place as usize] = true;
     }
-    Ok(marks)
+    marks
 }
 
 /// Takes the first messages of a stream into an inner node. If it has room for all, they move from the stream to its bins.
@@ -82,21 +94,22 @@ pub fn open<V: Merge>(
 ) -> Result<Step<V>, AllocError>
     requires enough { count ≤ length stream.old }
     requires divided { LieBetween (pivots_of children) bins }
+    requires few { length children ≤ LARGEST_FANOUT }
     ensures { IfOk result (IsStep (weigh_of V.terms) mode shape children bins stream.old count stream.new) }
 {
     let (measure, room) = (shape.measure(), shape.buffer() as u64);
     let shares = stream.shares(alloc, measure, count, children.pivots())?;
     let marks = match mode {
         Mode::Absorb => {
-            let mut loads = loads(alloc, measure, &bins, stream, shares.as_slice())?;
+            let loads = loads(alloc, measure, &bins, stream, shares.as_slice())?;
             if children.len() <= shape.fanout() && are_within(loads.as_slice(), room) {
                 let mut bins = bins;
                 bins.add_shares(alloc, stream, shares.as_slice())?;
                 return Ok(Step::Stays(Node::inner(children, bins)));
             }
-            planned_marks(alloc, loads.as_mut_slice(), room)?
+            planned_marks(loads.as_slice(), room)
         }
-        Mode::Drain => vec![in alloc; true; shares.len()]?,
+        Mode::Drain => equal_marks(true, shares.len()),
     };
     Ok(Step::Opens(Opened {
         children: Children::with_pending(children, bins),

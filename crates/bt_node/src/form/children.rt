@@ -4,6 +4,7 @@ ghost use Rattle.bt_node.specs.Children.{AreDivided, behind_pivot, with_pending}
 ghost use Rattle.bt_node.specs.Flushes.{gathered};
 
 use crate::form::node::{Node, Siblings};
+use crate::form::shape::LARGEST_FANOUT;
 use bt_keycode::Key;
 use bt_messages::{Bins, Buffer, Merge};
 use std::alloc::{AllocError, Global};
@@ -169,6 +170,7 @@ impl<V: Merge> Children<V> {
     /// One inner node over all children, and the pivot before the first of them. Allocates nothing.
     pub(crate) fn into_node(self) -> (Key, Node<V>)
         requires some { 1 ≤ length self }
+        requires few { length self ≤ LARGEST_FANOUT }
         requires divided { AreDivided self }
         ensures { (result.0, result.1) ≡ gathered self }
     {

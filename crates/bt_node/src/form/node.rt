@@ -18,11 +18,12 @@ ghost use Rattle.bt_node.specs.Flushes.{pivot_first};
 ghost use Rattle.bt_node.specs.Parts.{AreRising, IsApart};
 ghost use Rattle.bt_node.specs.Trees.{pivots_of, with_pivots};
 ghost use Rattle.bt_node.specs.Trees as trees;
-ghost use Rattle.bt_node.specs.inside.NodeKinds.{HasBins, tree_of};
+ghost use Rattle.bt_node.specs.inside.NodeKinds.{HasBins, HasFew, tree_of};
 ghost use Rattle.bt_value.specs.Lists.{concatenation};
 ghost use Rattle.bt_messages.specs.Bins.{LieBetween};
 
 use crate::form::rows::Rows;
+use crate::form::shape::LARGEST_FANOUT;
 use bt_keycode::Key;
 use bt_messages::{Bins, Buffer, Merge};
 use std::alloc::{AllocError, Global};
@@ -80,9 +81,9 @@ impl<V: Merge> Model for Node<V> {
 
     ghost view = { λ n. tree_of n.kind };
 
-    ghost use Rattle.bt_node.specs.inside.NodeKinds.{HasBins};
+    ghost use Rattle.bt_node.specs.inside.NodeKinds.{HasBins, HasFew};
 
-    ghost invariant = { λ n. HasBins n.kind };
+    ghost invariant = { λ n. HasBins n.kind × HasFew n.kind };
 
     ghost size = { λ t. 2 * trees.height t };
 
@@ -124,7 +125,8 @@ impl<V: Merge> Node<V> {
     }
 
     pub(crate) fn inner(children: Siblings<V>, bins: Bins<V>) -> Self
-        requires { LieBetween (pivots_of children) bins }
+        requires divided { LieBetween (pivots_of children) bins }
+        requires few { length children ≤ LARGEST_FANOUT }
         ensures { result ≡ trees.inner (trees.nodes children) (concatenation bins) }
     {
         Node {
@@ -142,6 +144,7 @@ impl<V: Merge> Node<V> {
     pub(crate) fn into_kind(self) -> NodeKind<V>
         ensures tree { self ≡ tree_of result }
         ensures divided { HasBins result }
+        ensures few { HasFew result }
     {
         let Node { kind } = self;
         kind

@@ -46,3 +46,11 @@ pub record AreLoaded (schema : Schema) (heads : List IndexHead) (before : Trees)
   pub read : text_rows schema.columns text ≡ Ok rows
   pub free : least (load_refusals (indexes_of heads before.entries.items) before.rows.1) ≡ None
   pub made : ArePackedOf before.rows.0 schema rows heads trees count
+
+-- a text can be loaded into a table with these indexes and trees
+pub record IsLoadable (schema : Schema) (heads : List IndexHead) (before : Trees) (text : List ℕ) : Type 0 where
+  pub rows : List (List Value)
+  pub read : text_rows schema.columns text ≡ Ok rows
+  pub free : least (load_refusals (indexes_of heads before.entries.items) before.rows.1) ≡ None
+  pub pairs : RowMap
+  pub mapped : map_of schema.keys rows ≡ Ok pairs

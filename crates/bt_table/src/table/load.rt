@@ -8,34 +8,26 @@ ghost use Rattle.bt_value.specs.Refusals.{least};
 ghost use Rattle.bt_keycode.specs.Keys.{key_cmp};
 ghost use Rattle.bt_keycode.specs.Standing.{RowMap};
 ghost use Rattle.bt_value.specs.Answers.{Answers};
-ghost use Rattle.bt_gather.specs.Puts.{AllPuts, put_rows};
 ghost use Rattle.bt_load.specs.Maps.{map_of};
 ghost use Rattle.bt_fanout.specs.Promises.{SuitsRows};
-ghost use Rattle.bt_table.specs.inside.Loads.{AllSuitText, AreLoaded, ArePacked, ArePackedOf, rows_to_load};
+ghost use Rattle.bt_table.specs.inside.Loads.{AllSuitText, AreLoaded, ArePacked, ArePackedOf, IsLoadable, rows_to_load};
 ghost use Rattle.bt_table.specs.Calls as spec;
 ghost use Rattle.bt_table.specs.Indexes.{indexes_of};
 ghost use Rattle.bt_table.specs.Calls.{IsRefused, IsStep, Load, permitted};
 ghost use Rattle.bt_table.specs.Standing.{CompleteIndexesHold, IsSoundUnlessLost};
 ghost use Rattle.bt_table.specs.Tables.{Lost};
 
-use crate::index::{IndexHead, are_complete, pack_entries, pack_tree_entries};
+use crate::index::{IndexHead, are_complete, pack_entries};
 use crate::reply::Reply;
 use crate::table::Table;
+use crate::table_loading::TableLoading;
 use crate::trees::{Trees, put_trees};
-use bt_gang::{Crew, Gate};
-use bt_gather::pack_puts;
 use bt_keycode::Key;
-use bt_load::{
-    InThreads, InTurn, Loading, SortedRows, keys_rise, load_rows_by, read_puts, read_records_by,
-    sorted_rows_by,
-};
-use bt_messages::Packet;
+use bt_load::{SortedRows, load_rows_by, read_records_by, sorted_rows_by};
 use bt_node::{RowSource, Shape, Tree, pack, pack_source};
 use bt_row::{Row, Schema};
 use bt_value::Refusal;
 use std::alloc::{AllocError, Global};
-use std::sync::Wait;
-use std::thread::Threads;
 
 fn is_bare(tree: &Tree<Row>) -> bool
     ensures { result ≡ spec.is_bare tree.now.1 }
@@ -93,18 +85,20 @@ fn packed_source<S: RowSource<Row>>(
 }
 
 // The packed trees of rows and of their entries, and the number of rows.
-fn packed_pairs(
+fn packed_pairs<L: TableLoading>(
+    loading: &L,
     alloc: Global,
     shape: Shape,
     heads: &[IndexHead],
     pairs: Vec<(Key, Row)>,
 ) -> Result<(Trees, usize), AllocError>
+    requires ready { L.accepts loading.now }
     requires sorted { IsTrue (is_sorted key_cmp pairs.items) }
     requires suit { All (λ head. SuitsRows head.def pairs.items) heads.now }
     ensures { IfOk result (λ made. ArePacked shape pairs.items heads.now made.0 made.1) }
 {
     let count = pairs.len();
-    let entries = pack_entries(alloc, shape, heads, pairs.as_slice())?;
+    let entries = pack_entries(loading, alloc, shape, heads, pairs.as_slice())?;
     let tree = pack(alloc, shape, pairs)?;
     let trees = Trees {
         rows: tree,
@@ -114,7 +108,7 @@ fn packed_pairs(
 }
 
 // The packed trees of typed rows and of their entries, and the number of rows.
-fn packed_trees<L: Loading>(
+fn packed_trees<L: TableLoading>(
     loading: &L,
     alloc: Global,
     shape: Shape,
@@ -133,31 +127,11 @@ fn packed_trees<L: Loading>(
         return Ok(packed_source(alloc, shape, count, LoadedRows { rows: sorted })?);
     }
     let pairs = load_rows_by(loading, alloc, rows, schema)?;
-    Ok(packed_pairs(alloc, shape, heads, pairs)?)
-}
-
-// The packed trees of the rows of puts and of their entries, made by the workers of a crew, and the number of rows.
-fn packed_puts<G: Gate + Sync, T: Threads + Wait + Sync>(
-    rt: &T,
-    alloc: Global,
-    shape: Shape,
-    heads: &[IndexHead],
-    packet: Packet<Row>,
-    crew: &Crew<G>,
-) -> Result<(Trees, usize), AllocError>
-    requires puts { AllPuts packet }
-    requires sorted { IsTrue (is_sorted key_cmp (put_rows packet)) }
-    requires suit { All (λ head. SuitsRows head.def (put_rows packet)) heads.now }
-    ensures { IfOk result (λ made. ArePacked shape (put_rows packet) heads.now made.0 made.1) }
-{
-    let count = packet.len();
-    let rows = pack_puts(rt, alloc, shape, packet, crew)?;
-    let entries = pack_tree_entries(rt, alloc, heads, &rows, crew)?;
-    Ok((Trees { rows, entries }, count))
+    Ok(packed_pairs(loading, alloc, shape, heads, pairs)?)
 }
 
 // The trees of a text that is loaded into a table with these indexes and trees, and the number of rows.
-fn loaded_trees<L: Loading>(
+fn loaded_trees<L: TableLoading>(
     loading: &L,
     alloc: Global,
     schema: &Schema,
@@ -176,77 +150,34 @@ fn loaded_trees<L: Loading>(
     packed_trees(loading, alloc, trees.rows.shape(), heads, rows, schema)
 }
 
-// The same, made by the workers of a crew, or nothing if two records have the same key.
-fn read_trees<G: Gate + Sync, T: Threads + Wait + Sync>(
-    rt: &T,
+// Whether the rows of a text can be loaded into a table with these indexes and trees. No tree is made.
+fn check_rows<L: TableLoading>(
+    loading: &L,
     alloc: Global,
     schema: &Schema,
     heads: &[IndexHead],
     trees: &Trees,
     text: &[u8],
-    crew: &Crew<G>,
-) -> Result<Option<(Trees, usize)>, Refusal>
+) -> Result<(), Refusal>
+    requires ready { L.accepts loading.now }
     requires whole { length trees.now.entries.items ≡ length heads.now }
-    requires suit { AllSuitText schema.now heads.now text.now }
-    ensures loaded { IfOk result (λ found. IfSome found (λ made. AreLoaded schema.now heads.now trees.now text.now made.0 made.1)) }
+    ensures allowed { OnOk result (IsLoadable schema.now heads.now trees.now text.now) }
     ensures refused { IfErr result (λ refusal. refusal ≢ Refusal.OutOfMemory → rows_to_load schema.now heads.now trees.now text.now ≡ Err refusal) }
 {
-    let packet = read_puts(rt, alloc, text, schema, crew)?;
+    let rows = read_records_by(loading, alloc, text, schema)?;
     check_load(heads, trees)?;
-    if !keys_rise(&packet) {
-        return Ok(None);
-    }
-    let shape = trees.rows.shape();
-    Ok(Some(packed_puts(rt, alloc, shape, heads, packet, crew)?))
-}
-
-// The same by a crew. If two records have the same key, one worker finds the first such record.
-fn crew_trees<G: Gate + Sync, T: Threads + Wait + Sync>(
-    rt: &T,
-    alloc: Global,
-    schema: &Schema,
-    heads: &[IndexHead],
-    trees: &Trees,
-    text: &[u8],
-    crew: &Crew<G>,
-) -> Result<(Trees, usize), Refusal>
-    requires whole { length trees.now.entries.items ≡ length heads.now }
-    requires suit { AllSuitText schema.now heads.now text.now }
-    ensures loaded { IfOk result (λ made. AreLoaded schema.now heads.now trees.now text.now made.0 made.1) }
-    ensures refused { IfErr result (λ refusal. refusal ≢ Refusal.OutOfMemory → rows_to_load schema.now heads.now trees.now text.now ≡ Err refusal) }
-{
-    if crew.workers > 1 {
-        if let Some(made) = read_trees(rt, alloc, schema, heads, trees, text, crew)? {
-            return Ok(made);
-        }
-    }
-    loaded_trees(&InTurn, alloc, schema, heads, trees, text)
+    drop(sorted_rows_by(loading, alloc, rows, schema)?);
+    Ok(())
 }
 
 impl Table {
     /// Loads the rows of a CSV text into a table that has none, and their entries into each index. The header of the text names the columns in order.
     ///
-    /// The smallest refusal that applies is returned, and an `Err` changes nothing: `BadSchema` if the header is another one, `BadField` and `BadLength` with
+    /// The lowest refusal that applies is returned, and an `Err` changes nothing: `BadSchema` if the header is another one, `BadField` and `BadLength` with
     /// the number of the record after the header, `Building` if an index is not complete, `NotEmpty` if the tree of the rows is more than one leaf without
-    /// rows, `DuplicateKey` with the number of the first record whose key an earlier one has. Records are typed and sorted in threads.
-    pub fn load(
-        &mut self,
-        rt: &(impl Threads + Sync),
-        alloc: Global,
-        text: &[u8],
-    ) -> Result<Reply, Refusal>
-        ensures done { IfOk result (IsStep self.old self.new (Load text.now)) }
-        ensures refused { IfErr result (IsRefused self.old self.new (Load text.now)) }
-        ensures unchanged { OnErr result (self.new ≡ self.old) }
-        ensures failed { self.old ≡ Lost → IsErrOf result Refusal.Failed }
-        ensures complete { CompleteIndexesHold self.new }
-        ensures sound { IsSoundUnlessLost self.new }
-    {
-        self.load_by(&InThreads { rt }, alloc, text)
-    }
-
-    /// The same as [`Table::load`], in threads or by the caller alone.
-    pub fn load_by<L: Loading>(
+    /// rows, `DuplicateKey` with the number of the first record whose key an earlier one has. The loading says whether records and
+    /// entries are made and sorted in threads ([`InThreads`](bt_load::InThreads)) or by the caller alone ([`InTurn`](bt_load::InTurn)); the caller packs the trees.
+    pub fn load<L: TableLoading>(
         &mut self,
         loading: &L,
         alloc: Global,
@@ -276,41 +207,8 @@ impl Table {
         Ok(Reply::Loaded(count))
     }
 
-    /// The same as [`Table::load`], by a crew. With several workers the records are typed and sorted as those of a batch, and the
-    /// workers make the leaves and the entries of the indexes. With one worker no thread starts. After an `Err` every worker has ended.
-    pub fn load_by_crew<G: Gate + Sync, T: Threads + Wait + Sync>(
-        &mut self,
-        rt: &T,
-        alloc: Global,
-        text: &[u8],
-        crew: &Crew<G>,
-    ) -> Result<Reply, Refusal>
-        ensures done { IfOk result (IsStep self.old self.new (Load text.now)) }
-        ensures refused { IfErr result (IsRefused self.old self.new (Load text.now)) }
-        ensures unchanged { OnErr result (self.new ≡ self.old) }
-        ensures failed { self.old ≡ Lost → IsErrOf result Refusal.Failed }
-        ensures complete { CompleteIndexesHold self.new }
-        ensures sound { IsSoundUnlessLost self.new }
-    {
-        let Some(trees) = &self.trees else {
-            return Err(Refusal::Failed);
-        };
-        let (loaded, count) = crew_trees(
-            rt,
-            alloc,
-            &self.schema,
-            self.heads.as_slice(),
-            trees,
-            text,
-            crew,
-        )?;
-        put_trees(&mut self.trees, loaded);
-        self.soundness();
-        Ok(Reply::Loaded(count))
-    }
-
-    /// Whether [`Table::load_by`] would be refused, and as what. The trees of the load are made, and dropped.
-    pub fn check_load_by<L: Loading>(
+    /// Whether [`Table::load`] would be refused, and as what. The rows of the text are read and sorted; no tree is made.
+    pub fn check_load<L: TableLoading>(
         &self,
         loading: &L,
         alloc: Global,
@@ -322,7 +220,7 @@ impl Table {
         let Some(trees) = &self.trees else {
             return Err(Refusal::Failed);
         };
-        let loaded = loaded_trees(
+        check_rows(
             loading,
             alloc,
             &self.schema,
@@ -330,7 +228,6 @@ impl Table {
             trees,
             text,
         )?;
-        drop(loaded);
         Ok(())
     }
 }

@@ -1,5 +1,5 @@
 use Rattle.std.proofs.Common.{◌∙◌, Ok, ap, subst, sym}
-use Rattle.bt_load.specs.inside.Typed.{HaveValues}
+use Rattle.bt_load.specs.inside.Typed.{HaveValues, IsReadingOf}
 use Rattle.bt_load.proofs.Typed.{all_finish, all_rows}
 use Rattle.bt_load.proofs.read.rows_of_lines.Goals as goal
 
@@ -12,10 +12,10 @@ returns-then-all_have_values g c =
 
 pub returns-in-Ok : goal.returns-in-Ok
 returns-in-Ok g c =
-    let read = c.in_ok-reading.ensures in
+    let read = subst (λ lines. IsReadingOf c.args.schema.now.columns 1 lines c.in_ok-reading.reading) c.as_slice-2.ensures c.in_ok-reading.ensures in
     all_finish c.args.schema.now.columns c.args.lines.now _ _ read.values read.refusal ∙ sym c.in-Ok.ensures ∙ ap Ok (sym c.into_vec.ensures)
 
 pub returns : goal.returns
 returns g c =
-    let read = c.in_ok-reading.ensures in
+    let read = subst (λ lines. IsReadingOf c.args.schema.now.columns 1 lines c.in_ok-reading.reading) c.as_slice-2.ensures c.in_ok-reading.ensures in
     λ other. all_finish c.args.schema.now.columns c.args.lines.now _ _ read.values read.refusal ∙ sym c.in-Err.ensures

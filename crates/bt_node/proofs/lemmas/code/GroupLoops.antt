@@ -1,37 +1,49 @@
 -- Children and rows in parts, as the code makes them.
-use Rattle.std.proofs.Common.{◌≡◌, ℕ, max, List, [], ◌∷◌, ◌++◌, length, map, take, drop, ◌≤◌, sym, ap, subst, ◌∙◌, append-nil, append_assoc, arith, length-drop, take-append-drop}
+use Rattle.std.proofs.Common.{◌*◌, ◌≡◌, ℕ, max, List, [], ◌∷◌, ◌++◌, length, map, take, drop, ◌≤◌, sym, ap, subst, ◌∙◌, append-nil, append_assoc, arith, length-drop, take-append-drop}
+use Rattle.std.proofs.Math.Nat.{mul-le-mul_left}
 use Rattle.std.proofs.lemmas.List.{drop_all}
 use Rattle.std.specs.Int.{div_ceil}
 use Rattle.bt_keycode.specs.Keys.{Key}
 use Rattle.bt_messages.specs.declared.message.Message.{Message}
 use Rattle.bt_node.specs.Plans.{total}
+use Rattle.bt_node.specs.declared.form.shape.TheConstants.{LARGEST_FANOUT}
 use Rattle.bt_node.specs.Children.{AreDivided}
 use Rattle.bt_node.specs.Messages.{Rows}
 use Rattle.bt_node.specs.Trees.{Shape, Siblings, Tree, leaf}
 use Rattle.bt_node.specs.Deals.{deal, even, parted}
 use Rattle.bt_node.specs.Flushes.{Child, first_key, gathered, grouped, leaves, pivot_first}
 use Rattle.bt_node.proofs.lemmas.deals.Parts.{AllPositive, positive-even, total-even}
-use Rattle.bt_node.proofs.lemmas.deals.PartSizes.{deal-one, length-even}
+use Rattle.bt_node.proofs.lemmas.deals.PartSizes.{Each, deal-one, enough-parts, even-at_most, length-even}
 use Rattle.bt_node.proofs.lemmas.flushes.Groups.{as_leaf}
 use Rattle.bt_node.proofs.lemmas.flushes.Divisions.{divided-rest}
 
 -- ---- groups of children
+
+-- enough groups that none is larger than the largest fanout
+pub enough_groups : (n m k : ℕ) → 1 ≤ m → m ≤ LARGEST_FANOUT → k ≡ div_ceil n m → 1 ≤ k → n ≤ k * LARGEST_FANOUT
+enough_groups n m k some most parts one =
+    let same : max 1 (div_ceil n m) ≡ k = omega (arith, parts, one) in
+    let fits : n ≤ k * m = subst (λ j. n ≤ j * m) same (enough-parts n m some) in
+    omega (arith, fits, mul-le-mul_left k most)
 
 module _ {V M : Type 0} where
   -- the children of the parts of these sizes, each part under one node
   abbrev pub groups_of : List ℕ → List (Child V M) → Siblings V M
   groups_of ns cs = map gathered (parted ns cs)
 
-  -- Sizes of parts that are still to be made, none of them empty, and the children for them.
+  -- Sizes of parts that are still to be made, none of them empty or larger than the largest fanout, and the children for them.
   pub record AreLeft (ns : List ℕ) (cs : List (Child V M)) : Type 0 where
     pub some : AllPositive ns
+    pub few : Each (λ n. n ≤ LARGEST_FANOUT) ns
     pub fit : total ns ≤ length cs
     pub divided : AreDivided cs
 
   -- all sizes at first, for the same children as these
-  pub all_left : (n k : ℕ) (cs whole : List (Child V M)) → 1 ≤ k → k ≤ length whole → n ≡ length whole → cs ≡ whole → AreDivided whole → AreLeft (even n k) cs
-  all_left n k cs whole some few count same divided = record {
+  pub all_left : (n k : ℕ) (cs whole : List (Child V M)) → 1 ≤ k → k ≤ length whole → n ≡ length whole → cs ≡ whole → AreDivided whole →
+      length whole ≤ k * LARGEST_FANOUT → AreLeft (even n k) cs
+  all_left n k cs whole some few count same divided within = record {
     some = positive-even n k some (omega (arith, few, count));
+    few = even-at_most n k LARGEST_FANOUT some (omega (arith, count, within));
     fit = omega (arith, total-even n k some, count, ap length same);
     divided = subst AreDivided (sym same) divided;
   }
@@ -40,12 +52,16 @@ module _ {V M : Type 0} where
     pub next_some : 1 ≤ n
     next_some = (subst AllPositive next left.some).0
 
+    pub next_few : n ≤ LARGEST_FANOUT
+    next_few = (subst (Each (λ n. n ≤ LARGEST_FANOUT)) next left.few).0
+
     pub next_fits : n ≤ length cs
     next_fits = omega (arith, left.fit, ap total next)
 
     pub rest_left : (rest : List (Child V M)) → rest ≡ drop n cs → AreLeft ns rest
     rest_left rest is = record {
       some = (subst AllPositive next left.some).1;
+      few = (subst (Each (λ n. n ≤ LARGEST_FANOUT)) next left.few).1;
       fit = omega (arith, left.fit, ap total next, ap length is, length-drop n cs);
       divided = subst AreDivided (sym is) (divided-rest (take n cs) (drop n cs) (subst AreDivided (sym (take-append-drop n cs)) left.divided));
     }

@@ -42,12 +42,17 @@ at_most k q r n m e l h = (
     down : m < q + 1 → m ≤ q
     down h = omega arith
 
-pub sizes-at_most : (n m : ℕ) → 0 < m → Each (λ x. x ≤ m) (sizes n m)
-sizes-at_most n m l =
-    let k = max 1 (div_ceil n m) in
-    let fits = at_most k (n / k) (n % k) n m (omega arith) (omega arith) (enough n m (n / m) (n % m) (omega arith) (omega arith)) in
+pub even-at_most : (n k m : ℕ) → 0 < k → n ≤ k * m → Each (λ x. x ≤ m) (even n k)
+even-at_most n k m some few =
+    let fits = at_most k (n / k) (n % k) n m (omega arith) (omega arith) few in
     each-append (λ x. x ≤ m) (replicate (n % k) (n / k + 1)) (replicate (k - n % k) (n / k)) (each-replicate (λ x. x ≤ m) (n % k) (n / k + 1) fits.1)
     (each-replicate (λ x. x ≤ m) (k - n % k) (n / k) (λ _. fits.0))
+
+pub enough-parts : (n m : ℕ) → 0 < m → n ≤ max 1 (div_ceil n m) * m
+enough-parts n m l = enough n m (n / m) (n % m) (omega arith) (omega arith)
+
+pub sizes-at_most : (n m : ℕ) → 0 < m → Each (λ x. x ≤ m) (sizes n m)
+sizes-at_most n m l = even-at_most n (max 1 (div_ceil n m)) m (omega arith) (enough-parts n m l)
 
 -- no part of two items or more has fewer than two, if a part may have three
 halves : (k q r n : ℕ) → k * q + r ≡ n → r < k → 2 * k ≤ n → 2 ≤ q

@@ -10,6 +10,7 @@ use Rattle.bt_messages.proofs.offered.Shares.{share_at}
 use Rattle.bt_node.specs.Fits.{IsSized}
 use Rattle.bt_node.specs.Trees.{with_pivots}
 use Rattle.bt_node.specs.declared.form.shape.TheConstants.{LARGEST_FANOUT}
+use Rattle.bt_node.proofs.offered.FlushSteps.{children-nodes}
 use Rattle.bt_plan.specs.Cuts.{hole_of}
 use Rattle.bt_plan.specs.Pieces.{Place, holed_nodes, holes, opened, with_holes}
 use Rattle.bt_plan.specs.Views.{job_of, node_place}
@@ -19,6 +20,10 @@ use Rattle.bt_plan.proofs.Steps.{left_after, next_bin, next_child, no_share, one
 use Rattle.bt_plan.proofs.cutting.+cuts.Goals as goal
 
 -- ---- an inner node that is opened
+
+pub cut_inner-open-requires-clause-few : goal.cut_inner-open-requires-clause-few
+cut_inner-open-requires-clause-few g t c =
+    omega (arith, c.requires.sized.1, ap length (children-nodes c.args.children), c.fanout-most.ensures.value, c.fanout-most.ensures.range.1)
 
 pub cut_inner-cut_children-requires : goal.cut_inner-cut_children-requires
 cut_inner-cut_children-requires g t c κs within =

@@ -1,12 +1,13 @@
-use Rattle.std.proofs.Common.{ℕ, Bool, [], ◌+◌, ◌≡◌, ◌∙◌, ap, arith, rules, drop, refl, sym}
+use Rattle.std.proofs.Common.{ℕ, Bool, IfSome, [], ◌+◌, ◌≡◌, ◌∙◌, ap, arith, rules, drop, refl, subst, sym}
 use Rattle.bt_script.specs.Streams.{count_of}
 use Rattle.bt_shell.specs.Logs.{is_refusal, logged}
 use Rattle.bt_shell.specs.Runs.{one_where, refused_count}
 use Rattle.bt_script.specs.Commands.{commands}
 use Rattle.bt_script.proofs.offered.Streams.{Took-kept, Took-nil}
 use Rattle.bt_shell.proofs.Faults.{left_as_it_was, left_at_end, left_by_next, left_later, lost_is_left, stops_at_end, stops_between, stops_within}
-use Rattle.bt_shell.proofs.Sound.{hold_unless_lost, left_keeps_sound}
+use Rattle.bt_shell.proofs.Sound.{commands_keep_sound, hold_unless_lost, left_keeps_sound}
 use Rattle.bt_shell.proofs.Turns.{count_ends, count_goes_on, log_ends, log_goes_on, on_err, run_begins, run_breaks, run_goes_on, run_leaves, run_prefix}
+use Rattle.bt_table.specs.Standing.{IsSound}
 use Rattle.bt_shell.proofs.script_run.run_commands.Goals as goal
 
 pub commands-init : goal.commands-init
@@ -185,3 +186,11 @@ returns-clause-sound g c =
 
 pub returns-clause-complete : goal.returns-clause-complete
 returns-clause-complete g c = hold_unless_lost c.next_reply.new.table (returns-clause-sound g c)
+
+pub returns-clause-kept : goal.returns-clause-kept
+returns-clause-kept g c = λ sound.
+    let none : commands (drop c.commands.at c.args.script.now) ≡ [] = search rules in
+    let kept : c.next_reply.new.table ≡ c.commands.table = search rules in
+    let left = run_leaves g.W.Write.contents c.args.writer.now c.args.table.now c.commands.writer c.commands.table (commands c.args.script.now) (commands (drop c.commands.at c.args.script.now))
+    c.commands.invariant.so_far none in
+    rw kept (subst (λ state. IfSome state IsSound) (sym left) (commands_keep_sound c.args.table.now (commands c.args.script.now) sound))

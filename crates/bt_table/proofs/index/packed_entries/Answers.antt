@@ -4,5 +4,5 @@ use Rattle.bt_node.specs.Drains.{packed}
 use Rattle.bt_table.proofs.index.packed_entries.Goals as goal
 
 pub returns : goal.returns
-returns c =
+returns g c =
     IfOk-weaker c.pack.result _ _ (λ tree is. is ∙ ap (λ entries. (c.args.shape, packed c.args.shape entries)) c.in_ok-entries.ensures.entries) c.pack.ensures.tree

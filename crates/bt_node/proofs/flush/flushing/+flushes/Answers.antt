@@ -109,12 +109,12 @@ flush_marked-loop-pivot-init g t c =
     let stream = c.args.stream.now in
     let children = c.into_iter-children.ensures in
     let shares = c.into_iter-shares.ensures.rest in
-    let marks = c.into_iter-marks.ensures.rest in
+    let marks = c.into_iter-marks.ensures.into_iter_gives.0 in
     record {
       parts = ap (λ ps. ps ++ passed (zip (with_shares c.into_iter-children.result (counts (into_iter_items c.into_iter-shares.result)) stream)
-          (into_iter_items c.into_iter-marks.result))) c.in_ok-parts.ensures
-          ∙ ap (λ cs. passed (zip (with_shares cs (counts (into_iter_items c.into_iter-shares.result)) stream) (into_iter_items c.into_iter-marks.result))) children
-          ∙ ap (λ ns. passed (zip (with_shares c.args.opened.children (counts ns) stream) (into_iter_items c.into_iter-marks.result))) shares
+          c.into_iter-marks.result)) c.in_ok-parts.ensures
+          ∙ ap (λ cs. passed (zip (with_shares cs (counts (into_iter_items c.into_iter-shares.result)) stream) c.into_iter-marks.result)) children
+          ∙ ap (λ ns. passed (zip (with_shares c.args.opened.children (counts ns) stream) c.into_iter-marks.result)) shares
           ∙ ap (λ bs. passed (zip (with_shares c.args.opened.children (counts c.args.opened.shares.items) stream) bs)) marks;
       left = ap (λ ns. drop (total (counts ns)) stream) shares;
       weighed = subst (AreShares (weigh_of g.V.Merge.terms) stream) (sym shares) c.requires.weighed;
@@ -130,7 +130,7 @@ flush_marked-unreachable-requires g t c =
     let shares = c.loop-pivot.invariant.shares in
     let marks = c.loop-pivot.invariant.marks in
     elim c.in_default-2.branch [
-      | flush_marked-in_default-2-via-in-Some+in_default w ↦ let none : length (into_iter_items c.loop-pivot.marks) ≡ 0 = search rules in omega (arith, some, marks, none)
+      | flush_marked-in_default-2-via-in-Some+in_default w ↦ let none : length c.loop-pivot.marks ≡ 0 = search rules in omega (arith, some, marks, none)
       | flush_marked-in_default-2-via-in_default w ↦ let none : length (into_iter_items c.loop-pivot.shares) ≡ 0 = search rules in omega (arith, some, shares, none)
     ]
 
@@ -159,7 +159,7 @@ flush_marked-loop-pivot-preserved-in-Continue-branch-3 g t c =
     let pushed = c.in_ok-append.ensures
     ∙ ap (λ ds. c.loop-pivot.parts ++ ds) (ap (λ p. behind_pivot c.in-Some.pivot p c.in_ok-siblings.siblings) c.new.ensures ∙ ap (behind_pivot c.in-Some.pivot []) c.in_ok-siblings.ensures.siblings
     ∙ behind_pivot-flushed c.in-Some.pivot (flush_in (meaning_of g.V.Merge.terms) c.args.mode c.args.shape c.in-Some.node (with_messages now c.in-Some.pending))) in
-    after_flushed c.loop-pivot.invariant c.in-Some.ensures c.in-Some-Some.ensures.items c.in-Some-Some.ensures'.items c.in_ok-siblings.ensures.left c.if-marked.true c.append.new.self pushed
+    after_flushed c.loop-pivot.invariant c.in-Some.ensures c.in-Some-Some.ensures.items c.in-Some-Some.ensures'.steps c.in_ok-siblings.ensures.left c.if-marked.true c.append.new.self pushed
 
 pub flush_marked-add_front-requires : goal.flush_marked-add_front-requires
 flush_marked-add_front-requires g t c = (subst (AreShares (weigh_of g.V.Merge.terms) c.loop-pivot.stream) c.in-Some-Some.ensures.items c.loop-pivot.invariant.weighed).0
@@ -170,14 +170,14 @@ flush_marked-loop-pivot-smaller g t c = omega (arith, ap length c.in-Some.ensure
 pub flush_marked-loop-pivot-preserved : goal.flush_marked-loop-pivot-preserved
 flush_marked-loop-pivot-preserved g t c =
     let pushed = c.in_ok-push.ensures ∙ ap (λ p. c.loop-pivot.parts ++ record { pivot = c.in-Some.pivot; tree = c.in-Some.node; pending = p } ∷ []) c.in_ok-add_front.ensures.added in
-    after_kept c.loop-pivot.invariant c.in-Some.ensures c.in-Some-Some.ensures.items c.in-Some-Some.ensures'.items c.in_ok-add_front.ensures.left c.if-marked.false c.push.new.self pushed
+    after_kept c.loop-pivot.invariant c.in-Some.ensures c.in-Some-Some.ensures.items c.in-Some-Some.ensures'.steps c.in_ok-add_front.ensures.left c.if-marked.false c.push.new.self pushed
 
 pub flush_marked-returns-clause-children : goal.flush_marked-returns-clause-children
 flush_marked-returns-clause-children g t c =
     let done = c.loop-pivot.parts in
     sym (append-nil done)
     ∙ ap (λ cs. done ++ pass (meaning_of g.V.Merge.terms) c.args.mode c.args.shape
-    (zip (with_shares cs (counts (into_iter_items c.loop-pivot.shares)) c.loop-pivot.stream) (into_iter_items c.loop-pivot.marks)))
+    (zip (with_shares cs (counts (into_iter_items c.loop-pivot.shares)) c.loop-pivot.stream) c.loop-pivot.marks))
     (sym c.in_default.ensures)
     ∙ c.loop-pivot.invariant.parts
 

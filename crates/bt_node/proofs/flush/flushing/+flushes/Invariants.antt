@@ -16,7 +16,7 @@ invariant-flush_marked-loop-pivot g l =
     let meaning = meaning_of g.V.Merge.terms in
     let opened = l.fn.opened in
     UnderWay meaning l.mode l.shape (pass meaning l.mode l.shape (zip (with_shares opened.children (counts opened.shares.items) l.fn.stream) opened.marks.items))
-    (drop (total (counts opened.shares.items)) l.fn.stream) (highest opened.children) l.parts l.children (into_iter_items l.shares) l.stream (into_iter_items l.marks)
+    (drop (total (counts opened.shares.items)) l.fn.stream) (highest opened.children) l.parts l.children (into_iter_items l.shares) l.stream l.marks
 
 abbrev pub decreases-flush_marked-loop-pivot : goal.decreases-flush_marked-loop-pivot
 decreases-flush_marked-loop-pivot g l = length l.children

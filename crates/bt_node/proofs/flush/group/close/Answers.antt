@@ -1,6 +1,6 @@
 use Rattle.std.proofs.Common.{◌≤◌, ◌∙◌, arith, rules}
 use Rattle.std.proofs.lemmas.Result.{IfOk-weaker}
-use Rattle.bt_node.proofs.lemmas.code.GroupLoops.{many_groups, one_group}
+use Rattle.bt_node.proofs.lemmas.code.GroupLoops.{enough_groups, many_groups, one_group}
 use Rattle.bt_node.proofs.flush.group.close.Goals as goal
 
 pub returns-then-count-most : goal.returns-then-count-most
@@ -10,6 +10,16 @@ returns-then-count-most g c =
     ∙ one_group c.args.shape c.args.children c.into_node-node.result.0 c.into_node-node.result.1 some
     (omega (arith, c.if-count-most.true, c.len-count.ensures, c.fanout-most.ensures.value)) c.into_node-node.ensures)
     c.with_capacity.ensures
+
+pub groups-requires-clause-few : goal.groups-requires-clause-few
+groups-requires-clause-few g c =
+    let some : 1 ≤ c.div_ceil.result = search rules in
+    omega (
+      arith,
+      enough_groups c.len-count.result c.fanout-most.result c.div_ceil.result (omega (arith, c.fanout-most.ensures.range.0))
+          c.fanout-most.ensures.range.1 c.div_ceil.ensures some,
+      c.len-count.ensures,
+    )
 
 pub returns : goal.returns
 returns g c =

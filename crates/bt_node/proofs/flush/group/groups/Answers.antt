@@ -1,25 +1,31 @@
 use Rattle.std.proofs.Common.{◌∙◌, [], ap, arith, refl}
 use Rattle.bt_node.specs.Deals.{even}
 use Rattle.bt_node.specs.Flushes.{pivot_first}
-use Rattle.bt_node.proofs.lemmas.code.GroupLoops.{all_left, first_made, group_made, groups_done, groups_of, next_fits, next_some, rest_left}
+use Rattle.bt_node.proofs.lemmas.code.GroupLoops.{all_left, first_made, group_made, groups_done, groups_of, next_few, next_fits, next_some, rest_left}
 use Rattle.bt_node.proofs.flush.group.groups.Goals as goal
 
 pub next_group-requires-clause-some : goal.next_group-requires-clause-some
 next_group-requires-clause-some g c =
     let cs = c.into_iter-rest.result in
-    let left = all_left c.len-count.result c.args.many cs c.args.children c.requires.some c.requires.enough c.len-count.ensures c.into_iter-rest.ensures c.requires.divided in
+    let left = all_left c.len-count.result c.args.many cs c.args.children c.requires.some c.requires.enough c.len-count.ensures c.into_iter-rest.ensures c.requires.divided c.requires.few in
     next_some c.size_at.result _ _ cs c.size_at.ensures left
+
+pub next_group-requires-clause-few : goal.next_group-requires-clause-few
+next_group-requires-clause-few g c =
+    let cs = c.into_iter-rest.result in
+    let left = all_left c.len-count.result c.args.many cs c.args.children c.requires.some c.requires.enough c.len-count.ensures c.into_iter-rest.ensures c.requires.divided c.requires.few in
+    next_few c.size_at.result _ _ cs c.size_at.ensures left
 
 pub next_group-requires-clause-enough : goal.next_group-requires-clause-enough
 next_group-requires-clause-enough g c =
     let cs = c.into_iter-rest.result in
-    let left = all_left c.len-count.result c.args.many cs c.args.children c.requires.some c.requires.enough c.len-count.ensures c.into_iter-rest.ensures c.requires.divided in
+    let left = all_left c.len-count.result c.args.many cs c.args.children c.requires.some c.requires.enough c.len-count.ensures c.into_iter-rest.ensures c.requires.divided c.requires.few in
     next_fits c.size_at.result _ _ cs c.size_at.ensures left
 
 pub loop-place-init : goal.loop-place-init
 loop-place-init g c =
     let cs = c.into_iter-rest.result in
-    let left = all_left c.len-count.result c.args.many cs c.args.children c.requires.some c.requires.enough c.len-count.ensures c.into_iter-rest.ensures c.requires.divided in
+    let left = all_left c.len-count.result c.args.many cs c.args.children c.requires.some c.requires.enough c.len-count.ensures c.into_iter-rest.ensures c.requires.divided c.requires.few in
     let here = c.in_ok-first.ensures in
     record {
       made = first_made c.size_at.result _ _ cs c.size_at.ensures left _ _ _ _ here.node here.rest c.in_ok-siblings.ensures
@@ -30,6 +36,9 @@ loop-place-init g c =
 
 pub next_group-requires-in-loop-place-clause-some : goal.next_group-requires-in-loop-place-clause-some
 next_group-requires-in-loop-place-clause-some g c = next_some c.size_at-in-loop-place.result _ _ c.loop-place.rest c.size_at-in-loop-place.ensures c.loop-place.invariant.left
+
+pub next_group-requires-in-loop-place-clause-few : goal.next_group-requires-in-loop-place-clause-few
+next_group-requires-in-loop-place-clause-few g c = next_few c.size_at-in-loop-place.result _ _ c.loop-place.rest c.size_at-in-loop-place.ensures c.loop-place.invariant.left
 
 pub next_group-requires-in-loop-place-clause-enough : goal.next_group-requires-in-loop-place-clause-enough
 next_group-requires-in-loop-place-clause-enough g c = next_fits c.size_at-in-loop-place.result _ _ c.loop-place.rest c.size_at-in-loop-place.ensures c.loop-place.invariant.left

@@ -33,6 +33,15 @@ into_node-requires-clause-some g c =
       c.requires.some,
     )
 
+pub into_node-requires-clause-few : goal.into_node-requires-clause-few
+into_node-requires-clause-few g c =
+    omega (
+      arith,
+      ap length (all_moved c.args.size c.loop.counter c.loop.part c.loop.rest _ (omega (arith, c.loop-test.false)) c.loop.invariant.part),
+      length-first c.args.size c.args.rest.now c.requires.enough,
+      c.requires.few,
+    )
+
 pub into_node-requires-clause-divided : goal.into_node-requires-clause-divided
 into_node-requires-clause-divided g c =
     let n = c.args.size in

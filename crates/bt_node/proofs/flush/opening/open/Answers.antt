@@ -3,14 +3,17 @@ use Rattle.bt_messages.specs.Bins.{each_with}
 use Rattle.bt_messages.specs.Parts.{parted, total}
 use Rattle.bt_messages.specs.Shares.{AreShares, counts, share_of}
 use Rattle.bt_messages.specs.Weights.{load, weigh_of}
+use Rattle.bt_messages.specs.declared.share.Share.{Share}
+use Rattle.std.proofs.lemmas.List.{length-map}
+use Rattle.bt_node.proofs.lemmas.flushes.Divisions.{each-long}
 use Rattle.bt_node.specs.Fits.{IsLed}
 use Rattle.bt_node.specs.Trees.{inner, nodes}
 use Rattle.bt_node.proofs.lemmas.code.LoadLoop.{Come, after_joined, after_lie, at_pivots, bin_each, has_room-absorb, has_room-drain, marks_all, marks_planned, room_test, share_each, shares_weighed}
 use Rattle.bt_node.proofs.lemmas.code.SiblingParts.{with_pivots-led}
 use Rattle.bt_node.proofs.flush.opening.open.Goals as goal
-use Rattle.bt_node.proofs.flush.opening.open.Goals.{in-Absorb+in_ok-loads-in-Absorb+else-len-fanout+in_ok-marks-in-Absorb}
+use Rattle.bt_node.proofs.flush.opening.open.Goals.{in-Absorb+in_ok-loads-in-Absorb+else-len-fanout}
 use Rattle.bt_node.proofs.flush.opening.open.Goals.{else-len-fanout-via-then-len-fanout+else-are_within, else-len-fanout-via-else-len-fanout}
-use Rattle.bt_node.proofs.flush.opening.open.Goals.{in-Drain+in_ok-marks-in-Drain}
+use Rattle.bt_node.proofs.flush.opening.open.Goals.{in-Drain}
 
 pub shares-requires : goal.shares-requires
 shares-requires g c = c.requires.enough
@@ -82,8 +85,8 @@ same-children g c = refl
 pub same-bins-then-are_within : goal.same-bins-then-are_within
 same-bins-then-are_within g c = refl
 
-pub inner-requires : goal.inner-requires
-inner-requires g c =
+pub inner-requires-clause-divided : goal.inner-requires-clause-divided
+inner-requires-clause-divided g c =
     let e = c.in_ok-shares.ensures in
     let come : Come (weigh_of g.V.Merge.terms) c.args.shape c.args.children c.args.bins c.args.stream.now c.args.count c.measure-measure.result
     c.pivots.result.now c.in_ok-shares.shares.items =
@@ -134,6 +137,54 @@ returns-then-are_within g c =
       },
     )
 
+pub inner-requires-clause-few : goal.inner-requires-clause-few
+inner-requires-clause-few g c = c.requires.few
+
+pub planned_marks-marks-requires : goal.planned_marks-marks-requires
+planned_marks-marks-requires g c =
+    let e = c.in_ok-shares.ensures in
+    let come : Come (weigh_of g.V.Merge.terms) c.args.shape c.args.children c.args.bins c.args.stream.now c.args.count c.measure-measure.result
+    c.pivots.result.now c.in_ok-shares.shares.items =
+    record {
+      measured = c.measure-measure.ensures;
+      pivots = c.pivots.ensures.pivots;
+      some = c.pivots.ensures.some;
+      lie = c.requires.divided;
+      each =
+          e.each;
+      divided = e.parts;
+      long = e.len;
+    } in
+    let shares = c.in_ok-shares.shares.items in
+    let made = c.as_slice-in-Absorb.ensures.value ∙ c.in_ok-loads-in-Absorb.ensures
+    ∙ ap (λ ss. map (load (weigh_of g.V.Merge.terms) c.measure-measure.result) (each_with (parted (counts ss) c.shares.new.self) c.args.bins)) c.as_slice.ensures.value in
+    omega (
+      arith,
+      ap length made,
+      length-map (each_with (parted (counts shares) c.shares.new.self) c.args.bins) (load (weigh_of g.V.Merge.terms) c.measure-measure.result),
+      each-long (counts shares) c.shares.new.self c.args.bins (length-map shares (λ (s : Share). s.count) ∙ share_each come),
+      bin_each come,
+      c.requires.few,
+    )
+
+pub equal_marks-marks-requires : goal.equal_marks-marks-requires
+equal_marks-marks-requires g c =
+    let e = c.in_ok-shares.ensures in
+    let come : Come (weigh_of g.V.Merge.terms) c.args.shape c.args.children c.args.bins c.args.stream.now c.args.count c.measure-measure.result
+    c.pivots.result.now c.in_ok-shares.shares.items =
+    record {
+      measured = c.measure-measure.ensures;
+      pivots = c.pivots.ensures.pivots;
+      some = c.pivots.ensures.some;
+      lie = c.requires.divided;
+      each =
+          e.each;
+      divided = e.parts;
+      long = e.len;
+    } in
+    let long : c.len-in-Drain.result ≡ length c.in_ok-shares.shares.items = search rules in
+    omega (arith, long, share_each come, bin_each come, c.requires.few)
+
 pub same-children-2 : goal.same-children-2
 same-children-2 g c = refl
 
@@ -180,18 +231,17 @@ returns g c =
         total = c.in_ok-shares.ensures.total;
         weighed = c.in_ok-shares.ensures.shares;
         marks = elim c.match-mode.branch [
-          | in-Absorb+in_ok-loads-in-Absorb+else-len-fanout+in_ok-marks-in-Absorb w ↦
-              let made = w.as_mut_slice.ensures.value ∙ w.in_ok-loads-in-Absorb.ensures
+          | in-Absorb+in_ok-loads-in-Absorb+else-len-fanout w ↦
+              let made = w.as_slice-in-Absorb.ensures.value ∙ w.in_ok-loads-in-Absorb.ensures
               ∙ ap (λ ms. map (load (weigh_of g.V.Merge.terms) c.measure-measure.result) (each_with (parted (counts w.as_slice.result.now) ms) c.args.bins)) e.same
               ∙ ap (λ ss. map (load (weigh_of g.V.Merge.terms) c.measure-measure.result) (each_with (parted (counts ss) c.args.stream.now) c.args.bins)) w.as_slice.ensures.value in
               ap (λ v. v.items) w.marks-is
-              ∙ marks_planned come c.args.mode w.as_mut_slice.result.now c.buffer.result w.in_ok-marks-in-Absorb.marks.items w.in-Absorb.is made c.buffer.ensures.value w.in_ok-marks-in-Absorb.ensures
-          | in-Drain+in_ok-marks-in-Drain w ↦
-              let marked : w.in_ok-marks-in-Drain.marks.items ≡ replicate w.len-in-Drain.result true = search rules in
-              ap (λ v. v.items) w.marks-is ∙ marks_all come c.args.mode w.len-in-Drain.result w.in_ok-marks-in-Drain.marks.items w.in-Drain.is (search rules) marked
+              ∙ marks_planned come c.args.mode w.as_slice-in-Absorb.result.now c.buffer.result w.planned_marks-marks.result.items w.in-Absorb.is made c.buffer.ensures.value w.planned_marks-marks.ensures
+          | in-Drain w ↦
+              ap (λ v. v.items) w.marks-is ∙ marks_all come c.args.mode w.len-in-Drain.result w.equal_marks-marks.result.items w.in-Drain.is (search rules) w.equal_marks-marks.ensures
         ];
         full = λ within. elim c.match-mode.branch [
-          | in-Absorb+in_ok-loads-in-Absorb+else-len-fanout+in_ok-marks-in-Absorb w ↦ elim w.else-len-fanout.branch [
+          | in-Absorb+in_ok-loads-in-Absorb+else-len-fanout w ↦ elim w.else-len-fanout.branch [
             | else-len-fanout-via-then-len-fanout+else-are_within w' ↦
                 let made = w'.as_slice-then-len-fanout.ensures.value ∙ w.in_ok-loads-in-Absorb.ensures
                 ∙ ap (λ ms. map (load (weigh_of g.V.Merge.terms) c.measure-measure.result) (each_with (parted (counts w.as_slice.result.now) ms) c.args.bins)) e.same
@@ -201,7 +251,7 @@ returns g c =
                 w'.are_within.ensures ∙ w'.if-are_within.false)
             | else-len-fanout-via-else-len-fanout w' ↦ absurd (omega (arith, within, w'.if-len-fanout.false, w.len.ensures.count, w.fanout.ensures.value))
           ]
-          | in-Drain+in_ok-marks-in-Drain w ↦ has_room-drain c.args.mode c.args.shape _ w.in-Drain.is
+          | in-Drain w ↦ has_room-drain c.args.mode c.args.shape _ w.in-Drain.is
         ];
       },
     )
