@@ -36,6 +36,32 @@ def every_crew_finds_other_replies():
     expect((status, errors, text.splitlines()[-1]), (1, "", "1 scripts, 30 runs, 30 faults"))
 
 
+def record(*fields):
+    """A record as the program writes it: a field with a comma, a double quote or a line break is in double quotes."""
+    return ",".join('"' + field.replace('"', '""') + '"' if set(field) & set(',"\r\n') else field for field in fields)
+
+
+def a_load_with_quotes_and_line_breaks_has_the_same_rows_by_all_crews():
+    """Records that take several lines, blank lines, line ends of both kinds and byte order marks are at the ends of pieces, for all numbers of workers. The
+    replies are computed here. In the last script a record of the last piece has one field too many, and one of the first piece a key that is repeated later."""
+    kinds = ["plain", "with, comma", 'with "quotes"', "two\nlines", "three\r\nlines\n\n", "", '"', "\ufefftext"]
+    rows = [(("\ufeff" if n % 5 == 0 else "") + f"key {n * 7 % 5000:04}", kinds[n % 8]) for n in range(5_000)]
+    lines = [record(*row) if n % 3 else ",".join('"' + field.replace('"', '""') + '"' for field in row) for n, row in enumerate(rows)]
+    text = "\ufeffname,text\r\n" + "".join(line + ("\n", "\r\n", "\n\n", "\r\n\r\n\n")[n % 4] for n, line in enumerate(lines))
+    table = "table 4 8 4 1 name:text text:text"
+    shown = "".join(f"row {record(*row)}\n" for row in sorted(rows, key=lambda row: row[0].encode()))
+    scripts = {
+        "loaded": (f"{table}\nload\n{text}.\nscan primary\ngo\n", f"table 2\nloaded 5000\n{shown}rows 5000\n"),
+        "refused": (f"{table}\nload\n{text}{lines[17]}\n.\nload\n{text}{lines[17]}\na,b,c\n.\n", "table 2\nrefused 14 DuplicateKey 5001\nrefused 7 BadLength 5002\n"),
+    }
+    with tempfile.TemporaryDirectory() as folder:
+        for name, (script, replies) in scripts.items():
+            (Path(folder) / name).write_bytes(script.encode())
+            (Path(folder) / f"{name}.stdout").write_bytes(replies.encode())
+        status, told, errors = run("tools/every_crew", folder)
+    expect((status, errors, told.splitlines()[-1]), (0, "", "2 scripts, 60 runs, 0 faults"))
+
+
 @cache
 def libraries():
     """A folder for the preloaded library, which goes with the process."""
