@@ -206,6 +206,7 @@ def a_crew_frees_what_it_takes():
 TESTS = [
     worked_scripts_have_the_same_replies_by_all_crews,
     every_crew_finds_other_replies,
+    a_load_with_quotes_and_line_breaks_has_the_same_rows_by_all_crews,
     pieces_of_a_batch_are_worked_by_two_threads,
     a_batch_has_five_rounds_for_any_number_of_indexes,
     a_load_by_four_workers_starts_threads_of_rayon_and_by_one_none,
