@@ -191,7 +191,8 @@ at_or_before (suc k) (suc n) within = elim (at_or_before k n (omega (arith, with
 
 -- one more entry of a piece
 pub set_entry : {F : Type 0} (def : Definition) (rows : Rows (List Value)) (start offset : ℕ) (piece : List (Result (Option (List ℕ × List Value)) F)) (made : Result (Option (List ℕ × List Value)) F)
-    → offset < length piece → ((k : ℕ) → k < offset → IsEntryOrFailed def (get_or rows (start + k) ([], [])) (get_or piece k (Ok None))) → (row : List ℕ × List Value) → start + offset < length rows → row ≡ get_or rows (start + offset) row → IsEntryOrFailed def row made
+    → offset < length piece → ((k : ℕ) → k < offset → IsEntryOrFailed def (get_or rows (start + k) ([], [])) (get_or piece k (Ok None)))
+    → (row : List ℕ × List Value) → start + offset < length rows → row ≡ get_or rows (start + offset) row → IsEntryOrFailed def row made
     → (k : ℕ) → k < offset + 1 → IsEntryOrFailed def (get_or rows (start + k) ([], [])) (get_or (set piece offset made) k (Ok None))
 set_entry def rows start offset piece made here so_far row there row_is is k within = elim (at_or_before k offset within) [
   | inl e ↦

@@ -1,5 +1,6 @@
 -- Reading a record with a reader of csv. Serves the records that it has left.
-use Rattle.std.proofs.Common.{ℕ, Bor, Bool, List, [], ◌∷◌, ◌++◌, ◌≡◌, ◌∙◌, ◌&&◌, ◌==◌, refl, ap, sym, not, true, false, inl, inr, arith, drop, length, min, nat_le, take, ◌≤◌, ◌<◌, Option, Some, Result, Ok, Err}
+use Rattle.std.proofs.Common.{ℕ, Bor, Bool, List, [], ◌∷◌, ◌++◌, ◌≡◌, ◌∙◌, ◌&&◌, ◌==◌, refl, ap, sym, not, true, false, inl, inr, arith}
+use Rattle.std.proofs.Common.{drop, length, min, nat_le, take, ◌≤◌, ◌<◌, Option, Some, Result, Ok, Err}
 use Rattle.std.proofs.lemmas.Bool.{cases_Bool}
 use Rattle.std.proofs.lemmas.Bool.Decides.{nat_tests}
 use Rattle.std.proofs.lemmas.List.{take_all}

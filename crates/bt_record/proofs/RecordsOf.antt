@@ -200,7 +200,8 @@ reads_over b bs is = rw is refl
 pub line_end_more : (b : ℕ) (bs : List ℕ) → is_line_end b ≡ true → records default_config (b ∷ bs) ≡ records default_config bs
 line_end_more b bs is =
     let size = suc (length bs) in
-    opened st.StartRecord (b ∷ bs) ∙ ap (records_next (records_from default_config size)) (reads_over b bs is) ∙ sym (one_turn size st.StartRecord bs) ∙ turns (suc size) (length bs + 1) bs (omega arith) (omega arith)
+    opened st.StartRecord (b ∷ bs) ∙ ap (records_next (records_from default_config size)) (reads_over b bs is) ∙ sym (one_turn size st.StartRecord bs)
+    ∙ turns (suc size) (length bs + 1) bs (omega arith) (omega arith)
 
 -- the same, by the first byte of a text and the bytes after it
 pub line_end_first : (text : List ℕ) → 1 ≤ length text → true ≡ is_line_end (get_or text 0 0) → records default_config (take (length text - 1) (drop 1 text)) ≡ records default_config text

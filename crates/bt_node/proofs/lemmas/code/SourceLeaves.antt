@@ -30,7 +30,8 @@ even_leaves s n k e = ap (even n) (e ∙ leaf_count-is s n)
 -- ---- the leaves
 
 -- the size at a place is the first of those that are left
-pub next_size : (s : Shape) (n k place size : ℕ) → k ≡ leaf_count s n → drop place (even n k) ≡ size ∷ drop (place + 1) (even n k) → drop place (sizes n s.leaf) ≡ size ∷ drop (place + 1) (sizes n s.leaf)
+pub next_size : (s : Shape) (n k place size : ℕ) → k ≡ leaf_count s n → drop place (even n k) ≡ size ∷ drop (place + 1) (even n k)
+    → drop place (sizes n s.leaf) ≡ size ∷ drop (place + 1) (sizes n s.leaf)
 next_size s n k place size many next =
     let sizes-are = even_leaves s n k many in
     ap (drop place) (sym sizes-are) ∙ next ∙ ap (λ ns. size ∷ drop (place + 1) ns) sizes-are
@@ -73,7 +74,8 @@ module _ {V M : Type 0} where
         ∙ ap (λ xs. made ++ as_leaf M (take n rs) ∷ keyed_leaves ns xs) is ∙ sym (ap (λ ms. made ++ keyed_leaves ms rs) next)
 
   -- all leaves are made
-  pub all_made : (s : Shape) (n : ℕ) (made : Siblings V M) (ns : List ℕ) (rs rest : Rows V) → n ≡ length rs → ns ≡ [] → made ++ keyed_leaves ns rest ≡ keyed_leaves (sizes n s.leaf) rs → made ≡ all_leaves s rs
+  pub all_made : (s : Shape) (n : ℕ) (made : Siblings V M) (ns : List ℕ) (rs rest : Rows V) → n ≡ length rs → ns ≡ []
+      → made ++ keyed_leaves ns rest ≡ keyed_leaves (sizes n s.leaf) rs → made ≡ all_leaves s rs
   all_made s n made ns rs rest count none kept =
       sym (append-nil made) ∙ sym (ap (λ ms. made ++ keyed_leaves ms rest) none) ∙ kept ∙ ap (λ k. keyed_leaves (sizes k s.leaf) rs) count
 

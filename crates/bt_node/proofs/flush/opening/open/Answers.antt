@@ -236,7 +236,8 @@ returns g c =
               ∙ ap (λ ms. map (load (weigh_of g.V.Merge.terms) c.measure-measure.result) (each_with (parted (counts w.as_slice.result.now) ms) c.args.bins)) e.same
               ∙ ap (λ ss. map (load (weigh_of g.V.Merge.terms) c.measure-measure.result) (each_with (parted (counts ss) c.args.stream.now) c.args.bins)) w.as_slice.ensures.value in
               ap (λ v. v.items) w.marks-is
-              ∙ marks_planned come c.args.mode w.as_slice-in-Absorb.result.now c.buffer.result w.planned_marks-marks.result.items w.in-Absorb.is made c.buffer.ensures.value w.planned_marks-marks.ensures
+              ∙ marks_planned come c.args.mode w.as_slice-in-Absorb.result.now c.buffer.result w.planned_marks-marks.result.items w.in-Absorb.is made c.buffer.ensures.value
+              w.planned_marks-marks.ensures
           | in-Drain w ↦
               ap (λ v. v.items) w.marks-is ∙ marks_all come c.args.mode w.len-in-Drain.result w.equal_marks-marks.result.items w.in-Drain.is (search rules) w.equal_marks-marks.ensures
         ];
