@@ -71,7 +71,7 @@ typedef struct {
     uint64_t refusal;
     /* The item, counted from 1: a change, the key, or 1 for the lower bound of a page and 2 for the upper one. 0 if it is none of them. */
     uint64_t item;
-    /* The column, counted from 1. 0 if it is none. */
+    /* The column of the value or the operation at fault, counted from 1. 0 if it is none. */
     uint64_t column;
 } betable_fault;
 

@@ -154,7 +154,7 @@ def changes_of(given, kinds, keys):
 
 
 def operations_of(read, kinds, keys, item):
-    count, found, faults = read.take(1, (BAD_FIELD, item, 0))[0], [], []
+    count, found = read.take(1, (BAD_FIELD, item, 0))[0], []
     for _ in range(count):
         code, place = read.take(2, (BAD_FIELD, item, 0))
         at = (BAD_FIELD, item, place + 1)
@@ -164,13 +164,11 @@ def operations_of(read, kinds, keys, item):
             raise Fault(BAD_FIELD, item, 0)
         found.append((code, place, read.value("int" if code else kinds[place], at)))
         if place < keys or place >= len(kinds):
-            faults.append(NO_SUCH_COLUMN)
-        elif code and kinds[place] != "int":
-            faults.append(NOT_INT)
+            raise Fault(NO_SUCH_COLUMN, item, place + 1)
+        if code and kinds[place] != "int":
+            raise Fault(NOT_INT, item, place + 1)
     if not 1 <= count <= 16:
         raise Fault(BAD_LENGTH, item, 0)
-    if faults:
-        raise Fault(min(faults), item, 0)
     return found
 
 
@@ -549,13 +547,13 @@ MALFORMED = [
     ("betable_apply", changes(put(*ROW), delete(2), put(3, "a", True, b"", 1)[:-1]), (BAD_FIELD, 3, 5)),
     ("betable_apply", changes(upsert((1,), (4, 4, 1))), (BAD_FIELD, 1, 0)),
     ("betable_apply", changes(upsert((1,), (255, 4, 1))), (BAD_FIELD, 1, 0)),
-    ("betable_apply", changes(upsert((1,), (0, 0, 1))), (NO_SUCH_COLUMN, 1, 0)),
-    ("betable_apply", changes(upsert((1,), (1, 0, 1))), (NO_SUCH_COLUMN, 1, 0)),
+    ("betable_apply", changes(upsert((1,), (0, 0, 1))), (NO_SUCH_COLUMN, 1, 1)),
+    ("betable_apply", changes(upsert((1,), (1, 0, 1))), (NO_SUCH_COLUMN, 1, 1)),
     ("betable_apply", changes(upsert((1,), (0, 5, 1))), (NO_SUCH_COLUMN, 1, 6)),
-    ("betable_apply", changes(upsert((1,), (2, 255, 1))), (NO_SUCH_COLUMN, 1, 0)),
-    ("betable_apply", changes(upsert((1,), (1, 1, 1))), (NOT_INT, 1, 0)),
-    ("betable_apply", changes(put(*ROW), upsert((1,), (1, 4, 1), (3, 2, 1))), (NOT_INT, 2, 0)),
-    ("betable_apply", changes(upsert((1,), (3, 2, 1), (1, 0, 1))), (NO_SUCH_COLUMN, 1, 0)),
+    ("betable_apply", changes(upsert((1,), (2, 255, 1))), (NO_SUCH_COLUMN, 1, 256)),
+    ("betable_apply", changes(upsert((1,), (1, 1, 1))), (NOT_INT, 1, 2)),
+    ("betable_apply", changes(put(*ROW), upsert((1,), (1, 4, 1), (3, 2, 1))), (NOT_INT, 2, 3)),
+    ("betable_apply", changes(upsert((1,), (3, 2, 1), (1, 0, 1))), (NOT_INT, 1, 3)),
     ("betable_apply", changes(upsert((1,))), (BAD_LENGTH, 1, 0)),
     ("betable_apply", changes(upsert((1,), *[(1, 4, 1)] * 17)), (BAD_LENGTH, 1, 0)),
     ("betable_apply", changes(bytes([UPS]) + value_bytes(1) + b"\1\0\2\2"), (BAD_FIELD, 1, 3)),

@@ -17,7 +17,7 @@ UNCALLED: dict[str, str] = {
     "bt_batch::Changes::len": "for callers in Rattle who collect changes: how many there are so far",
     "bt_messages::Packet::is_empty": "stands beside `len`, as on the lists of the standard library",
     "bt_record::Fields::is_empty": "stands beside `len`, as on the lists of the standard library",
-    "bt_view::KeyRange::after": "the rest of a range after a page, for callers in Rattle; the library for C takes packed bounds instead",
+    "bt_show::KeyRange::after": "the rest of a range after a page, for callers in Rattle; the library for C takes packed bounds instead",
 }
 
 

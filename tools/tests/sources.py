@@ -1,6 +1,7 @@
-"""Tests of the sources in crates/ as texts: the lines of proofs, and the words of comments."""
+"""Tests of the sources in crates/ as texts: the lines of proofs, lemmas that nothing cites, and the words of comments."""
 
 import re
+from collections import Counter
 
 from common import expect, TOP
 from documents import other_words
@@ -35,6 +36,50 @@ def comments_of_a_source_are_found():
     expect(list(comments(given)), [(1, "a"), (2, "b"), (3, "c"), (5, "e"), (6, "h"), (7, "i"), (8, "")])
 
 
+WORD = re.compile(r"[^\s(){}\[\],.;:«»|λ]+")
+SIGNATURE = re.compile(r"(\s*)(?:pub )?([^\s(){}\[\],.;:]+) : ")
+
+
+def words_of_code(text, ending):
+    """The words of each line but those of imports and comments."""
+    for line in text.splitlines():
+        code = line.split("--")[0] if ending == ".antt" else line
+        yield [] if code.startswith("use ") else WORD.findall(code)
+
+
+def lemmas(text):
+    """The lemmas that a file of proofs states: of each the number of its line, its name, and how often its own lines name it."""
+    lines, words = text.splitlines(), list(words_of_code(text, ".antt"))
+    for number, line in enumerate(lines):
+        found = SIGNATURE.match(line)
+        if found and not line.lstrip().startswith(("--", "|", "record")):
+            indent, name = len(found[1]), found[2]
+            end = number + 1
+            # Its cases, which begin with its name, and what is further in or closes a bracket.
+            while end < len(lines) and (not lines[end].strip() or len(lines[end]) - len(lines[end].lstrip()) > indent
+                                        or re.match(rf"\s{{{indent}}}(?:[\])}}]|{re.escape(name)}(?:\s|$))", lines[end])):  # fmt: skip
+                end += 1
+            yield number + 1, name, sum(line.count(name) for line in words[number:end])
+
+
+def uncited(texts):
+    """The lemmas that no line of these sources names but their own. Answers to goals and worked rows are named by nothing."""
+    named = Counter(word for path, text in texts.items() for line in words_of_code(text, path.suffix) for word in line)
+    return [f"{path}:{number}: {name}" for path, text in texts.items() if "proofs" in path.parts and not re.match("Answers|Invariants|Proof|Worked", path.name)
+            for number, name, own in lemmas(text) if named[name] == own]  # fmt: skip
+
+
+def each_lemma_is_cited():
+    expect(uncited({path.relative_to(TOP): path.read_text() for path in sources("rt", "antt")}), [])
+
+
+def a_lemma_that_nothing_cites_is_found():
+    given = "use Rattle.a.proofs.A.{left}\n\nleft : a\nleft = refl\n\n  where\n\npub right : (n : ℕ) → b\nright zero = elim n [\n  | one\n]\nright n = right n -- right\n\nused : c\nused = d\n"
+    texts = {TOP / "crates/a/proofs/A.antt": given, TOP / "crates/a/src/a.rt": "// used\nuse a::used;\n", TOP / "crates/a/proofs/a/Answers.antt": "goal : used\n"}
+    expect(uncited({path.relative_to(TOP): text for path, text in texts.items()}), ["crates/a/proofs/A.antt:3: left", "crates/a/proofs/A.antt:8: right"])
+
+
 # Need no program.
-TESTS_OF_TEXTS = [lines_of_proofs_are_at_most_200_letters_long, words_of_comments_are_plain, comments_of_a_source_are_found]
+TESTS_OF_TEXTS = [lines_of_proofs_are_at_most_200_letters_long, each_lemma_is_cited, a_lemma_that_nothing_cites_is_found, words_of_comments_are_plain,
+                  comments_of_a_source_are_found]  # fmt: skip
 TESTS = []

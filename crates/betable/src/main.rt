@@ -11,31 +11,31 @@ use std::sync::Wait;
 use std::thread::Threads;
 use std::{env, io};
 
-// The words of the command line; the first is the program's name. A word that is not UTF-8 is a fault.
-fn words_of<R: Env + AllocGlobal>(rt: &R) -> Result<Texts, ProgramFault> {
+// The arguments of the command line; the first is the program's name. A word that is not UTF-8 is a fault.
+fn arguments_of<R: Env + AllocGlobal>(rt: &R) -> Result<Texts, ProgramFault> {
     let given = match env::args(rt) {
         Ok(given) => given,
         Err(error) if error.kind() == ErrorKind::OutOfMemory => {
             return Err(ProgramFault::Run(RunFault::OutOfMemory));
         }
-        Err(_) => return Err(ProgramFault::Words),
+        Err(_) => return Err(ProgramFault::Arguments),
     };
-    let mut words = Texts::new(rt.alloc());
+    let mut arguments = Texts::new(rt.alloc());
     for word in given {
-        words.push(word.as_str())?;
+        arguments.push(word.as_str())?;
     }
-    Ok(words)
+    Ok(arguments)
 }
 
-// Whether the words name no file, so that the script is read from standard input.
-fn names_no_file(alloc: Global, words: &Texts) -> bool {
-    match read_words(alloc, words) {
-        Ok(said) => said.script.is_none(),
+// Whether the arguments name no file, so that the script is read from standard input.
+fn names_no_file(alloc: Global, arguments: &Texts) -> bool {
+    match read_words(alloc, arguments) {
+        Ok(settings) => settings.script.is_none(),
         Err(_) => false,
     }
 }
 
-// Passes the words and the streams on. Replies are written through a buffer. If the input is a terminal, a line reports what the program waits for; an error of
+// Passes the arguments and the streams on. Replies are written through a buffer. If the input is a terminal, a line reports what the program waits for; an error of
 // that stream is ignored.
 fn run<R, I, E>(rt: &R, input: I, errors: &mut Counted<E>) -> Result<u8, ProgramFault>
 where
@@ -43,8 +43,8 @@ where
     I: Read + IsTerminal + Drop,
     E: Write,
 {
-    let words = words_of(rt)?;
-    if input.is_terminal() && names_no_file(rt.alloc(), &words) {
+    let arguments = arguments_of(rt)?;
+    if input.is_terminal() && names_no_file(rt.alloc(), &arguments) {
         let _ = writeln!(
             errors,
             "betable: reads a script from the terminal until its end (Ctrl-D)"
@@ -55,7 +55,7 @@ where
     };
     Ok(program(
         rt,
-        &words,
+        &arguments,
         &mut Counted::new(input),
         &mut Counted::new(output),
         errors,

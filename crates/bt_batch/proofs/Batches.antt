@@ -4,34 +4,34 @@ use Rattle.std.proofs.lemmas.Bool.Decides.{nat_tests}
 use Rattle.std.proofs.lemmas.List.{drop_more}
 use Rattle.std.proofs.lemmas.Option.{none-some}
 use Rattle.bt_batch.specs.Batches.{read_batch, read_message}
-use Rattle.bt_value.specs.Refusals.{is_lesser, least, least_from, lesser}
+use Rattle.bt_value.specs.Refusals.{is_lower, lowest, lowest_from, lower}
 use Rattle.bt_row.specs.Schemas.{Schema}
 use Rattle.bt_rowtype.specs.declared.item.Item.{Item}
 use Rattle.bt_value.specs.declared.refusal.Refusal.{Refusal}
 
 -- ---- the least refusal of concatenated lists
 
-pub least_from-append : (found : Option Refusal) (xs ys : List Refusal) → least_from found (xs ++ ys) ≡ least_from (least_from found xs) ys
-least_from-append found [] ys = refl
-least_from-append None (x ∷ xs) ys = least_from-append (Some x) xs ys
-least_from-append (Some found) (x ∷ xs) ys = least_from-append (Some (lesser found x)) xs ys
+pub lowest_from-append : (found : Option Refusal) (xs ys : List Refusal) → lowest_from found (xs ++ ys) ≡ lowest_from (lowest_from found xs) ys
+lowest_from-append found [] ys = refl
+lowest_from-append None (x ∷ xs) ys = lowest_from-append (Some x) xs ys
+lowest_from-append (Some found) (x ∷ xs) ys = lowest_from-append (Some (lower found x)) xs ys
 
-lesser_chain : (a b c : Refusal) → is_lesser b a ≡ true → is_lesser c b ≡ true → is_lesser c a ≡ true
-lesser_chain a b c p q = grind (arith, nat_tests)
+lower_chain : (a b c : Refusal) → is_lower b a ≡ true → is_lower c b ≡ true → is_lower c a ≡ true
+lower_chain a b c p q = grind (arith, nat_tests)
 
-not_lesser_chain : (a b c : Refusal) → is_lesser b a ≡ false → is_lesser c b ≡ false → is_lesser c a ≡ false
-not_lesser_chain a b c p q = grind (arith, nat_tests)
+not_lower_chain : (a b c : Refusal) → is_lower b a ≡ false → is_lower c b ≡ false → is_lower c a ≡ false
+not_lower_chain a b c p q = grind (arith, nat_tests)
 
 -- the least of three doesn't depend on which two are compared first
-lesser-assoc : (a b c : Refusal) → lesser (lesser a b) c ≡ lesser a (lesser b c)
-lesser-assoc a b c = elim (is_lesser b a) as (λ p. is_lesser b a ≡ p → lesser (if p then b else a) c ≡ lesser a (lesser b c)) [
-  | true ↦ λ p. elim (is_lesser c b) as (λ q. is_lesser c b ≡ q → (if q then c else b) ≡ lesser a (if q then c else b)) [
-    | true ↦ λ q. sym (ap (λ t. if t then c else a) (lesser_chain a b c p q))
+lower-assoc : (a b c : Refusal) → lower (lower a b) c ≡ lower a (lower b c)
+lower-assoc a b c = elim (is_lower b a) as (λ p. is_lower b a ≡ p → lower (if p then b else a) c ≡ lower a (lower b c)) [
+  | true ↦ λ p. elim (is_lower c b) as (λ q. is_lower c b ≡ q → (if q then c else b) ≡ lower a (if q then c else b)) [
+    | true ↦ λ q. sym (ap (λ t. if t then c else a) (lower_chain a b c p q))
     | false ↦ λ q. sym (ap (λ t. if t then b else a) p)
   ] refl
-  | false ↦ λ p. elim (is_lesser c b) as (λ q. is_lesser c b ≡ q → lesser a c ≡ lesser a (if q then c else b)) [
+  | false ↦ λ p. elim (is_lower c b) as (λ q. is_lower c b ≡ q → lower a c ≡ lower a (if q then c else b)) [
     | true ↦ λ q. refl
-    | false ↦ λ q. ap (λ t. if t then c else a) (not_lesser_chain a b c p q) ∙ sym (ap (λ t. if t then b else a) p)
+    | false ↦ λ q. ap (λ t. if t then c else a) (not_lower_chain a b c p q) ∙ sym (ap (λ t. if t then b else a) p)
   ] refl
 ] refl
 
@@ -39,21 +39,21 @@ unwrapped : (x y : Refusal) → Some x ≡ Some y → x ≡ y
 unwrapped x y e = ap (λ o. unwrap_or o x) e
 
 -- the least of others is compared in their place
-compared : (a x r : Refusal) (xs : List Refusal) → least_from (Some x) xs ≡ Some r → least_from (Some (lesser a x)) xs ≡ Some (lesser a r)
-compared a x r [] e = ap (λ z. Some (lesser a z)) (unwrapped x r e)
-compared a x r (y ∷ ys) e = ap (λ z. least_from (Some z) ys) (lesser-assoc a x y) ∙ compared a (lesser x y) r ys e
+compared : (a x r : Refusal) (xs : List Refusal) → lowest_from (Some x) xs ≡ Some r → lowest_from (Some (lower a x)) xs ≡ Some (lower a r)
+compared a x r [] e = ap (λ z. Some (lower a z)) (unwrapped x r e)
+compared a x r (y ∷ ys) e = ap (λ z. lowest_from (Some z) ys) (lower-assoc a x y) ∙ compared a (lower x y) r ys e
 
-pub least_instead : (found : Option Refusal) (xs : List Refusal) (r : Refusal) → least xs ≡ Some r → least_from found xs ≡ least_from found (r ∷ [])
-least_instead None xs r e = e
-least_instead (Some a) [] r e = absurd (none-some r e)
-least_instead (Some a) (x ∷ xs) r e = compared a x r xs e
+pub lowest_instead : (found : Option Refusal) (xs : List Refusal) (r : Refusal) → lowest xs ≡ Some r → lowest_from found xs ≡ lowest_from found (r ∷ [])
+lowest_instead None xs r e = e
+lowest_instead (Some a) [] r e = absurd (none-some r e)
+lowest_instead (Some a) (x ∷ xs) r e = compared a x r xs e
 
-still_found : (x : Refusal) (xs : List Refusal) → least_from (Some x) xs ≡ None → ⊥
+still_found : (x : Refusal) (xs : List Refusal) → lowest_from (Some x) xs ≡ None → ⊥
 still_found x [] e = none-some x (sym e)
-still_found x (y ∷ ys) e = still_found (lesser x y) ys e
+still_found x (y ∷ ys) e = still_found (lower x y) ys e
 
 -- if there is no least one, there is none
-pub none_at_all : (xs : List Refusal) → least xs ≡ None → xs ≡ []
+pub none_at_all : (xs : List Refusal) → lowest xs ≡ None → xs ≡ []
 none_at_all [] e = refl
 none_at_all (x ∷ xs) e = absurd (still_found x xs e)
 

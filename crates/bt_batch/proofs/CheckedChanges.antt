@@ -17,11 +17,6 @@ mapped : (changes : Changes) (message : KeyedMessage) (check : Result (Unit {0})
     → map_ok (with_change changes) (map_ok (λ _. message) check) ≡ Ok (with_change changes message)
 mapped changes message check is = ap (λ (c : Result (Unit {0}) Refusal). map_ok (with_change changes) (map_ok (λ _. message) c)) is
 
--- one that doesn't is refused
-not_mapped : (changes : Changes) (message : KeyedMessage) (check : Result (Unit {0}) Refusal) (refusal : Refusal) → check ≡ Err refusal
-    → map_ok (with_change changes) (map_ok (λ _. message) check) ≡ Err refusal
-not_mapped changes message check refusal is = ap (λ (c : Result (Unit {0}) Refusal). map_ok (with_change changes) (map_ok (λ _. message) c)) is
-
 module _ (changes : Changes) (schema : Schema) (item : ℕ) (of_schema : schema ≡ changes.schema) (number : item ≡ next_item changes) where
   module _ (row : List Value) where
     put_check : checked_as changes.schema.columns (next_item changes) row ≡ checked_as schema.columns item row
@@ -31,17 +26,11 @@ module _ (changes : Changes) (schema : Schema) (item : ℕ) (of_schema : schema 
         → after_put changes row ≡ Ok new
     put_added new passes is = mapped changes (put_of changes.schema.keys row) _ (put_check ∙ passes) ∙ ap Ok (sym is)
 
-    pub put_refused : (refusal : Refusal) → checked_as schema.columns item row ≡ Err refusal → after_put changes row ≡ Err refusal
-    put_refused refusal fails = not_mapped changes (put_of changes.schema.keys row) _ refusal (put_check ∙ fails)
-
     del_check : checked_key changes.schema (next_item changes) row ≡ checked_key schema item row
     del_check = λ i. checked_key (sym of_schema i) (sym number i) row
 
     pub del_added : (new : Changes) → checked_key schema item row ≡ Ok tt → new ≡ with_change changes (del_of row) → after_del changes row ≡ Ok new
     del_added new passes is = mapped changes (del_of row) _ (del_check ∙ passes) ∙ ap Ok (sym is)
-
-    pub del_refused : (refusal : Refusal) → checked_key schema item row ≡ Err refusal → after_del changes row ≡ Err refusal
-    del_refused refusal fails = not_mapped changes (del_of row) _ refusal (del_check ∙ fails)
 
     module _ (ops : List Op) where
       ups_check : both_checked (checked_key changes.schema (next_item changes) row) (checked_ops changes.schema (next_item changes) ops)
@@ -51,10 +40,6 @@ module _ (changes : Changes) (schema : Schema) (item : ℕ) (of_schema : schema 
       pub ups_added : (new : Changes) → both_checked (checked_key schema item row) (checked_ops schema item ops) ≡ Ok tt
           → new ≡ with_change changes (ups_of changes.schema (row, ops)) → after_ups changes row ops ≡ Ok new
       ups_added new passes is = mapped changes (ups_of changes.schema (row, ops)) _ (ups_check ∙ passes) ∙ ap Ok (sym is)
-
-      pub ups_refused : (refusal : Refusal) → both_checked (checked_key schema item row) (checked_ops schema item ops) ≡ Err refusal
-          → after_ups changes row ops ≡ Err refusal
-      ups_refused refusal fails = not_mapped changes (ups_of changes.schema (row, ops)) _ refusal (ups_check ∙ fails)
 
 -- what is added is not refused
 pub added_not_refused : (answer : Result Changes Refusal) (new : Changes) (P : Refusal → Type 0) → answer ≡ Ok new → IfErr answer P

@@ -41,7 +41,7 @@ fn both_checked(first: Result<(), Refusal>, second: Result<(), Refusal>) -> Resu
         Ok(()) => second,
         Err(refusal) => match second {
             Ok(()) => Err(refusal),
-            Err(other) => Err(refusal.lesser(other)),
+            Err(other) => Err(refusal.lower(other)),
         },
     }
 }

@@ -3,14 +3,14 @@ ghost use Rattle.std.specs.Prelude.{◌≡◌, ◌+◌, ◌<◌, ◌^◌, ◌∷
 ghost use Rattle.std.specs.List.{filter_map};
 ghost use Rattle.std.specs.Result.{result_err, result_ok};
 ghost use Rattle.bt_value.specs.Answers.{Answers};
-ghost use Rattle.bt_value.specs.Refusals.{least, least_from};
+ghost use Rattle.bt_value.specs.Refusals.{lowest, lowest_from};
 ghost use Rattle.bt_batch.specs.Batches as spec;
 
 use bt_keycode::{Key, encode_row};
 use bt_messages::Message;
 use bt_row::{Row, Schema};
 use bt_rowtype::{Item, RecordReader};
-use bt_value::{Collected, Refusal, least_with};
+use bt_value::{Collected, Refusal, lowest_with};
 use std::alloc::{AllocError, Global};
 
 /// The largest number of messages in a batch.
@@ -53,7 +53,7 @@ pub(crate) fn read_lines(
 ) -> Result<Collected<(Key, Message<Row>)>, AllocError>
     requires { before + length lines.now < 2 ^ 63 }
     ensures messages { IfOk result (λ read. read.values ≡ filter_map result_ok (spec.read_batch schema.now (before + 1) lines.now)) }
-    ensures refusal { IfOk result (λ read. read.refusal ≡ least (filter_map result_err (spec.read_batch schema.now (before + 1) lines.now))) }
+    ensures refusal { IfOk result (λ read. read.refusal ≡ lowest (filter_map result_err (spec.read_batch schema.now (before + 1) lines.now))) }
 {
     let mut reader = RecordReader::new(alloc);
     let mut reading = Collected::new(alloc);
@@ -90,14 +90,14 @@ pub(crate) fn refuse_many(
     schema: &Schema,
     items: &[Item<'_>],
 ) -> Result<Refusal, AllocError>
-    ensures { IfOk result (λ refusal. least_from (least (filter_map result_err (spec.read_batch schema.now 1 items.now))) (Refusal.TooMany ∷ []) ≡ Some refusal) }
+    ensures { IfOk result (λ refusal. lowest_from (lowest (filter_map result_err (spec.read_batch schema.now 1 items.now))) (Refusal.TooMany ∷ []) ≡ Some refusal) }
 {
     let mut reader = RecordReader::new(alloc);
     let mut found = None;
     for (place, line) in items.iter().enumerate() {
         if let Some(refusal) = refusal_of(alloc, &mut reader, schema, place as u64 + 1, line)? {
-            found = Some(least_with(found, refusal));
+            found = Some(lowest_with(found, refusal));
         }
     }
-    Ok(least_with(found, Refusal::TooMany))
+    Ok(lowest_with(found, Refusal::TooMany))
 }

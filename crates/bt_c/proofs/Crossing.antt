@@ -13,9 +13,9 @@ use Rattle.bt_messages.proofs.entry.Entry.TheSendSync as entry
 use Rattle.bt_messages.specs.contracts.entry.Entry as Entry
 use Rattle.bt_messages.specs.contracts.entry.EntryMerge.TheImpl as EntryMerge
 use Rattle.bt_messages.specs.contracts.message.RowMerge.TheImpl as RowMerge
-use Rattle.bt_node.proofs.form.node.Node.TheLaws.TheKnot as knot
-use Rattle.bt_node.proofs.form.rows.Rows.TheSendSync as rows
-use Rattle.bt_node.proofs.form.shape.Shape.TheSendSync as shape_of_nodes
+use Rattle.bt_form.proofs.node.Node.TheLaws.TheKnot as knot
+use Rattle.bt_form.proofs.rows.Rows.TheSendSync as rows
+use Rattle.bt_form.proofs.shape.Shape.TheSendSync as shape_of_nodes
 use Rattle.bt_node.specs.contracts.tree.Tree as Tree
 use Rattle.bt_table.proofs.index.IndexHead.TheSendSync as head
 use Rattle.bt_table.specs.contracts.index.IndexHead as IndexHead

@@ -5,7 +5,7 @@ use Rattle.bt_value.specs.Refusals.{number_of}
 use Rattle.bt_value.specs.declared.refusal.Refusal.TheVariants.{NoTable}
 use Rattle.bt_table.specs.Calls.{StaysOrIsLost}
 use Rattle.bt_table.specs.Tables.{Intact, Lost, TableState}
-use Rattle.bt_packed.specs.Calls.{applied, got, on_ok, packed_page, told_columns, told_sums, told_usage}
+use Rattle.bt_packed.specs.Calls.{applied, columns_reply, get_reply, on_ok, page_reply, sums_reply, usage_reply}
 use Rattle.bt_packed.specs.Layout.{fault_at}
 use Rattle.bt_packed.specs.declared.fault.Fault.{Fault}
 use Rattle.bt_shell.specs.Steps.{State}
@@ -53,16 +53,16 @@ applied_to (Some table) bytes = on_ok Some (applied table bytes)
 
 -- what a table replies to a question in packed bytes
 abbrev pub answer_of : Question → TableState → List ℕ → Result (List ℕ) Fault
-answer_of Row = got
-answer_of Page = packed_page
-answer_of Sums = told_sums
-answer_of Columns = told_columns
-answer_of Usage = told_usage
+answer_of Row = get_reply
+answer_of Page = page_reply
+answer_of Sums = sums_reply
+answer_of Columns = columns_reply
+answer_of Usage = usage_reply
 
 -- the reply of a table to a question in packed bytes, or the fault
-abbrev pub asked : (TableState → List ℕ → Result (List ℕ) Fault) → State → List ℕ → Result (List ℕ) Fault
-asked answer None bytes = Err no_table
-asked answer (Some table) bytes = answer table bytes
+abbrev pub reply_from : (TableState → List ℕ → Result (List ℕ) Fault) → State → List ℕ → Result (List ℕ) Fault
+reply_from answer None bytes = Err no_table
+reply_from answer (Some table) bytes = answer table bytes
 
 -- a fault as C sees it
 abbrev pub fault_of : Fault → FaultInC

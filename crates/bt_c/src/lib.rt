@@ -18,11 +18,11 @@ ghost use Rattle.bt_script.specs.Commands.{commands};
 ghost use Rattle.bt_shell.specs.Faults.{StopsBetweenReplies, StopsWithinReply, lost_reply};
 ghost use Rattle.bt_shell.specs.Runs.{AreOneRun, EndsBetweenCommands, after_commands, refused_count, replies};
 ghost use Rattle.bt_shell.specs.Steps.{State};
-ghost use Rattle.bt_table.specs.Standing.{CompleteIndexesHold, IsSoundUnlessLost};
+ghost use Rattle.bt_table.specs.Standing.{CompleteIndexesHold, IsSound, IsSoundUnlessLost};
 ghost use Rattle.bt_table.specs.Tables.{Lost};
-ghost use Rattle.bt_packed.specs.Calls.{got, packed_page, told_columns, told_sums, told_usage};
+ghost use Rattle.bt_packed.specs.Calls.{columns_reply, get_reply, page_reply, sums_reply, usage_reply};
 ghost use Rattle.bt_c.specs.Replies.{checked_marks, marks_of, reply_at};
-ghost use Rattle.bt_c.specs.Sessions.{IsFault, IsUnmarked, StaysOpen, StaysOrIsLostIn, answer_of, applied_to, asked, code_of, fault_of, is_lost, session_of};
+ghost use Rattle.bt_c.specs.Sessions.{IsFault, IsUnmarked, StaysOpen, StaysOrIsLostIn, answer_of, applied_to, code_of, fault_of, is_lost, reply_from, session_of};
 ghost use Rattle.bt_c.specs.declared.status.Status.TheVariants as status;
 
 mod fault;
@@ -96,6 +96,9 @@ pub extern "C" fn betable_run(alloc: Global, handle: &mut Handle, script: &[u8])
     ensures sound { IfSome (session_of handle.new) (λ session. IfSome session.table IsSoundUnlessLost) }
     ensures complete { IfSome (session_of handle.new) (λ session. IfSome session.table CompleteIndexesHold) }
 
+    // A run that is done loses no table.
+    ensures kept { result ≡ code_of status.Done → StaysOpen handle.old handle.new (λ old new. IfSome old.table IsSound → IfSome new.table IsSound) }
+
     // This script, after any script that ends between two commands, is the rest of one script.
     ensures one_run { (first : List ℕ) (before : State) → EndsBetweenCommands first → AreOneRun before first script.now }
 {
@@ -166,8 +169,8 @@ fn answered(
 ) -> u32
     ensures closed { session_of handle.old ≡ None → (result ≡ code_of status.NotOpen) × (session_of handle.new ≡ None) }
     ensures ends { is_some (session_of handle.old) ≡ true → (result ≡ code_of status.Done) ⊎ (result ≡ code_of status.OutOfMemory) ⊎ (result ≡ code_of status.Refused) }
-    ensures done { result ≡ code_of status.Done → StaysOpen handle.old handle.new (λ old new. asked (answer_of question) old.table bytes.now ≡ Ok new.text.items) }
-    ensures refused { result ≡ code_of status.Refused → StaysOpen handle.old handle.new (λ old _. IsFault (asked (answer_of question) old.table bytes.now) fault.new) }
+    ensures done { result ≡ code_of status.Done → StaysOpen handle.old handle.new (λ old new. reply_from (answer_of question) old.table bytes.now ≡ Ok new.text.items) }
+    ensures refused { result ≡ code_of status.Refused → StaysOpen handle.old handle.new (λ old _. IsFault (reply_from (answer_of question) old.table bytes.now) fault.new) }
     ensures unanswered { result ≢ code_of status.Done → IfSome (session_of handle.new) (λ session. session.text.items ≡ []) }
     ensures unmarked { IfSome (session_of handle.new) IsUnmarked }
     ensures certain { IfSome (session_of handle.old) (λ session. session.table ≡ None → result ≡ code_of status.Refused) }
@@ -221,8 +224,8 @@ pub extern "C" fn betable_get(
 ) -> u32
     ensures closed { session_of handle.old ≡ None → (result ≡ code_of status.NotOpen) × (session_of handle.new ≡ None) }
     ensures ends { is_some (session_of handle.old) ≡ true → (result ≡ code_of status.Done) ⊎ (result ≡ code_of status.OutOfMemory) ⊎ (result ≡ code_of status.Refused) }
-    ensures done { result ≡ code_of status.Done → StaysOpen handle.old handle.new (λ old new. asked got old.table key.now ≡ Ok new.text.items) }
-    ensures refused { result ≡ code_of status.Refused → StaysOpen handle.old handle.new (λ old _. IsFault (asked got old.table key.now) fault.new) }
+    ensures done { result ≡ code_of status.Done → StaysOpen handle.old handle.new (λ old new. reply_from get_reply old.table key.now ≡ Ok new.text.items) }
+    ensures refused { result ≡ code_of status.Refused → StaysOpen handle.old handle.new (λ old _. IsFault (reply_from get_reply old.table key.now) fault.new) }
     ensures unanswered { result ≢ code_of status.Done → IfSome (session_of handle.new) (λ session. session.text.items ≡ []) }
     ensures unmarked { IfSome (session_of handle.new) IsUnmarked }
     ensures certain { IfSome (session_of handle.old) (λ session. session.table ≡ None → result ≡ code_of status.Refused) }
@@ -241,8 +244,8 @@ pub extern "C" fn betable_page(
 ) -> u32
     ensures closed { session_of handle.old ≡ None → (result ≡ code_of status.NotOpen) × (session_of handle.new ≡ None) }
     ensures ends { is_some (session_of handle.old) ≡ true → (result ≡ code_of status.Done) ⊎ (result ≡ code_of status.OutOfMemory) ⊎ (result ≡ code_of status.Refused) }
-    ensures done { result ≡ code_of status.Done → StaysOpen handle.old handle.new (λ old new. asked packed_page old.table page.now ≡ Ok new.text.items) }
-    ensures refused { result ≡ code_of status.Refused → StaysOpen handle.old handle.new (λ old _. IsFault (asked packed_page old.table page.now) fault.new) }
+    ensures done { result ≡ code_of status.Done → StaysOpen handle.old handle.new (λ old new. reply_from page_reply old.table page.now ≡ Ok new.text.items) }
+    ensures refused { result ≡ code_of status.Refused → StaysOpen handle.old handle.new (λ old _. IsFault (reply_from page_reply old.table page.now) fault.new) }
     ensures unanswered { result ≢ code_of status.Done → IfSome (session_of handle.new) (λ session. session.text.items ≡ []) }
     ensures unmarked { IfSome (session_of handle.new) IsUnmarked }
     ensures certain { IfSome (session_of handle.old) (λ session. session.table ≡ None → result ≡ code_of status.Refused) }
@@ -261,8 +264,8 @@ pub extern "C" fn betable_sums(
 ) -> u32
     ensures closed { session_of handle.old ≡ None → (result ≡ code_of status.NotOpen) × (session_of handle.new ≡ None) }
     ensures ends { is_some (session_of handle.old) ≡ true → (result ≡ code_of status.Done) ⊎ (result ≡ code_of status.OutOfMemory) ⊎ (result ≡ code_of status.Refused) }
-    ensures done { result ≡ code_of status.Done → StaysOpen handle.old handle.new (λ old new. asked told_sums old.table sums.now ≡ Ok new.text.items) }
-    ensures refused { result ≡ code_of status.Refused → StaysOpen handle.old handle.new (λ old _. IsFault (asked told_sums old.table sums.now) fault.new) }
+    ensures done { result ≡ code_of status.Done → StaysOpen handle.old handle.new (λ old new. reply_from sums_reply old.table sums.now ≡ Ok new.text.items) }
+    ensures refused { result ≡ code_of status.Refused → StaysOpen handle.old handle.new (λ old _. IsFault (reply_from sums_reply old.table sums.now) fault.new) }
     ensures unanswered { result ≢ code_of status.Done → IfSome (session_of handle.new) (λ session. session.text.items ≡ []) }
     ensures unmarked { IfSome (session_of handle.new) IsUnmarked }
     ensures certain { IfSome (session_of handle.old) (λ session. session.table ≡ None → result ≡ code_of status.Refused) }
@@ -281,8 +284,8 @@ pub extern "C" fn betable_columns(
 ) -> u32
     ensures closed { session_of handle.old ≡ None → (result ≡ code_of status.NotOpen) × (session_of handle.new ≡ None) }
     ensures ends { is_some (session_of handle.old) ≡ true → (result ≡ code_of status.Done) ⊎ (result ≡ code_of status.OutOfMemory) ⊎ (result ≡ code_of status.Refused) }
-    ensures done { result ≡ code_of status.Done → StaysOpen handle.old handle.new (λ old new. asked told_columns old.table name.now ≡ Ok new.text.items) }
-    ensures refused { result ≡ code_of status.Refused → StaysOpen handle.old handle.new (λ old _. IsFault (asked told_columns old.table name.now) fault.new) }
+    ensures done { result ≡ code_of status.Done → StaysOpen handle.old handle.new (λ old new. reply_from columns_reply old.table name.now ≡ Ok new.text.items) }
+    ensures refused { result ≡ code_of status.Refused → StaysOpen handle.old handle.new (λ old _. IsFault (reply_from columns_reply old.table name.now) fault.new) }
     ensures unanswered { result ≢ code_of status.Done → IfSome (session_of handle.new) (λ session. session.text.items ≡ []) }
     ensures unmarked { IfSome (session_of handle.new) IsUnmarked }
     ensures certain { IfSome (session_of handle.old) (λ session. session.table ≡ None → result ≡ code_of status.Refused) }
@@ -301,8 +304,8 @@ pub extern "C" fn betable_usage(
 ) -> u32
     ensures closed { session_of handle.old ≡ None → (result ≡ code_of status.NotOpen) × (session_of handle.new ≡ None) }
     ensures ends { is_some (session_of handle.old) ≡ true → (result ≡ code_of status.Done) ⊎ (result ≡ code_of status.OutOfMemory) ⊎ (result ≡ code_of status.Refused) }
-    ensures done { result ≡ code_of status.Done → StaysOpen handle.old handle.new (λ old new. asked told_usage old.table name.now ≡ Ok new.text.items) }
-    ensures refused { result ≡ code_of status.Refused → StaysOpen handle.old handle.new (λ old _. IsFault (asked told_usage old.table name.now) fault.new) }
+    ensures done { result ≡ code_of status.Done → StaysOpen handle.old handle.new (λ old new. reply_from usage_reply old.table name.now ≡ Ok new.text.items) }
+    ensures refused { result ≡ code_of status.Refused → StaysOpen handle.old handle.new (λ old _. IsFault (reply_from usage_reply old.table name.now) fault.new) }
     ensures unanswered { result ≢ code_of status.Done → IfSome (session_of handle.new) (λ session. session.text.items ≡ []) }
     ensures unmarked { IfSome (session_of handle.new) IsUnmarked }
     ensures certain { IfSome (session_of handle.old) (λ session. session.table ≡ None → result ≡ code_of status.Refused) }

@@ -3,10 +3,10 @@ ghost use Rattle.std.specs.Prelude.{◌≡◌, ◌≢◌, ◌-◌, ◌++◌, [],
 ghost use Rattle.bt_script.specs.Commands.{commands};
 ghost use Rattle.bt_shell.specs.Faults.{StopsBetweenReplies, StopsWithinReply, lost_reply};
 ghost use Rattle.bt_shell.specs.Runs.{after_commands, refused_count, replies};
-ghost use Rattle.bt_table.specs.Standing.{CompleteIndexesHold, IsSoundUnlessLost};
+ghost use Rattle.bt_table.specs.Standing.{CompleteIndexesHold, IsSound, IsSoundUnlessLost};
 ghost use Rattle.bt_table.specs.Tables.{Lost};
 ghost use Rattle.bt_c.specs.Replies.{checked_marks, marks_of};
-ghost use Rattle.bt_c.specs.Sessions.{StaysOrIsLostIn, answer_of, applied_to, asked, is_lost, no_table};
+ghost use Rattle.bt_c.specs.Sessions.{StaysOrIsLostIn, answer_of, applied_to, is_lost, no_table, reply_from};
 
 use crate::reply::{ReplyMark, ReplyMarks};
 use bt_packed::{
@@ -46,6 +46,7 @@ fn run_into(
     ensures lost { table.old ≡ Some Lost → (table.new ≡ Some Lost) × (replies table.old (commands script.now) ≡ flat_map lost_reply (commands script.now)) }
     ensures sound { IfSome table.new IsSoundUnlessLost }
     ensures complete { IfSome table.new CompleteIndexesHold }
+    ensures kept { IfSome table.old IsSound → OnOk result (IfSome table.new IsSound) }
 {
     let mut writer = Counted::new(mem::replace(text, Vec::new(alloc)));
     let counted = run_commands(&(), alloc, script, table, &mut writer, marks, &Alone);
@@ -129,6 +130,7 @@ impl Session {
         ensures lost { self.old.table ≡ Some Lost → (self.new.table ≡ Some Lost) × (replies self.old.table (commands script.now) ≡ flat_map lost_reply (commands script.now)) }
         ensures sound { IfSome self.new.table IsSoundUnlessLost }
         ensures complete { IfSome self.new.table CompleteIndexesHold }
+        ensures kept { IfSome self.old.table IsSound → OnOk result (IfSome self.new.table IsSound) }
     {
         self.clear();
         let mut log = ReplyMarks {
@@ -189,8 +191,8 @@ impl Session {
 
     /// Replies to a question in packed bytes.
     pub fn ask(&mut self, alloc: Global, question: Question, bytes: &[u8]) -> Result<(), Fault>
-        ensures done { OnOk result (asked (answer_of question) self.old.table bytes.now ≡ Ok self.new.text.items) }
-        ensures fault { IfErr result (λ fault. fault.refusal ≢ Refusal.OutOfMemory → asked (answer_of question) self.old.table bytes.now ≡ Err fault) }
+        ensures done { OnOk result (reply_from (answer_of question) self.old.table bytes.now ≡ Ok self.new.text.items) }
+        ensures fault { IfErr result (λ fault. fault.refusal ≢ Refusal.OutOfMemory → reply_from (answer_of question) self.old.table bytes.now ≡ Err fault) }
         ensures certain { self.old.table ≡ None → IsErrOf result no_table }
         ensures no_text { IfErr result (λ _. self.new.text.items ≡ []) }
         ensures table { self.new.table ≡ self.old.table }

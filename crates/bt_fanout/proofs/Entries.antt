@@ -25,8 +25,8 @@ one_begins (a ∷ one) xs (b ∷ other) ys e =
     ]
 
 -- if two codes of the same kinds, each followed by something, are equal together with it, what follows is equal
-pub behind_all : (vs ws : List Value) → HaveSameKinds vs ws → (xs ys : List ℕ) → code_of vs ++ xs ≡ code_of ws ++ ys → xs ≡ ys
-behind_all vs ws kinds xs ys e = elim (one_begins (code_of vs) xs (code_of ws) ys e) as (λ _. xs ≡ ys) [
+pub following_all : (vs ws : List Value) → HaveSameKinds vs ws → (xs ys : List ℕ) → code_of vs ++ xs ≡ code_of ws ++ ys → xs ≡ ys
+following_all vs ws kinds xs ys e = elim (one_begins (code_of vs) xs (code_of ws) ys e) as (λ _. xs ≡ ys) [
   | inl f ↦ f.1.1 ∙ ap (λ more. more ++ ys) (no_proper_prefix vs ws kinds f.0 f.1.0)
   | inr f ↦ sym (f.1.1 ∙ ap (λ more. more ++ xs) (no_proper_prefix ws vs (sym kinds) f.0 f.1.0))
 ]
@@ -46,6 +46,6 @@ key_is false key values a e = cc
 
 pub apart : (def : Definition) (kinds : List Kind) → AreApart (StandsUnder def kinds) (entry_of def)
 apart def kinds j k x y a b s t e f same =
-    behind_all (picked def.on x) (picked def.on y) (kinds_picked def.on x y (s.of_kinds ∙ sym t.of_kinds)) j k
+    following_all (picked def.on x) (picked def.on y) (kinds_picked def.on x y (s.of_kinds ∙ sym t.of_kinds)) j k
     (key_is (passes def.condition x) (code_of (picked def.on x) ++ j) (picked def.include x) a e ∙ same
     ∙ sym (key_is (passes def.condition y) (code_of (picked def.on y) ++ k) (picked def.include y) b f))

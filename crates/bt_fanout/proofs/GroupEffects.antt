@@ -10,15 +10,15 @@ use Rattle.bt_keycode.specs.Keys.{IsSorted, key_cmp}
 use Rattle.bt_keycode.proofs.offered.Order.{not_after, not_before_itself}
 use Rattle.bt_messages.specs.Effects.{Rows}
 use Rattle.bt_messages.specs.Messages.{Messages}
-use Rattle.bt_node.specs.Parts.{AreRising}
+use Rattle.bt_form.specs.Parts.{AreRising}
 use Rattle.bt_keycode.proofs.offered.Truths.{t_first, t_second, true_t}
 use Rattle.bt_fanout.specs.Covers.{is_covered}
 use Rattle.bt_fanout.specs.Effects.{RowMessage, effects_at, effects_within, row_effect}
 use Rattle.bt_fanout.specs.Selections.{named}
 use Rattle.bt_fanout.specs.declared.cover.Cover.{Cover}
 use Rattle.bt_fanout.specs.declared.effect.Effect.{Effect}
-use Rattle.bt_fanout.specs.inside.Groups.{behind_group, effects_in, group_count, groups_within, value_after_first}
-use Rattle.bt_fanout.proofs.Groups.{after-count, drop-count, effects-group, length-behind, none_within, past-named, same_found, sorted-behind, uncovered_from, value_of_group, within-group}
+use Rattle.bt_fanout.specs.inside.Groups.{after_group, effects_in, group_count, groups_within, value_after_first}
+use Rattle.bt_fanout.proofs.Groups.{after-count, drop-count, effects-group, length-following, none_within, past-named, same_found, sorted-following, uncovered_from, value_of_group, within-group}
 use Rattle.bt_fanout.proofs.offered.Packets.{sorted-named}
 
 module _ (cover : Cover) where
@@ -73,8 +73,8 @@ module _ (cover : Cover) where
           before = find key_cmp m.0 rows;
           after =
               value_of_group row_effect m.0 ms (row_effect (find key_cmp m.0 rows) m.1);
-        } ∷ effects_within cover (behind_group m.0 ms) rows)
-        (effects_within cover (behind_group m.0 ms) rows)
+        } ∷ effects_within cover (after_group m.0 ms) rows)
+        (effects_within cover (after_group m.0 ms) rows)
     within-effects m ms sorted = ap within (effects-group m ms rows sorted)
 
     effects-groups : (n : ℕ) (ms : Messages RowMessage) → length ms ≤ n → IsSorted ms → effects_by (groups_within cover ms) ms ≡ effects_within cover ms rows
@@ -84,22 +84,22 @@ module _ (cover : Cover) where
         elim (is_covered cover m.0) as (λ b. is_covered cover m.0 ≡ b
         → effects_by (groups_within cover (m ∷ ms)) (m ∷ ms) ≡ effects_within cover (m ∷ ms) rows) [
           | true ↦ λ is.
-              let past = behind_group m.0 ms in
+              let past = after_group m.0 ms in
               let row = find key_cmp m.0 rows in
               let after = value_of_group row_effect m.0 ms (row_effect row m.1) in
               let first : Option (List Value) → Effect = λ a. record { key = m.0; before = row; after = a } in
-              let shorter = length-behind m.0 ms in
+              let shorter = length-following m.0 ms in
               ap (λ gs. effects_by gs (m ∷ ms)) (within-group cover m ms is)
               ∙ ap (λ a. first a ∷ effects_by (groups_within cover past) (drop (group_count m.0 ms) ms)) (after-count row_effect m.0 ms (row_effect row m.1))
               ∙ ap (λ zs. first after ∷ effects_by (groups_within cover past) zs) (drop-count m.0 ms)
-              ∙ ap (λ es. first after ∷ es) (effects-groups n past (omega (arith, few, shorter)) (sorted-behind m.0 ms sorted.1))
+              ∙ ap (λ es. first after ∷ es) (effects-groups n past (omega (arith, few, shorter)) (sorted-following m.0 ms sorted.1))
               ∙ sym (within-effects m ms sorted ∙ ap (λ b. cond b (first after ∷ effects_within cover past rows) (effects_within cover past rows)) is)
           | false ↦ λ none.
               let row = find key_cmp m.0 rows in
-              let past = effects_within cover (behind_group m.0 ms) rows in
+              let past = effects_within cover (after_group m.0 ms) rows in
               let first : Effect = record { key = m.0; before = row; after = value_of_group row_effect m.0 ms (row_effect row m.1) } in
               ap (λ gs. effects_by gs (m ∷ ms)) (none_within cover m.0 (m ∷ ms) (not_before_itself m.0, sorted.0) none)
-              ∙ sym (within-effects m ms sorted ∙ ap (λ b. cond b (first ∷ past) past) none ∙ none_at _ _ m.0 (named (behind_group m.0 ms)) (past-named m ms sorted) none)
+              ∙ sym (within-effects m ms sorted ∙ ap (λ b. cond b (first ∷ past) past) none ∙ none_at _ _ m.0 (named (after_group m.0 ms)) (past-named m ms sorted) none)
         ] refl
 
     -- so these keys rise
@@ -147,12 +147,6 @@ module _ {K : Type 0} (seen : K → List ℕ) (cover : Cover) (ms : Messages Row
 
   -- with the rows of these keys they have the effects of the packet
   module _ (rows : Rows (List Value)) (found : List (Option (List Value))) (is_found : found ≡ map (λ k. find key_cmp (seen k) rows) keys) where
-    pub row_each : length keys ≡ length found
-    row_each = sym (ap length is_found ∙ length-map keys (λ k. find key_cmp (seen k) rows))
-
-    pub number_each : length others ≡ length found
-    number_each = as_many ∙ row_each
-
     pub effects_are : effects_in (map seen keys) others found ms ≡ effects_within cover ms rows
     effects_are =
         let gs = groups_within cover ms in

@@ -17,7 +17,7 @@ use Rattle.bt_keycode.proofs.offered.Truths.{t_first, t_second, true_t}
 use Rattle.bt_messages.proofs.offered.Rows.{find-rows_after, value_before}
 use Rattle.bt_fanout.specs.Covers.{is_covered}
 use Rattle.bt_fanout.specs.Effects.{RowMessage, effects_at, effects_of, row_effect}
-use Rattle.bt_fanout.specs.inside.Groups.{behind_group, group_count, groups, groups_within, value_after_first, with_key}
+use Rattle.bt_fanout.specs.inside.Groups.{after_group, group_count, groups, groups_within, value_after_first, with_key}
 use Rattle.bt_fanout.specs.Selections.{named}
 use Rattle.bt_fanout.specs.declared.cover.Cover.{Cover}
 use Rattle.bt_fanout.specs.declared.cover.Cover.TheVariants.{Nothing, UpTo, Whole}
@@ -39,35 +39,35 @@ value_of_group effect k [] old = old
 value_of_group effect k (m ∷ ms) old = if eq_by_cmp key_cmp k m.0 then value_of_group effect k ms (effect old m.1) else old
 
 module _ {M : Type 0} where
-  pub sorted-behind : (k : List ℕ) (ms : Messages M) → IsSorted ms → IsSorted (behind_group k ms)
-  sorted-behind k [] h = tt
-  sorted-behind k (m ∷ ms) h = elim (eq_by_cmp key_cmp k m.0) as (λ b. IsSorted (if b then behind_group k ms else m ∷ ms)) [
-    | true ↦ sorted-behind k ms h.1
+  pub sorted-following : (k : List ℕ) (ms : Messages M) → IsSorted ms → IsSorted (after_group k ms)
+  sorted-following k [] h = tt
+  sorted-following k (m ∷ ms) h = elim (eq_by_cmp key_cmp k m.0) as (λ b. IsSorted (if b then after_group k ms else m ∷ ms)) [
+    | true ↦ sorted-following k ms h.1
     | false ↦ h
   ]
 
-  pub length-behind : (k : List ℕ) (ms : Messages M) → length (behind_group k ms) ≤ length ms
-  length-behind k [] = omega arith
-  length-behind k (m ∷ ms) = elim (eq_by_cmp key_cmp k m.0) as (λ b. length (if b then behind_group k ms else m ∷ ms) ≤ length (m ∷ ms)) [
-    | true ↦ let fewer = length-behind k ms in omega arith
+  pub length-following : (k : List ℕ) (ms : Messages M) → length (after_group k ms) ≤ length ms
+  length-following k [] = omega arith
+  length-following k (m ∷ ms) = elim (eq_by_cmp key_cmp k m.0) as (λ b. length (if b then after_group k ms else m ∷ ms) ≤ length (m ∷ ms)) [
+    | true ↦ let fewer = length-following k ms in omega arith
     | false ↦ omega arith
   ]
 
   -- sorted messages name the key of their first group, and then those of the others
-  named-group : (k : List ℕ) (ms : Messages M) → AllFrom k ms → IsSorted ms → put key_cmp k tt (named ms) ≡ (k, tt) ∷ named (behind_group k ms)
+  named-group : (k : List ℕ) (ms : Messages M) → AllFrom k ms → IsSorted ms → put key_cmp k tt (named ms) ≡ (k, tt) ∷ named (after_group k ms)
   named-group k [] a h = refl
   named-group k (m ∷ ms) a h =
-      let first : named (m ∷ ms) ≡ (m.0, tt) ∷ named (behind_group m.0 ms) = named-group m.0 ms h.0 h.1 in
-      elim (eq_by_cmp key_cmp k m.0) as (λ b. eq_by_cmp key_cmp k m.0 ≡ b → put key_cmp k tt (named (m ∷ ms)) ≡ (k, tt) ∷ named (if b then behind_group k ms else m ∷ ms)) [
+      let first : named (m ∷ ms) ≡ (m.0, tt) ∷ named (after_group m.0 ms) = named-group m.0 ms h.0 h.1 in
+      elim (eq_by_cmp key_cmp k m.0) as (λ b. eq_by_cmp key_cmp k m.0 ≡ b → put key_cmp k tt (named (m ∷ ms)) ≡ (k, tt) ∷ named (if b then after_group k ms else m ∷ ms)) [
         | true ↦ λ b.
-            subst (λ j. put key_cmp j tt (named (m ∷ ms)) ≡ (j, tt) ∷ named (behind_group j ms)) (sym (same_key k m.0 b))
+            subst (λ j. put key_cmp j tt (named (m ∷ ms)) ≡ (j, tt) ∷ named (after_group j ms)) (sym (same_key k m.0 b))
             (ap (put key_cmp m.0 tt) first
-            ∙ ap (λ o. by_order o ((m.0, tt) ∷ (m.0, tt) ∷ named (behind_group m.0 ms)) ((m.0, tt) ∷ named (behind_group m.0 ms))
-            ((m.0, tt) ∷ put key_cmp m.0 tt (named (behind_group m.0 ms)))) (tied_itself total_keys m.0))
+            ∙ ap (λ o. by_order o ((m.0, tt) ∷ (m.0, tt) ∷ named (after_group m.0 ms)) ((m.0, tt) ∷ named (after_group m.0 ms))
+            ((m.0, tt) ∷ put key_cmp m.0 tt (named (after_group m.0 ms)))) (tied_itself total_keys m.0))
         | false ↦ λ b.
             let less = is_less (key_cmp k m.0) (goes_before k m.0 b a.0) in
             ap (put key_cmp k tt) first
-            ∙ ap (λ o. by_order o ((k, tt) ∷ (m.0, tt) ∷ named (behind_group m.0 ms)) ((m.0, tt) ∷ named (behind_group m.0 ms)) ((m.0, tt) ∷ put key_cmp k tt (named (behind_group m.0 ms)))) less
+            ∙ ap (λ o. by_order o ((k, tt) ∷ (m.0, tt) ∷ named (after_group m.0 ms)) ((m.0, tt) ∷ named (after_group m.0 ms)) ((m.0, tt) ∷ put key_cmp k tt (named (after_group m.0 ms)))) less
             ∙ ap (λ ks. (k, tt) ∷ ks) (sym first)
       ] refl
 
@@ -82,12 +82,12 @@ module _ {M : Type 0} where
         ] refl
 
     -- and no other
-    behind-value : (j k : List ℕ) (ms : Messages M) (o : Option V) → eq_by_cmp key_cmp k j ≡ false → value_after effect k ms o ≡ value_after effect k (behind_group j ms) o
-    behind-value j k [] o e = refl
-    behind-value j k (m ∷ ms) o e = elim (eq_by_cmp key_cmp j m.0) as (λ b. eq_by_cmp key_cmp j m.0 ≡ b →
-        value_after effect k (m ∷ ms) o ≡ value_after effect k (if b then behind_group j ms else m ∷ ms) o) [
+    following-value : (j k : List ℕ) (ms : Messages M) (o : Option V) → eq_by_cmp key_cmp k j ≡ false → value_after effect k ms o ≡ value_after effect k (after_group j ms) o
+    following-value j k [] o e = refl
+    following-value j k (m ∷ ms) o e = elim (eq_by_cmp key_cmp j m.0) as (λ b. eq_by_cmp key_cmp j m.0 ≡ b →
+        value_after effect k (m ∷ ms) o ≡ value_after effect k (if b then after_group j ms else m ∷ ms) o) [
           | true ↦ λ b.
-              ap (λ t. value_after effect k ms (cond t (effect o m.1) o)) (ap (eq_by_cmp key_cmp k) (sym (same_key j m.0 b)) ∙ e) ∙ behind-value j k ms o e
+              ap (λ t. value_after effect k ms (cond t (effect o m.1) o)) (ap (eq_by_cmp key_cmp k) (sym (same_key j m.0 b)) ∙ e) ∙ following-value j k ms o e
           | false ↦ λ b. refl
         ] refl
 
@@ -100,15 +100,15 @@ effects_at-alike f g h j (k ∷ ks) b same =
     ap (λ a. first a ∷ effects_at f g ks) here ∙ ap (λ es. first (h k.0) ∷ es) (effects_at-alike f g h j ks (t_second _ _ b) same)
 
 -- the first group's key is before those of the others
-pub past-named : {M : Type 0} (m : List ℕ × M) (ms : Messages M) → IsSorted (m ∷ ms) → T (below_all key_cmp m.0 (named (behind_group m.0 ms)))
+pub past-named : {M : Type 0} (m : List ℕ × M) (ms : Messages M) → IsSorted (m ∷ ms) → T (below_all key_cmp m.0 (named (after_group m.0 ms)))
 past-named m ms h = t_first _ _ (subst (λ ks. T (is_sorted key_cmp ks)) (named-group m.0 ms h.0 h.1) (sorted-named (m ∷ ms)))
 
 -- the effects of sorted messages: that of the first group, and those of the others
 pub effects-group : (m : List ℕ × RowMessage) (ms : Messages RowMessage) (rows : Rows (List Value)) → IsSorted (m ∷ ms) →
     effects_of (m ∷ ms) rows
-    ≡ record { key = m.0; before = find key_cmp m.0 rows; after = value_of_group row_effect m.0 ms (row_effect (find key_cmp m.0 rows) m.1) } ∷ effects_of (behind_group m.0 ms) rows
+    ≡ record { key = m.0; before = find key_cmp m.0 rows; after = value_of_group row_effect m.0 ms (row_effect (find key_cmp m.0 rows) m.1) } ∷ effects_of (after_group m.0 ms) rows
 effects-group m ms rows h =
-    let past = behind_group m.0 ms in
+    let past = after_group m.0 ms in
     let f : List ℕ → Option (List Value) = λ k. find key_cmp k rows in
     let g : List ℕ → Option (List Value) = λ k. find key_cmp k (rows_after row_effect (m ∷ ms) rows) in
     let g2 : List ℕ → Option (List Value) = λ k. find key_cmp k (rows_after row_effect past rows) in
@@ -123,13 +123,13 @@ effects-group m ms rows h =
     (λ k before.
     let other = turned m.0 k (apart_keys m.0 k k before (not_before_itself k)) in
     find-rows_after row_effect k (m ∷ ms) rows ∙ ap (λ t. value_after row_effect k ms (cond t (row_effect (f k) m.1) (f k))) other
-    ∙ behind-value row_effect m.0 k ms (f k) other ∙ sym (find-rows_after row_effect k past rows)))
+    ∙ following-value row_effect m.0 k ms (f k) other ∙ sym (find-rows_after row_effect k past rows)))
 
 -- fewer groups are left
-pub fewer_left : {M : Type 0} (m : List ℕ × M) (ms left later : Messages M) → left ≡ m ∷ ms → later ≡ behind_group m.0 ms → length later < length left
-fewer_left m ms left later is behind =
-    let shorter = length-behind m.0 ms in
-    omega (arith, ap length is, ap length behind, shorter)
+pub fewer_left : {M : Type 0} (m : List ℕ × M) (ms left later : Messages M) → left ≡ m ∷ ms → later ≡ after_group m.0 ms → length later < length left
+fewer_left m ms left later is following =
+    let shorter = length-following m.0 ms in
+    omega (arith, ap length is, ap length following, shorter)
 
 -- ---- covers
 
@@ -170,25 +170,25 @@ module _ (cover : Cover) where
 
 module _ {M : Type 0} where
   -- the first group, and the others
-  groups-group : (m : List ℕ × M) (ms : Messages M) → groups (m ∷ ms) ≡ (m.0, group_count m.0 ms) ∷ groups (behind_group m.0 ms)
+  groups-group : (m : List ℕ × M) (ms : Messages M) → groups (m ∷ ms) ≡ (m.0, group_count m.0 ms) ∷ groups (after_group m.0 ms)
   groups-group m [] = refl
   groups-group m (n ∷ ms) =
       ap (with_key m.0) (groups-group n ms) ∙ elim (eq_by_cmp key_cmp m.0 n.0) as (λ b. eq_by_cmp key_cmp m.0 n.0 ≡ b →
-      (if b then (m.0, suc (group_count n.0 ms)) ∷ groups (behind_group n.0 ms) else (m.0, 0) ∷ (n.0, group_count n.0 ms) ∷ groups (behind_group n.0 ms))
-      ≡ (m.0, if b then suc (group_count m.0 ms) else 0) ∷ groups (if b then behind_group m.0 ms else n ∷ ms)) [
-        | true ↦ λ b. ap (λ k. (m.0, suc (group_count k ms)) ∷ groups (behind_group k ms)) (sym (same_key m.0 n.0 b))
+      (if b then (m.0, suc (group_count n.0 ms)) ∷ groups (after_group n.0 ms) else (m.0, 0) ∷ (n.0, group_count n.0 ms) ∷ groups (after_group n.0 ms))
+      ≡ (m.0, if b then suc (group_count m.0 ms) else 0) ∷ groups (if b then after_group m.0 ms else n ∷ ms)) [
+        | true ↦ λ b. ap (λ k. (m.0, suc (group_count k ms)) ∷ groups (after_group k ms)) (sym (same_key m.0 n.0 b))
         | false ↦ λ b. ap (λ gs. (m.0, 0) ∷ gs) (sym (groups-group n ms))
       ] refl
 
   pub within-group : (cover : Cover) (m : List ℕ × M) (ms : Messages M) → is_covered cover m.0 ≡ true →
-      groups_within cover (m ∷ ms) ≡ (m.0, group_count m.0 ms) ∷ groups_within cover (behind_group m.0 ms)
+      groups_within cover (m ∷ ms) ≡ (m.0, group_count m.0 ms) ∷ groups_within cover (after_group m.0 ms)
   within-group cover m ms is =
       ap (filter (λ g. is_covered cover g.0)) (groups-group m ms)
-      ∙ ap (λ b. cond b ((m.0, group_count m.0 ms) ∷ groups_within cover (behind_group m.0 ms)) (groups_within cover (behind_group m.0 ms))) is
+      ∙ ap (λ b. cond b ((m.0, group_count m.0 ms) ∷ groups_within cover (after_group m.0 ms)) (groups_within cover (after_group m.0 ms))) is
 
-  pub drop-count : (k : List ℕ) (ms : Messages M) → drop (group_count k ms) ms ≡ behind_group k ms
+  pub drop-count : (k : List ℕ) (ms : Messages M) → drop (group_count k ms) ms ≡ after_group k ms
   drop-count k [] = refl
-  drop-count k (m ∷ ms) = elim (eq_by_cmp key_cmp k m.0) as (λ b. drop (if b then suc (group_count k ms) else 0) (m ∷ ms) ≡ (if b then behind_group k ms else m ∷ ms)) [
+  drop-count k (m ∷ ms) = elim (eq_by_cmp key_cmp k m.0) as (λ b. drop (if b then suc (group_count k ms) else 0) (m ∷ ms) ≡ (if b then after_group k ms else m ∷ ms)) [
     | true ↦ drop-count k ms
     | false ↦ refl
   ]
@@ -208,8 +208,8 @@ module _ {M : Type 0} where
   next_value effect n k m ms left old after is count value =
       ap (λ zs. value_after_first effect n zs old) is ∙ ap (λ i. value_after_first effect i (m ∷ ms) old) count ∙ ap (value_after_first effect k ms) (sym value)
 
-  pub fewer_behind : (n k : ℕ) (m : List ℕ × M) (ms left : Messages M) → left ≡ m ∷ ms → n ≡ suc k → drop n left ≡ drop k ms
-  fewer_behind n k m ms left is count = ap (drop n) is ∙ ap (λ i. drop i (m ∷ ms)) count
+  pub fewer_after : (n k : ℕ) (m : List ℕ × M) (ms left : Messages M) → left ≡ m ∷ ms → n ≡ suc k → drop n left ≡ drop k ms
+  fewer_after n k m ms left is count = ap (drop n) is ∙ ap (λ i. drop i (m ∷ ms)) count
 
 -- ---- the keys, one after the other
 
@@ -228,16 +228,16 @@ none_left_covered f cover m ms left whole old is sorted none are = none_left f w
 
 -- one more key, and how many messages it has after its first one
 pub one_key : {M K : Type 0} (seen : K → List ℕ) (cover : Cover) (m : List ℕ × M) (ms left later : Messages M) (key : K) (count : ℕ) (keys new_keys : List K) (others new_others : List ℕ)
-    (whole : List (List ℕ × ℕ)) → left ≡ m ∷ ms → IsSorted left → seen key ≡ m.0 → is_covered cover m.0 ≡ true → count ≡ group_count m.0 ms → later ≡ behind_group m.0 ms →
+    (whole : List (List ℕ × ℕ)) → left ≡ m ∷ ms → IsSorted left → seen key ≡ m.0 → is_covered cover m.0 ≡ true → count ≡ group_count m.0 ms → later ≡ after_group m.0 ms →
     map (λ g. g.0) whole ≡ map seen keys ++ map (λ g. g.0) (groups_within cover left) → map (λ g. g.1) whole ≡ others ++ map (λ g. g.1) (groups_within cover left) →
     new_keys ≡ keys ++ key ∷ [] → new_others ≡ others ++ count ∷ [] →
     IsSorted later × ((map (λ g. g.0) whole ≡ map seen new_keys ++ map (λ g. g.0) (groups_within cover later)) × (map (λ g. g.1) whole ≡ new_others ++ map (λ g. g.1) (groups_within cover later)))
-one_key seen cover m ms left later key count keys new_keys others new_others whole is sorted is_key covered many behind so also more_keys more_others =
+one_key seen cover m ms left later key count keys new_keys others new_others whole is sorted is_key covered many following so also more_keys more_others =
     let order : IsSorted (m ∷ ms) = subst IsSorted is sorted in
     let first : groups_within cover left ≡ (seen key, count) ∷ groups_within cover later =
-    ap (groups_within cover) is ∙ within-group cover m ms covered ∙ ap (λ k. (k, group_count m.0 ms) ∷ groups_within cover (behind_group m.0 ms)) (sym is_key)
-    ∙ ap (λ n. (seen key, n) ∷ groups_within cover (behind_group m.0 ms)) (sym many) ∙ ap (λ zs. (seen key, count) ∷ groups_within cover zs) (sym behind) in (
-      subst IsSorted (sym behind) (sorted-behind m.0 ms order.1),
+    ap (groups_within cover) is ∙ within-group cover m ms covered ∙ ap (λ k. (k, group_count m.0 ms) ∷ groups_within cover (after_group m.0 ms)) (sym is_key)
+    ∙ ap (λ n. (seen key, n) ∷ groups_within cover (after_group m.0 ms)) (sym many) ∙ ap (λ zs. (seen key, count) ∷ groups_within cover zs) (sym following) in (
+      subst IsSorted (sym following) (sorted-following m.0 ms order.1),
       (
         moved _ _ _ _ (seen key) (so ∙ ap (λ gs. map seen keys ++ map (λ g. g.0) gs) first) (ap (map seen) more_keys ∙ map-append seen keys (key ∷ [])),
         moved _ _ _ _ count (also ∙ ap (λ gs. others ++ map (λ g. g.1) gs) first) more_others,

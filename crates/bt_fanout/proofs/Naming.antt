@@ -9,7 +9,7 @@ use Rattle.std.specs.Result.{IfErr, result_err, result_map_both}
 use Rattle.std.proofs.lemmas.List.{length-map}
 use Rattle.bt_row.specs.Ops.{at_column, named_from}
 use Rattle.bt_value.specs.Results.{both_read, or_refused}
-use Rattle.bt_value.specs.Refusals.{lesser}
+use Rattle.bt_value.specs.Refusals.{lower}
 use Rattle.bt_value.specs.Values.{value_of}
 use Rattle.bt_value.specs.declared.refusal.Refusal.{Refusal}
 use Rattle.bt_value.specs.declared.refusal.Refusal.TheVariants.{BadField, NoSuchColumn, TooMany}
@@ -163,8 +163,8 @@ both_faulty (Ok x) (Err other) fault result is e =
     ap Err (sym same ∙ answer)
 both_faulty (Err r) (Err other) fault result is e =
     let same : fault ≡ other = cc in
-    let answer : lesser r fault ≡ result = cc in
-    ap Err (ap (lesser r) (sym same) ∙ answer)
+    let answer : lower r fault ≡ result = cc in
+    ap Err (ap (lower r) (sym same) ∙ answer)
 
 pub stays_refused : {A : Type 0} (U : Type 0) (both : Result A Refusal) (refusal : Refusal) → both ≡ Err refusal → IfErr both (λ e. ◌≡◌ {A = Result U Refusal} (Err refusal) (Err e))
 stays_refused U (Ok a) refusal is = cc

@@ -10,7 +10,7 @@ use Rattle.bt_fanout.specs.Targets.{SuitAll, packet_of}
 use Rattle.bt_fanout.specs.declared.effect.Effect.{Effect}
 use Rattle.bt_fanout.specs.declared.joint_packets.IndexTarget.{IndexTarget}
 use Rattle.bt_fanout.specs.inside.PacketGroups.{with_next}
-use Rattle.bt_fanout.proofs.PiecePackets.{behind, front, packet_of_pieces}
+use Rattle.bt_fanout.proofs.PiecePackets.{following, front, packet_of_pieces}
 
 same_map : {I Y : Type 0} (f g : I → Y) → ((i : I) → f i ≡ g i) → (is : List I) → map f is ≡ map g is
 same_map f g same [] = refl
@@ -69,7 +69,7 @@ module _ {J : Type 0} (effects : J → List Effect) (indexes : List IndexTarget)
   suits_each_job [] suits = All-nil (λ j. SuitAll indexes (effects j))
   suits_each_job (j ∷ js) suits =
       All-cons (λ j. SuitAll indexes (effects j)) j js (λ k d within. front (SuitsEffect _) (effects j) (flat_map effects js) (suits k d within))
-      (suits_each_job js (λ k d within. behind (SuitsEffect _) (effects j) (flat_map effects js) (suits k d within)))
+      (suits_each_job js (λ k d within. following (SuitsEffect _) (effects j) (flat_map effects js) (suits k d within)))
 
   -- the packets of an index, sorted together, are its packet for all effects
   pub merged_packets_are : (js : List J) (all : List Effect) → flat_map effects js ≡ all

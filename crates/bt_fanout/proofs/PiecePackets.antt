@@ -18,9 +18,9 @@ module _ {X : Type 0} (P : X → Type 0) where
   front [] ys all = All-nil P
   front (x ∷ xs) ys all = All-cons P x xs (All-head P x (xs ++ ys) all) (front xs ys (All-tail P x (xs ++ ys) all))
 
-  pub behind : (xs ys : List X) → All P (xs ++ ys) → All P ys
-  behind [] ys all = all
-  behind (x ∷ xs) ys all = behind xs ys (All-tail P x (xs ++ ys) all)
+  pub following : (xs ys : List X) → All P (xs ++ ys) → All P ys
+  following [] ys all = all
+  following (x ∷ xs) ys all = following xs ys (All-tail P x (xs ++ ys) all)
 
 -- ---- what the pieces send
 

@@ -140,9 +140,6 @@ module _ {X E : Type 0} (entry : List ℕ → X → Option (List ℕ × E)) wher
         (subst (λ kept. length kept ≤ 1) (selects_in_order rows sorted stand x) (few_tied x (select entry rows) (sorted-select entry rows))))
         ∙ sym (selected_are_sorted rows sorted stand)
 
-pub select-sorted : (def : Definition) (rows : Rows (List Value)) → SuitsRows def rows → select (entry_of def) rows ≡ sorted_batch (entries_of (entry_of def) rows)
-select-sorted def rows suits = selected_are_sorted (entry_of def) (StandsUnder def suits.kinds) (apart def suits.kinds) rows suits.sorted suits.stand
-
 pub sorted_entries-are : (def : Definition) (rows sorted : Rows (List Value)) → SuitsRows def rows → IsPermutation (entries_of (entry_of def) rows) sorted → IsSorted sorted
     → sorted ≡ select (entry_of def) rows
 sorted_entries-are def rows sorted suits moved up =

@@ -85,10 +85,10 @@ unfolding eight_bytes
 complete = refl
 
 -- the same if it is to read five rows; a step that is to read exactly the row that is left doesn't complete the index, and the next one reads nothing and does
-abbrev behind_two : Rows (List Value)
-behind_two = (k 3, row 3 30) ∷ []
+abbrev after_two : Rows (List Value)
+after_two = (k 3, row 3 30) ∷ []
 
-reads_one : next_rows 5 (UpTo (k 2)) rows ≡ behind_two
+reads_one : next_rows 5 (UpTo (k 2)) rows ≡ after_two
 unfolding eight_bytes
 reads_one = refl
 
@@ -96,7 +96,7 @@ whole_then : cover_after 5 (UpTo (k 2)) rows ≡ Whole
 unfolding eight_bytes
 whole_then = refl
 
-reads_last : next_rows 1 (UpTo (k 2)) rows ≡ behind_two
+reads_last : next_rows 1 (UpTo (k 2)) rows ≡ after_two
 unfolding eight_bytes
 reads_last = refl
 
@@ -123,9 +123,9 @@ unfolding eight_bytes
 between_them = refl
 
 -- the rows after the second one are those from its next key on
-behind : messages_between (Some (k 2 ++ 0 ∷ [])) None rows ≡ behind_two
+following : messages_between (Some (k 2 ++ 0 ∷ [])) None rows ≡ after_two
 unfolding eight_bytes
-behind = refl
+following = refl
 
 -- on qty where qty >= 15
 abbrev from_15 : Definition

@@ -4,7 +4,7 @@ ghost use Rattle.std.specs.Option.{option_copied};
 ghost use Rattle.std.specs.Result.{result_err};
 ghost use Rattle.bt_value.specs.Answers.{Answers};
 ghost use Rattle.bt_value.specs.Results.{both_read, or_refused};
-ghost use Rattle.bt_value.specs.Refusals.{lesser};
+ghost use Rattle.bt_value.specs.Refusals.{lower};
 ghost use Rattle.bt_fanout.specs.Definitions as spec;
 
 use crate::definition::{Condition, MOST_INCLUDED, MOST_ON};
@@ -58,7 +58,7 @@ fn are_there(columns: &[Column], names: &[String]) -> bool
 // The refusal of the columns that an index is ordered by and of those that it includes, if they have one. Allocates nothing.
 fn chosen_fault(columns: &[Column], on: &[String], include: &[String]) -> Option<Refusal>
     ensures fault { result ≡ result_err (spec.chosen columns.now (map string_bytes on.now) (map string_bytes include.now)) }
-    ensures least { IfSome result (λ fault. lesser Refusal.OutOfMemory fault ≡ fault) }
+    ensures lowest { IfSome result (λ fault. lower Refusal.OutOfMemory fault ≡ fault) }
 {
     if on.len() > MOST_ON || include.len() > MOST_INCLUDED {
         return Some(Refusal::TooMany);
@@ -71,13 +71,13 @@ fn chosen_fault(columns: &[Column], on: &[String], include: &[String]) -> Option
 
 // The smaller of the refusal of a filter, if it has one, and a fault. Out of memory is larger than any fault.
 fn refusal_with(read: Result<Option<Condition>, Refusal>, fault: Refusal) -> Refusal
-    requires { lesser Refusal.OutOfMemory fault ≡ fault }
+    requires { lower Refusal.OutOfMemory fault ≡ fault }
     ensures { (answer : Result (Option Condition) Refusal) → Answers answer read → IfErr answer (λ e. read ≡ Err e) → both_read {T = Unit {0}} answer (Err fault) ≡ Err result }
 {
     match read {
         Ok(_) => fault,
         Err(Refusal::OutOfMemory) => fault,
-        Err(refusal) => refusal.lesser(fault),
+        Err(refusal) => refusal.lower(fault),
     }
 }
 

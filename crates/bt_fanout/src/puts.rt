@@ -1,6 +1,6 @@
 //! The entries of rows as messages, made in portions of a tree.
 ghost use Rattle.std.specs.Prelude.{◌≡◌, [], IfOk, fold, length};
-ghost use Rattle.bt_node.specs.Flushes.{holds};
+ghost use Rattle.bt_form.specs.Flushes.{holds};
 ghost use Rattle.bt_fanout.specs.Effects.{row_effect};
 ghost use Rattle.bt_fanout.specs.Entries.{entry_of};
 ghost use Rattle.bt_fanout.specs.Promises.{SuitsRows};
@@ -14,10 +14,10 @@ use crate::cover::{Cover, next_key};
 use crate::definition::IndexDef;
 use crate::selecting::entry_at;
 use bt_gang::{Crew, Gate};
-use bt_gather::read;
 use bt_keycode::Key;
 use bt_messages::{Entry, Message, Packet};
 use bt_node::{ForkVisitor, Tree, Visitor};
+use bt_portions::read;
 use bt_row::Row;
 use std::alloc::{AllocError, Global};
 use std::marker::Model;

@@ -1,9 +1,9 @@
 //! How messages change the rows of their keys.
 ghost use Rattle.std.specs.Prelude.{◌≡◌, ◌+◌, ◌<◌, ◌^◌, IfOk, OnOk, drop, length, map, option_map};
 ghost use Rattle.bt_keycode.specs.Keys.{IsSorted};
-ghost use Rattle.bt_node.specs.Flushes.{holds};
+ghost use Rattle.bt_form.specs.Flushes.{holds};
 ghost use Rattle.bt_fanout.specs.Effects.{effects_within, row_effect};
-ghost use Rattle.bt_fanout.specs.inside.Groups.{behind_group, effects_in, group_count, groups_within, value_after_first, with_next};
+ghost use Rattle.bt_fanout.specs.inside.Groups.{after_group, effects_in, group_count, groups_within, value_after_first, with_next};
 
 use crate::cover::{Cover, covers};
 use crate::effect::Effect;
@@ -24,13 +24,13 @@ pub(crate) struct NamedKeys<'a> {
 }
 
 // The number of messages to this key that come next, and the first message to another key, if there is one. That message is taken from the iterator too.
-fn messages_behind<'a>(
+fn messages_following<'a>(
     key: &Key,
     messages: &mut BufferMessages<'a, Row>,
 ) -> (usize, Option<(&'a Key, &'a Message<Row>)>)
     requires { length messages.old < 2 ^ 63 }
     ensures count { result.0 ≡ group_count key.now messages.old }
-    ensures rest { with_next (option_map (λ m. (m.0.now, m.1.now)) result.1) messages.new ≡ behind_group key.now messages.old }
+    ensures rest { with_next (option_map (λ m. (m.0.now, m.1.now)) result.1) messages.new ≡ after_group key.now messages.old }
 {
     let mut count = 0;
     while let Some((at, message)) = messages.next() {
@@ -61,7 +61,7 @@ pub(crate) fn named_keys<'a>(
         if !covers(cover, key) {
             return Ok(NamedKeys { keys, others });
         }
-        let (count, other) = messages_behind(key, &mut messages);
+        let (count, other) = messages_following(key, &mut messages);
         keys.push(key)?;
         others.push(count)?;
         next = other;

@@ -1,7 +1,7 @@
 //! A step of building an index over a tree of rows.
 ghost use Rattle.std.specs.Prelude.{◌≡◌, IfOk, OnOk, fold, length};
 ghost use Rattle.std.specs.List.{All};
-ghost use Rattle.bt_node.specs.Flushes.{holds};
+ghost use Rattle.bt_form.specs.Flushes.{holds};
 ghost use Rattle.bt_fanout.specs.Covers.{next_rows};
 ghost use Rattle.bt_fanout.specs.Effects.{row_effect};
 ghost use Rattle.bt_fanout.specs.Entries.{IsWithin};

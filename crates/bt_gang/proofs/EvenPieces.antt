@@ -7,7 +7,7 @@ use Rattle.bt_gang.specs.declared.piece.Piece.{Piece}
 
 -- what is left is a share for each of the places, and at most one more for each
 pub record IsEvenRest (share places left : ℕ) : Type 0 where
-  pub least : share * places ≤ left
+  pub lowest : share * places ≤ left
   pub most : left ≤ places * (share + 1)
 
 -- a share, or one more
@@ -16,7 +16,7 @@ IsEvenPart share part = (share ≤ part) × (part ≤ share + 1)
 
 pub first_rest : (n count places left : ℕ) → 0 < count → places ≡ count → left ≡ n → IsEvenRest (n / count) places left
 first_rest n count places left some e f = record {
-  least = let d = div-mul-le_self n count in grind (arith, d, e, f);
+  lowest = let d = div-mul-le_self n count in grind (arith, d, e, f);
   most = let d = lt-mul-div-succ n some in grind (arith, d, e, f);
 }
 
@@ -28,13 +28,13 @@ most_left share part left k l m n = grind arith
 
 -- the part of the next place, if there are more
 pub next_part : (share k left : ℕ) → IsEvenRest share (suc k) left → IsEvenPart share (left / suc k)
-next_part share k left s = (let l = s.least in grind (arith, le-div_iff_mul-le), div-le_of_le-mul (suc k) s.most)
+next_part share k left s = (let l = s.lowest in grind (arith, le-div_iff_mul-le), div-le_of_le-mul (suc k) s.most)
 
 pub rest_left : (share k left : ℕ) → IsEvenRest share (suc k) left → IsEvenRest share k (left - left / suc k)
 rest_left share k left s =
     let part = next_part share k left s in
     record {
-      least = least_left share (left / suc k) left k part.0 (div-mul-le_self left (suc k));
+      lowest = least_left share (left / suc k) left k part.0 (div-mul-le_self left (suc k));
       most = most_left share (left / suc k) left k part.0 (lt-mul-div-succ left (omega arith)) s.most;
     }
 
@@ -53,7 +53,7 @@ next_rest share count place start end all more ordered e shares =
     )
 
 pub last_part : (share places left : ℕ) → places ≡ 1 → IsEvenRest share places left → IsEvenPart share left
-last_part share places left e s = (let l = s.least in grind (arith, e, l), let m = s.most in grind (arith, e, m))
+last_part share places left e s = (let l = s.lowest in grind (arith, e, l), let m = s.most in grind (arith, e, m))
 
 module _ {X : Type 0} where
   even_snoc : (share : ℕ) (pieces : List (Piece X)) (piece : Piece X) → AreEven share pieces → IsEvenPart share (length piece.items.now) → AreEven share (pieces ++ piece ∷ [])

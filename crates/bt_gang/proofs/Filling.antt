@@ -175,10 +175,10 @@ module _ {J D F : Type 0} (allows : J → Result D F → Type 0) where
   pub has_answers : (jobs : List J) (slots : List (Option (Result D F))) (came : List ℕ) → Filled allows jobs slots came → IsFull slots → HasAnswers allows jobs
   has_answers jobs slots came f full i l = let v = full_at slots i full (let s = f.size in omega arith) in (v.0, f.may i v.0 v.1)
 
-  pub least : (jobs : List J) (slots : List (Option (Result D F))) (came : List ℕ) (number : ℕ) (fault : F) (before : List D) (after : List (Option (Result D F)))
+  pub lowest : (jobs : List J) (slots : List (Option (Result D F))) (came : List ℕ) (number : ℕ) (fault : F) (before : List D) (after : List (Option (Result D F)))
       → Filled allows jobs slots came → length before ≡ number → slots ≡ ok_slots before ++ Some (Err fault) ∷ after
       → MayAnswer allows jobs number (Err fault) × ((i : ℕ) → i < number → (d : D) × MayAnswer allows jobs i (Ok d))
-  least jobs slots came number fault before after f n e = (
+  lowest jobs slots came number fault before after f n e = (
     f.may number (Err fault) (ap (λ l. get_elem? l number) e ∙ subst (λ k. get_elem? (ok_slots before ++ Some (Err fault) ∷ after) k ≡ some (Some (Err fault))) n (at_err before fault after)),
     (λ i l. let d = some_at before i (omega arith) in (d.0, f.may i (Ok d.0) (ap (λ k. get_elem? k i) e ∙ ok_at before i d.0 (Some (Err fault) ∷ after) d.1))),
   )
@@ -236,11 +236,11 @@ module _ {J D F : Type 0} (allows : J → Result D F → Type 0) where
   values_stand jobs ds a = λ value only. values_are allows value only jobs ds a
 
   -- the fault that the places have
-  pub least_among : (jobs : List J) (slots : List (Option (Result D F))) (came : List ℕ) (fault : GangFault F) → Filled allows jobs slots came → IsFaultAmong slots fault → IsLeast allows jobs fault
-  least_among jobs slots came OutOfMemory f among = tt
-  least_among jobs slots came (Job number fault) f among =
+  pub lowest_among : (jobs : List J) (slots : List (Option (Result D F))) (came : List ℕ) (fault : GangFault F) → Filled allows jobs slots came → IsFaultAmong slots fault → IsLeast allows jobs fault
+  lowest_among jobs slots came OutOfMemory f among = tt
+  lowest_among jobs slots came (Job number fault) f among =
       let e = among.1 in
-      let l = least allows jobs slots came number fault e.0 e.1 f e.2 e.3 in
+      let l = lowest allows jobs slots came number fault e.0 e.1 f e.2 e.3 in
       (l.0, l.1, has_answers allows jobs slots came f among.0)
 
 none_joined : (workers : ℕ) → concatenation {X = ℕ} (replicate workers []) ≡ []

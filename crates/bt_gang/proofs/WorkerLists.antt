@@ -29,8 +29,8 @@ list_here w l ls e =
     let t : nat_eq l.worker w ≡ true = grind (arith, nat_tests, e) in
     ap (λ (b : Bool). if b then l.numbers else own_list w ls) t
 
-list_behind : (w : ℕ) (l : TakenList) (ls : TakenLists) → l.worker ≢ w → own_list w (l ∷ ls) ≡ own_list w ls
-list_behind w l ls ne =
+list_after : (w : ℕ) (l : TakenList) (ls : TakenLists) → l.worker ≢ w → own_list w (l ∷ ls) ≡ own_list w ls
+list_after w l ls ne =
     let t : nat_eq l.worker w ≡ false = grind (arith, nat_tests, ne) in
     ap (λ (b : Bool). if b then l.numbers else own_list w ls) t
 
@@ -42,8 +42,8 @@ list_taken taken w (l ∷ ls) are = dite (ℕ_discrete l.worker w)
     (λ ne.
     let k = not_another w l.worker ne in
     ⊎_elim
-    (λ (e : get_or taken w [] ≡ own_list w ls). inl (e ∙ sym (list_behind w l ls ne)))
-    (λ (x : (occurrences w (workers_of ls) ≡ 0) × (own_list w ls ≡ [])). inr ((let z = x.0 in omega arith), list_behind w l ls ne ∙ x.1))
+    (λ (e : get_or taken w [] ≡ own_list w ls). inl (e ∙ sym (list_after w l ls ne)))
+    (λ (x : (occurrences w (workers_of ls) ≡ 0) × (own_list w ls ≡ [])). inr ((let z = x.0 in omega arith), list_after w l ls ne ∙ x.1))
     (list_taken taken w ls are.1))
 
 -- if the lists of a pass have as many numbers as there are jobs, a worker without a list took nothing
@@ -100,36 +100,36 @@ none_among : (w : ℕ) (workers : List ℕ) (ls : TakenLists) → own_list w ls 
 none_among w [] ls e = e
 none_among w (u ∷ us) ls e = dite (ℕ_discrete u w)
     (λ same. list_here w (taken_list u []) (map (λ worker. taken_list worker []) us ++ ls) same)
-    (λ ne. list_behind w (taken_list u []) (map (λ worker. taken_list worker []) us ++ ls) ne ∙ none_among w us ls e)
+    (λ ne. list_after w (taken_list u []) (map (λ worker. taken_list worker []) us ++ ls) ne ∙ none_among w us ls e)
 
 past_left : (fuel n first w : ℕ) (ls : TakenLists) → n ≡ first + fuel → w < first → own_list w (lists_left n first ++ ls) ≡ own_list w ls
 past_left zero n first w ls e l = ap (λ k. own_list w (k ++ ls)) (left_none n first (omega arith))
 past_left (suc fuel) n first w ls e l =
     let ne : first ≢ w = (λ same. absurd (omega arith)) in
     ap (λ k. own_list w (k ++ ls)) (left_more n first (omega arith))
-    ∙ (list_behind w (taken_list first []) (lists_left n (suc first) ++ ls) ne ∙ past_left fuel n (suc first) w ls (omega arith) (omega arith))
+    ∙ (list_after w (taken_list first []) (lists_left n (suc first) ++ ls) ne ∙ past_left fuel n (suc first) w ls (omega arith) (omega arith))
 
 pub numbers-append : (xs ys : TakenLists) → numbers_of (xs ++ ys) ≡ numbers_of xs ++ numbers_of ys
 numbers-append [] ys = refl
 numbers-append (x ∷ xs) ys = ap (λ l. x.numbers ++ l) (numbers-append xs ys) ∙ sym (append_assoc x.numbers (numbers_of xs) (numbers_of ys))
 
 module _ {D F : Type 0} where
-  back_behind : (w first : ℕ) (outs : List (Option (Answers D F))) → w < first → own_list w (lists_back first outs) ≡ []
-  back_behind w first [] l = refl
-  back_behind w first (None ∷ outs) l = back_behind w (suc first) outs (omega arith)
-  back_behind w first (Some out ∷ outs) l =
+  back_after : (w first : ℕ) (outs : List (Option (Answers D F))) → w < first → own_list w (lists_back first outs) ≡ []
+  back_after w first [] l = refl
+  back_after w first (None ∷ outs) l = back_after w (suc first) outs (omega arith)
+  back_after w first (Some out ∷ outs) l =
       let ne : first ≢ w = (λ same. absurd (omega arith)) in
-      list_behind w (taken_list first (numbered (present out.list))) (lists_back (suc first) outs) ne ∙ back_behind w (suc first) outs (omega arith)
+      list_after w (taken_list first (numbered (present out.list))) (lists_back (suc first) outs) ne ∙ back_after w (suc first) outs (omega arith)
 
   -- the list of a worker is that of its answers
   list_back : (first j w : ℕ) (outs : List (Option (Answers D F))) → w ≡ first + j → own_list w (lists_back first outs) ≡ get_or (map numbers_in outs) j []
   list_back first j w [] e = refl
-  list_back first zero w (None ∷ outs) e = back_behind w (suc first) outs (omega arith)
+  list_back first zero w (None ∷ outs) e = back_after w (suc first) outs (omega arith)
   list_back first (suc j) w (None ∷ outs) e = list_back (suc first) j w outs (omega arith)
   list_back first zero w (Some out ∷ outs) e = list_here w (taken_list first (numbered (present out.list))) (lists_back (suc first) outs) (omega arith)
   list_back first (suc j) w (Some out ∷ outs) e =
       let ne : first ≢ w = (λ same. absurd (omega arith)) in
-      list_behind w (taken_list first (numbered (present out.list))) (lists_back (suc first) outs) ne ∙ list_back (suc first) j w outs (omega arith)
+      list_after w (taken_list first (numbered (present out.list))) (lists_back (suc first) outs) ne ∙ list_back (suc first) j w outs (omega arith)
 
   pub numbers-back : (first : ℕ) (outs : List (Option (Answers D F))) → numbers_of (lists_back first outs) ≡ concatenation (map numbers_in outs)
   numbers-back first [] = refl
@@ -149,7 +149,7 @@ module _ {D F : Type 0} where
   lists_stand n k v own outs len few e (suc j) =
       let back : own_list (suc j) (lists_back 1 outs) ≡ get_or (map numbers_in outs) j [] = list_back 1 j (suc j) outs (omega arith) in
       let ne : 0 ≢ suc j = (λ same. absurd (omega arith)) in
-      sym (ap (own_list (suc j)) e ∙ (list_behind (suc j) (taken_list 0 own) (lists_left n (suc k) ++ lists_back 1 outs) ne ∙ ⊎_elim
+      sym (ap (own_list (suc j)) e ∙ (list_after (suc j) (taken_list 0 own) (lists_left n (suc k) ++ lists_back 1 outs) ne ∙ ⊎_elim
       (λ (l : j < k). past_left (n - suc k) n (suc k) (suc j) (lists_back 1 outs) (omega arith) (omega arith) ∙ back)
       (λ (l : k ≤ j).
       let none : get_or (map numbers_in outs) j [] ≡ [] = get_or_past (map numbers_in outs) j [] (let m = length-map outs (λ (o : Option (Answers D F)). numbers_in o) in omega arith) in

@@ -7,11 +7,11 @@ use Rattle.std.specs.Global.{Global}
 use Rattle.std.specs.List.{All, AllByRecursion as Each}
 use Rattle.std.specs.declared.option.Option.TheVariants.{None, Some}
 use Rattle.bt_messages.specs.declared.message.Message.{Message}
-use Rattle.bt_node.specs.Fits.{HasShape, IsInOrder}
-use Rattle.bt_node.specs.Flushes.{crown, flush_in}
-use Rattle.bt_node.specs.Messages.{Meaning, Messages}
-use Rattle.bt_node.specs.Trees.{Shape, Siblings, Tree}
-use Rattle.bt_node.specs.declared.form.mode.Mode.{Mode}
+use Rattle.bt_form.specs.Fits.{HasShape, IsInOrder}
+use Rattle.bt_form.specs.Flushes.{crown, flush_in}
+use Rattle.bt_form.specs.Messages.{Meaning, Messages}
+use Rattle.bt_form.specs.Trees.{Shape, Siblings, Tree}
+use Rattle.bt_form.specs.declared.mode.Mode.{Mode}
 use Rattle.bt_plan.specs.declared.job.Job as code
 use Rattle.bt_plan.specs.declared.job.Place as code_place
 use Rattle.bt_plan.specs.Cuts.{Job, Pieced, cut, hole_of, outcome, outcomes}

@@ -2,9 +2,7 @@ pub mod CutJobs
 pub mod Eithers
 pub mod Filled
 pub mod FilledInOrder
-pub mod ForkedParts
 pub mod HolePlaces
-pub mod KeyShares
 pub mod NoMisfit
 pub mod Opening
 pub mod PieceShares

@@ -2,12 +2,12 @@
 use Rattle.std.proofs.Common.{◌≡◌, ◌∙◌, List, [], ◌∷◌, ◌++◌, ap, append_assoc, map, refl, subst, sym}
 use Rattle.std.proofs.lemmas.List.Elements.{All-from_recursion, recursion_from_All}
 use Rattle.std.specs.List.{All, AllByRecursion as Each}
-use Rattle.bt_node.specs.Drains.{IsDry, drain, drained}
-use Rattle.bt_node.specs.Fits.{HasShape}
-use Rattle.bt_node.specs.Flushes.{holds}
-use Rattle.bt_node.specs.Laws.{HoldsTheSame}
-use Rattle.bt_node.specs.Messages.{Meaning, Messages, rows_after}
-use Rattle.bt_node.specs.Trees.{Shape, Tree}
+use Rattle.bt_flush.specs.Drains.{IsDry, drain, drained}
+use Rattle.bt_form.specs.Fits.{HasShape}
+use Rattle.bt_form.specs.Flushes.{holds}
+use Rattle.bt_flush.specs.Laws.{HoldsTheSame}
+use Rattle.bt_form.specs.Messages.{Meaning, Messages, rows_after}
+use Rattle.bt_form.specs.Trees.{Shape, Tree}
 use Rattle.bt_node.proofs.offered.PackedTrees.{crown-dry, drain-dry, drained-has_shape, drained-holds}
 use Rattle.bt_node.proofs.offered.ShapedTrees.{sunk-has_shape, sunk-holds}
 use Rattle.bt_gather.specs.Rounds.{AllHaveShape, AllHoldAfter, all_sunk, rows_after_all, rows_of_all, sunk_tree}

@@ -3,10 +3,10 @@ use Rattle.std.specs.Prelude.{◌≡◌, ℕ, List, map}
 use Rattle.std.specs.List.{All}
 use Rattle.std.specs.declared.option.Option.{Option}
 use Rattle.bt_keycode.specs.Keys.{Key}
-use Rattle.bt_node.specs.Fits.{HasShape}
-use Rattle.bt_node.specs.Flushes.{holds, sunk}
-use Rattle.bt_node.specs.Messages.{Meaning, Messages, Rows, rows_after}
-use Rattle.bt_node.specs.Trees.{Shape, Tree}
+use Rattle.bt_form.specs.Fits.{HasShape}
+use Rattle.bt_form.specs.Flushes.{holds, sunk}
+use Rattle.bt_form.specs.Messages.{Meaning, Messages, Rows, rows_after}
+use Rattle.bt_form.specs.Trees.{Shape, Tree}
 
 -- each tree fits its shape
 abbrev pub AllHaveShape : {V M : Type 0} → (Key × M → ℕ) → List (Shape × Tree V M) → Type 0

@@ -1,7 +1,6 @@
 pub mod Eithers
 pub mod Fillings
 pub mod Marks
-pub mod OwnedKeys
 pub mod RoundJobs
 pub mod RoundTrees
 pub mod Slots

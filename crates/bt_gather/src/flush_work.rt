@@ -1,7 +1,7 @@
 //! The jobs of a round, and the work on each.
 ghost use Rattle.std.specs.Prelude.{◌≡◌, IfOk, map};
 ghost use Rattle.bt_messages.specs.Meanings.{meaning_of};
-ghost use Rattle.bt_node.specs.Fits.{IsInOrder};
+ghost use Rattle.bt_form.specs.Fits.{IsInOrder};
 ghost use Rattle.bt_plan.specs.Cuts.{outcome};
 ghost use Rattle.bt_plan.specs.Views.{job_of};
 ghost use Rattle.bt_gather.specs.inside.RoundJobs.{AreRunnable, piece_of};

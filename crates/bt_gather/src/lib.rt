@@ -9,11 +9,7 @@
 //! `bt_plan` cuts a tree. A worker runs each job with [`run_job`]. [`fill`] puts the pieces into the holes of the tree, one at each hole.
 //! [`sink`] and [`drain`] do all three steps.
 //!
-//! A crew also reads a tree. The portions at the crew's depth are jobs that borrow the tree. [`read`] shows each to a fork of a visitor, and
-//! [`rebuild`] copies the rows and packs them into a new tree. [`owned_keys`] divides keys among the portions that own them, for jobs that look
-//! them up.
-//!
-//! [`pack_puts`] builds a tree from a packet of puts. A worker makes some of the leaves, and the caller puts the inner nodes above them.
+//! The crate bt_portions reads a tree with a crew. Its calls are also exported here.
 //!
 //! Jobs are numbered tree by tree, those of the rows first. Each tree takes as many pieces as it has jobs, so the results of a run go back to
 //! their trees by number. Nodes and messages are moved, never copied. If an allocation fails, every worker has ended before the call returns.
@@ -22,29 +18,23 @@
 //! let crew = Crew::new(4, 2, 64, NoGate)?;
 //! let (rows, entries) = sink(&rt, alloc, rows, entries, &crew)?;
 //! let rows = drain(&rt, alloc, tree, &crew)?;
-//! let copies = read(&rt, alloc, &rows, Some(&from), None, Copies::new(alloc), &crew)?;
-//! let packed = pack_puts(&rt, alloc, shape, puts, &crew)?;
 //! ```
 //!
 //! The definitions are in `specs`. `Rounds` defines the result for several trees. `Misfits` says which pieces don't fit a tree in pieces. `Laws`
-//! says what [`fill`] requires and what it refuses. `Puts` defines the rows that messages put.
+//! says what [`fill`] requires and what it refuses.
 #![tactic(auto)]
 
 mod either;
 mod filling;
 mod flush_work;
 mod hole_places;
-mod key_shares;
 mod misfit;
-mod portion_visits;
 mod round;
 mod round_tree;
 
-pub use bt_node::Portion;
+pub use bt_portions::{Portion, owned_keys, read, rebuild};
 pub use filling::{FillError, fill};
 pub use flush_work::run_job;
-pub use key_shares::owned_keys;
 pub use misfit::Misfit;
-pub use portion_visits::{read, rebuild};
 pub use round::{drain, sink};
 pub use round_tree::MOST_TREES;

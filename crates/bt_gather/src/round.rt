@@ -3,9 +3,9 @@ ghost use Rattle.std.specs.Prelude.{◌≡◌, ◌≤◌, ◌+◌, IfOk, length}
 ghost use Rattle.bt_messages.specs.Effects.{effect_of};
 ghost use Rattle.bt_messages.specs.Meanings.{meaning_of};
 ghost use Rattle.bt_messages.specs.Weights.{weigh_of};
-ghost use Rattle.bt_node.specs.Drains.{IsDry, drained};
-ghost use Rattle.bt_node.specs.Fits.{HasShape};
-ghost use Rattle.bt_node.specs.Laws.{HoldsTheSame};
+ghost use Rattle.bt_flush.specs.Drains.{IsDry, drained};
+ghost use Rattle.bt_form.specs.Fits.{HasShape};
+ghost use Rattle.bt_flush.specs.Laws.{HoldsTheSame};
 ghost use Rattle.bt_gather.specs.Rounds.{AllHaveShape, AllHoldAfter, all_sunk};
 
 use crate::flush_work::{FlushWork, ShapedJob};

@@ -29,8 +29,8 @@ pub short_escaped : (bytes : List ℕ) → length bytes ≤ most_value_bytes →
 short_escaped bytes few = omega (arith, escaped-bound bytes, few)
 
 -- the first part of bytes with the zero byte after it, and the rest
-pub one_part : (rest part behind : List ℕ) → rest ≡ part ++ 0 ∷ behind → list_any (λ b. nat_eq b 0) part ≡ false → length (escaped rest) ≡ length part + 2 + length (escaped behind)
-one_part rest part behind whole none = omega (arith, ap length (escaped_parts rest part behind whole none), length-append part (0 ∷ 255 ∷ escaped behind))
+pub one_part : (rest part following : List ℕ) → rest ≡ part ++ 0 ∷ following → list_any (λ b. nat_eq b 0) part ≡ false → length (escaped rest) ≡ length part + 2 + length (escaped following)
+one_part rest part following whole none = omega (arith, ap length (escaped_parts rest part following whole none), length-append part (0 ∷ 255 ∷ escaped following))
 
 -- ---- values
 

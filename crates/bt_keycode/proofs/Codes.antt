@@ -105,17 +105,17 @@ pub codes_compare : (v w : Value) → kind_of v ≡ kind_of w → (xs ys : List 
 codes_compare v w same xs ys = contents_compare (content_of v) (content_of w) (same_form v w same) xs ys
 
 -- if two codes of a form, followed by more bytes, are the same as a whole, then the bytes after the codes are the same
-behind_contents : (c d : Content) → form_in c ≡ form_in d → (xs ys : List ℕ) → code_of_content c ++ xs ≡ code_of_content d ++ ys → xs ≡ ys
+after_contents : (c d : Content) → form_in c ≡ form_in d → (xs ys : List ℕ) → code_of_content c ++ xs ≡ code_of_content d ++ ys → xs ≡ ys
 unfolding eight_bytes
-behind_contents (Number m) (Number n) same xs ys e = cc
-behind_contents (Bytes a) (Bytes b) same xs ys e =
+after_contents (Number m) (Number n) same xs ys e = cc
+after_contents (Bytes a) (Bytes b) same xs ys e =
     let both = escaped_unique a b xs ys (sym (append_assoc (escaped a) (0 ∷ 1 ∷ []) xs) ∙ e ∙ append_assoc (escaped b) (0 ∷ 1 ∷ []) ys) in
     both.1
-behind_contents (Bit a) (Bit b) same xs ys e = cc
-behind_contents c d same xs ys e = cc
+after_contents (Bit a) (Bit b) same xs ys e = cc
+after_contents c d same xs ys e = cc
 
-pub behind_codes : (v w : Value) → kind_of v ≡ kind_of w → (xs ys : List ℕ) → code_of_value v ++ xs ≡ code_of_value w ++ ys → xs ≡ ys
-behind_codes v w same xs ys e = behind_contents (content_of v) (content_of w) (same_form v w same) xs ys e
+pub after_codes : (v w : Value) → kind_of v ≡ kind_of w → (xs ys : List ℕ) → code_of_value v ++ xs ≡ code_of_value w ++ ys → xs ≡ ys
+after_codes v w same xs ys e = after_contents (content_of v) (content_of w) (same_form v w same) xs ys e
 
 -- ---- lists of values
 
@@ -127,4 +127,4 @@ no_prefix (v ∷ vs) [] kinds more e = cc
 no_prefix (v ∷ vs) (w ∷ ws) kinds more e =
     let first : kind_of w ≡ kind_of v = cc in
     let others : HaveSameKinds vs ws = cc in
-    no_prefix vs ws others more (behind_codes w v first (code_of ws) (code_of vs ++ more) (e ∙ append_assoc (code_of_value v) (code_of vs) more))
+    no_prefix vs ws others more (after_codes w v first (code_of ws) (code_of vs ++ more) (e ∙ append_assoc (code_of_value v) (code_of vs) more))

@@ -43,10 +43,10 @@ read_after prefix (Some read) found rest e =
     (read.0, ap (λ r. Some (read.0, r)) both.1, sym both.0)
 
 -- what is read after a zero byte
-behind_zero : (b : ℕ) (bytes found rest : List ℕ) →
+after_zero : (b : ℕ) (bytes found rest : List ℕ) →
     ◌≡◌ {A = Option (List ℕ × List ℕ)} (if b == 1 then Some ([], bytes) else (if b == 255 then after_bytes (0 ∷ []) (unescaped bytes) else None)) (Some (found, rest)) →
     ((more : List ℕ) → unescaped bytes ≡ Some (more, rest) → escaped more ++ (0 ∷ 1 ∷ rest) ≡ bytes) → escaped found ++ (0 ∷ 1 ∷ rest) ≡ 0 ∷ b ∷ bytes
-behind_zero b bytes found rest e again = elim (cases_Bool (b == 1)) [
+after_zero b bytes found rest e again = elim (cases_Bool (b == 1)) [
   | inl one ↦
       let both = both_read [] bytes found rest (rw one at e) in
       ap (λ s. escaped s ++ (0 ∷ 1 ∷ rest)) (sym both.0) ∙ ap (λ s. 0 ∷ 1 ∷ s) (sym both.1) ∙ ap (λ c. 0 ∷ c ∷ bytes) (sym (eqb-true b 1 one))
@@ -66,7 +66,7 @@ spelled (suc n ∷ bytes) found rest e =
     let read = read_after (suc n ∷ []) (unescaped bytes) found rest e in
     ap (λ s. escaped s ++ (0 ∷ 1 ∷ rest)) read.2 ∙ ap (λ s. s ++ (0 ∷ 1 ∷ rest)) (escaped-suc n read.0) ∙ ap (λ s. suc n ∷ s) (spelled bytes read.0 rest read.1)
 spelled (zero ∷ []) found rest e = cc
-spelled (zero ∷ b ∷ bytes) found rest e = behind_zero b bytes found rest e (λ more f. spelled bytes more rest f)
+spelled (zero ∷ b ∷ bytes) found rest e = after_zero b bytes found rest e (λ more f. spelled bytes more rest f)
 
 -- the end, in two parts
 pub split_end : (found rest : List ℕ) → (escaped found ++ (0 ∷ 1 ∷ [])) ++ rest ≡ escaped found ++ (0 ∷ 1 ∷ rest)
@@ -76,12 +76,12 @@ split_end found rest = append_assoc (escaped found) (0 ∷ 1 ∷ []) rest
 pub too_long : (bytes first code more : List ℕ) (byte : ℕ) → unescaped bytes ≡ after_bytes first (unescaped code) → unescaped code ≡ after_bytes (byte ∷ []) (unescaped more) →
     (found rest : List ℕ) → unescaped bytes ≡ Some (found, rest) → length first < length found
 too_long bytes first code more byte e f found rest read =
-    let behind = read_after first (unescaped code) found rest (sym e ∙ read) in
-    let next = read_after (byte ∷ []) (unescaped more) behind.0 rest (sym f ∙ behind.1) in
-    let whole : found ≡ first ++ (byte ∷ next.0) = behind.2 ∙ ap (λ zs. first ++ zs) next.2 in
+    let following = read_after first (unescaped code) found rest (sym e ∙ read) in
+    let next = read_after (byte ∷ []) (unescaped more) following.0 rest (sym f ∙ following.1) in
+    let whole : found ≡ first ++ (byte ∷ next.0) = following.2 ∙ ap (λ zs. first ++ zs) next.2 in
     omega (arith, ap length whole, length-append first (byte ∷ next.0))
 
 -- bytes without a zero byte are in their code unchanged
-pub read_plain : (bytes found behind rest : List ℕ) → bytes ≡ found ++ 0 ∷ behind → list_any (λ b. nat_eq b 0) found ≡ false → behind ≡ 1 ∷ rest → unescaped bytes ≡ Some (found, rest)
-read_plain bytes found behind rest whole none end =
+pub read_plain : (bytes found following rest : List ℕ) → bytes ≡ found ++ 0 ∷ following → list_any (λ b. nat_eq b 0) found ≡ false → following ≡ 1 ∷ rest → unescaped bytes ≡ Some (found, rest)
+read_plain bytes found following rest whole none end =
     ap unescaped (whole ∙ ap (λ bs. found ++ 0 ∷ bs) end ∙ sym (ap (λ t. t ++ 0 ∷ 1 ∷ rest) (escaped_no_zero found none))) ∙ read_again found rest

@@ -102,6 +102,6 @@ escaped_append (b ∷ bs) more =
     ∙ sym (append_assoc (escaped (b ∷ [])) (escaped bs) (escaped more)) ∙ ap (λ cs. cs ++ escaped more) (sym (escaped-first b bs))
 
 -- the bytes before the first zero byte, and those after it
-pub escaped_parts : (plain part behind : List ℕ) → plain ≡ part ++ 0 ∷ behind → list_any (λ b. nat_eq b 0) part ≡ false → escaped plain ≡ part ++ (0 ∷ 255 ∷ escaped behind)
-escaped_parts plain part behind whole none =
-    ap escaped whole ∙ escaped_append part (0 ∷ behind) ∙ ap (λ cs. cs ++ (0 ∷ 255 ∷ escaped behind)) (escaped_no_zero part none)
+pub escaped_parts : (plain part following : List ℕ) → plain ≡ part ++ 0 ∷ following → list_any (λ b. nat_eq b 0) part ≡ false → escaped plain ≡ part ++ (0 ∷ 255 ∷ escaped following)
+escaped_parts plain part following whole none =
+    ap escaped whole ∙ escaped_append part (0 ∷ following) ∙ ap (λ cs. cs ++ (0 ∷ 255 ∷ escaped following)) (escaped_no_zero part none)

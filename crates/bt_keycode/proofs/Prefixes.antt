@@ -44,16 +44,16 @@ padded-first (suc m) (suc n) [] few = ap (λ ys. 0 ∷ ys) (padded-first m n [] 
 padded-first (suc m) (suc n) (x ∷ xs) few = ap (λ ys. x ∷ ys) (padded-first m n xs (omega arith))
 
 -- some of them after the first
-padded-behind : (m k n : ℕ) (xs : List ℕ) → m + k ≤ n → padded k (drop m (padded n xs)) ≡ padded k (drop m xs)
-padded-behind zero k n xs few = padded-first k n xs (omega arith)
-padded-behind (suc m) k zero xs few = absurd (omega arith)
-padded-behind (suc m) k (suc n) [] few = padded-behind m k n [] (omega arith) ∙ ap (padded k) (drop-nil m)
-padded-behind (suc m) k (suc n) (x ∷ xs) few = padded-behind m k n xs (omega arith)
+padded-following : (m k n : ℕ) (xs : List ℕ) → m + k ≤ n → padded k (drop m (padded n xs)) ≡ padded k (drop m xs)
+padded-following zero k n xs few = padded-first k n xs (omega arith)
+padded-following (suc m) k zero xs few = absurd (omega arith)
+padded-following (suc m) k (suc n) [] few = padded-following m k n [] (omega arith) ∙ ap (padded k) (drop-nil m)
+padded-following (suc m) k (suc n) (x ∷ xs) few = padded-following m k n xs (omega arith)
 
 -- the eight bytes from a place on
 pub eight_of_padded : (place n : ℕ) (seen xs : List ℕ) → seen ≡ padded n xs → place + 8 ≤ n → first_eight (drop place seen) ≡ first_eight (drop place xs)
 unfolding first_eight
-eight_of_padded place n seen xs is few = ap (λ ys. padded 8 (drop place ys)) is ∙ padded-behind place 8 n xs few
+eight_of_padded place n seen xs is few = ap (λ ys. padded 8 (drop place ys)) is ∙ padded-following place 8 n xs few
 
 -- Where the bytes before a place are the same, and the eight from there on write different numbers, these decide the order of the first bytes.
 pub first_decided : (m n h k : ℕ) (xs ys : List ℕ) → m + 8 ≤ n → h < 2 ^ 64 → k < 2 ^ 64 → padded m xs ≡ padded m ys →

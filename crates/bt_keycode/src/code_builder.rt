@@ -60,9 +60,9 @@ impl CodeBuilder {
         ensures { OnOk result (self.new ≡ self.old ++ (escaped bytes.now ++ (0 ∷ 1 ∷ []))) }
     {
         let mut rest = bytes;
-        while let Some((part, behind)) = split_at_zero(rest) {
+        while let Some((part, following)) = split_at_zero(rest) {
             self.push(part, &[0, 255])?;
-            rest = behind;
+            rest = following;
         }
         self.push(rest, &[0, 1])
     }

@@ -93,8 +93,8 @@ fn unescape<'a>(bytes: &'a [u8], room: &mut [u8; MOST_VALUE_BYTES]) -> Option<(u
 fn plain_bytes(bytes: &[u8]) -> Option<(&[u8], &[u8])>
     ensures { IfSome result (λ read. unescaped bytes.now ≡ Some (read.0.now, read.1.now)) }
 {
-    let (plain, behind) = split_at_zero(bytes)?;
-    match behind {
+    let (plain, following) = split_at_zero(bytes)?;
+    match following {
         [1, rest @ ..] => Some((plain, rest)),
         _ => None,
     }

@@ -29,9 +29,9 @@ fn bytes_len(bytes: &[u8]) -> u64
 {
     let mut len = 2;
     let mut rest = bytes;
-    while let Some((part, behind)) = split_at_zero(rest) {
+    while let Some((part, following)) = split_at_zero(rest) {
         len += part.len() as u64 + 2;
-        rest = behind;
+        rest = following;
     }
     len + rest.len() as u64
 }

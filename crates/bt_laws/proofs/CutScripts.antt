@@ -8,7 +8,7 @@ use Rattle.std.specs.List.{onto_first, list_all}
 use Rattle.bt_script.specs.Commands.{Answer, Inside, Outside, Place, closing_of, command_of, commands, commands_from, ending, is_blank_line, is_word, line_step, opened, unfinished}
 use Rattle.bt_script.specs.Lines.{lines, without_return, words}
 use Rattle.bt_script.specs.declared.command.Command.{Command}
-use Rattle.bt_shell.specs.Runs.{after_commands, ends_with_line, place_behind}
+use Rattle.bt_shell.specs.Runs.{after_commands, ends_with_line, place_following}
 use Rattle.bt_shell.specs.Steps.{State, turn}
 use Rattle.bt_laws.specs.Cuts.{AreFirstAndOneMore, AreFirstAndOneRefused}
 
@@ -67,19 +67,19 @@ lines_cut (b ∷ []) second = elim (cases_Bool (b == 10)) [
   | inr other ↦ rw other (record { done = []; others = onto_first b (lines second); rest = (b ∷ []) ∷ []; one = omega arith; part_is = refl; whole_is = refl; none = λ ends. absurd cc })
 ]
 lines_cut (b ∷ c ∷ more) second =
-    let behind = lines_cut (c ∷ more) second in
+    let following = lines_cut (c ∷ more) second in
     let some = first_line c more in
     elim (cases_Bool (b == 10)) [
       | inl feed ↦ rw feed (record {
-        done = [] ∷ behind.done;
-        others = behind.others;
-        rest = behind.rest;
-        one = behind.one;
-        none = behind.none;
-        part_is = ap (λ (ls : List (List ℕ)). [] ∷ ls) behind.part_is;
-        whole_is = ap (λ (ls : List (List ℕ)). [] ∷ ls) behind.whole_is;
+        done = [] ∷ following.done;
+        others = following.others;
+        rest = following.rest;
+        one = following.one;
+        none = following.none;
+        part_is = ap (λ (ls : List (List ℕ)). [] ∷ ls) following.part_is;
+        whole_is = ap (λ (ls : List (List ℕ)). [] ∷ ls) following.whole_is;
       })
-      | inr other ↦ rw other (onto_both b _ _ (ends_with_line (c ∷ more) ≡ true) some.0 some.1 some.2 behind)
+      | inr other ↦ rw other (onto_both b _ _ (ends_with_line (c ∷ more) ≡ true) some.0 some.1 some.2 following)
     ]
 
 -- ---- commands
@@ -89,12 +89,12 @@ ended : Place → List (List ℕ) → List Answer
 ended place [] = []
 ended place (line ∷ more) = (line_step place line).1 ++ ended (line_step place line).0 more
 
-commands_from-append : (place : Place) (done more : List (List ℕ)) → commands_from place (done ++ more) ≡ ended place done ++ commands_from (place_behind place done) more
-unfolding commands_from place_behind ended
+commands_from-append : (place : Place) (done more : List (List ℕ)) → commands_from place (done ++ more) ≡ ended place done ++ commands_from (place_following place done) more
+unfolding commands_from place_following ended
 commands_from-append place [] more = refl
 commands_from-append place (line ∷ done) more =
     ap (λ (answers : List Answer). (line_step place line).1 ++ answers) (commands_from-append (line_step place line).0 done more)
-    ∙ sym (append_assoc (line_step place line).1 (ended (line_step place line).0 done) (commands_from (place_behind (line_step place line).0 done) more))
+    ∙ sym (append_assoc (line_step place line).1 (ended (line_step place line).0 done) (commands_from (place_following (line_step place line).0 done) more))
 
 ending_one : (place : Place) → length (ending place) ≤ 1
 ending_one Outside = omega arith
@@ -143,7 +143,7 @@ first_commands : (part whole done others rest : List (List ℕ)) → length rest
     → AreFirstAndOneMore (commands_from Outside part) (commands_from Outside whole)
 first_commands part whole done others rest one part_is whole_is =
     let both = ended Outside done in
-    let place = place_behind Outside done in
+    let place = place_following Outside done in
     let part_commands : commands_from Outside part ≡ both ++ commands_from place rest = ap (commands_from Outside) part_is ∙ commands_from-append Outside done rest in
     let whole_commands : commands_from Outside whole ≡ both ++ commands_from place others = ap (commands_from Outside) whole_is ∙ commands_from-append Outside done others in
     record {
@@ -186,7 +186,7 @@ module _ (first second : List ℕ) where
       let both = lines_cut first second in
       let part_is : lines first ≡ both.done ++ [] = subst (λ (rest : List (List ℕ)). lines first ≡ both.done ++ rest) (both.none ends) both.part_is in
       let begins = first_commands (lines first) (lines (first ++ second)) both.done both.others [] (omega arith) part_is both.whole_is in
-      let refused = open_refused (place_behind Outside both.done) in
+      let refused = open_refused (place_following Outside both.done) in
       record { first = begins; refused = refused; left = left_by_first (commands first) (commands (first ++ second)) begins refused }
 
 module _ (script : List ℕ) (n : ℕ) where

@@ -6,14 +6,14 @@ use Rattle.std.proofs.Math.Nat.{mul-le-mul_left, mul-le-mul_right}
 use Rattle.std.specs.List.{AllByRecursion, flat_map}
 use Rattle.bt_keycode.specs.Keys.{Key, is_before}
 use Rattle.bt_messages.proofs.offered.Loads.{load-append, load-more, load-none, load-with_messages}
-use Rattle.bt_node.specs.Deals.{deal}
-use Rattle.bt_node.specs.Fits.{AreSized, HasShape, IsSized, Lies, SiblingsLie}
-use Rattle.bt_node.specs.Flushes.{Child, Flush, absorb, crown_within, flush_at, first_key, flushed, gathered, grouped, leaves, loads, none_pending, pending_load, pivot_first, shared, sunk}
-use Rattle.bt_node.specs.Loops.{after_turns, opened_at, opened_items}
-use Rattle.bt_node.specs.Messages.{Meaning, Messages, Rows, before, from, load, rows_after, with_messages}
-use Rattle.bt_node.specs.Plans.{fullest, most, place_of, total}
-use Rattle.bt_node.specs.Trees.{Nodes, Shape, Siblings, Tree, children, height, height_below, inner, leaf, node, nodes, none}
-use Rattle.bt_node.specs.declared.form.mode.Mode.TheVariants.{Absorb}
+use Rattle.bt_form.specs.Deals.{deal}
+use Rattle.bt_form.specs.Fits.{AreSized, HasShape, IsSized, Lies, SiblingsLie}
+use Rattle.bt_form.specs.Flushes.{Child, Flush, absorb, crown_within, flush_at, first_key, flushed, gathered, grouped, leaves, loads, none_pending, pending_load, pivot_first, shared, sunk}
+use Rattle.bt_form.specs.Loops.{after_turns, opened_at, opened_items}
+use Rattle.bt_form.specs.Messages.{Meaning, Messages, Rows, before, from, load, rows_after, with_messages}
+use Rattle.bt_form.specs.Plans.{fullest, most, place_of, total}
+use Rattle.bt_form.specs.Trees.{Nodes, Shape, Siblings, Tree, children, height, height_below, inner, leaf, node, nodes, none}
+use Rattle.bt_form.specs.declared.mode.Mode.TheVariants.{Absorb}
 use Rattle.bt_node.proofs.offered.FlushSteps.{AllNonEmpty, anywhere, fit_there, full-deal, joined, joined-deal, led-full, length-shared, some_length}
 use Rattle.bt_node.proofs.offered.ShapedTrees.{sunk-has_shape}
 use Rattle.bt_laws.proofs.LeafCounts.{node_wide, nodes_wide}
@@ -137,10 +137,10 @@ step_sum : (fanout m pot e count capacity after : ℕ) → suc capacity ≤ fano
     → suc count * suc capacity + fanout * after ≤ fanout * (m * suc e + pot)
 step_sum fanout m pot e count capacity after large paid = omega (arith, large, paid)
 
-loop_sum : (fanout count others capacity first inside item behind rest whole : ℕ) → suc count * suc capacity + fanout * inside ≤ fanout * item
-    → others * suc capacity + fanout * rest ≤ fanout * (first + (inside + behind))
-    → whole ≡ first + (item + behind) → (suc count + others) * suc capacity + fanout * rest ≤ fanout * whole
-loop_sum fanout count others capacity first inside item behind rest whole step more is = omega (arith, step, more, ap (λ n. fanout * n) is)
+loop_sum : (fanout count others capacity first inside item following rest whole : ℕ) → suc count * suc capacity + fanout * inside ≤ fanout * item
+    → others * suc capacity + fanout * rest ≤ fanout * (first + (inside + following))
+    → whole ≡ first + (item + following) → (suc count + others) * suc capacity + fanout * rest ≤ fanout * whole
+loop_sum fanout count others capacity first inside item following rest whole step more is = omega (arith, step, more, ap (λ n. fanout * n) is)
 
 module _ {V M : Type 0} (meaning : Meaning V M) (shape : Shape) where
   abbrev room : Messages M → ℕ

@@ -7,9 +7,9 @@ use Rattle.bt_value.specs.Results.{or_refused, and_then, map_ok}
 use Rattle.bt_value.specs.declared.refusal.Refusal.{Refusal}
 use Rattle.bt_value.specs.declared.refusal.Refusal.TheVariants.{NoSuchTree}
 use Rattle.bt_value.specs.declared.value.Value.{Value}
-use Rattle.bt_node.specs.Drains.{packed, rebuilt}
-use Rattle.bt_node.specs.Messages.{Rows}
-use Rattle.bt_node.specs.Trees.{Shape}
+use Rattle.bt_flush.specs.Drains.{packed, rebuilt}
+use Rattle.bt_form.specs.Messages.{Rows}
+use Rattle.bt_form.specs.Trees.{Shape}
 use Rattle.bt_fanout.specs.Effects.{entry_effect}
 use Rattle.bt_fanout.specs.Entries.{entry_of}
 use Rattle.bt_fanout.specs.Selections.{select}

@@ -22,11 +22,11 @@ use Rattle.bt_value.specs.declared.value.Value.{Value}
 use Rattle.bt_keycode.specs.Keys.{Key}
 use Rattle.bt_keycode.specs.Standing.{AllStand, RowMap, Stands, row_key}
 use Rattle.bt_messages.specs.declared.message.Message.{Message}
-use Rattle.bt_node.specs.Drains.{AreDry, IsDry}
-use Rattle.bt_node.specs.Fits.{AreSized, IsSized}
-use Rattle.bt_node.specs.Flushes.{holds, nodes_hold}
-use Rattle.bt_node.specs.Messages.{Messages, rows_after}
-use Rattle.bt_node.specs.Trees.{Nodes, Shape, Tree, children, height, inner, leaf, node, none}
+use Rattle.bt_flush.specs.Drains.{AreDry, IsDry}
+use Rattle.bt_form.specs.Fits.{AreSized, IsSized}
+use Rattle.bt_form.specs.Flushes.{holds, nodes_hold}
+use Rattle.bt_form.specs.Messages.{Messages, rows_after}
+use Rattle.bt_form.specs.Trees.{Nodes, Shape, Tree, children, height, inner, leaf, node, none}
 use Rattle.bt_laws.specs.StoredTables.{HasOnlyBytes}
 use Rattle.bt_view.specs.Images.{children_text, deeper, first_line, image_text, inner_line, key_line, leaf_line, leaf_row_line, message_line, node_text, others_text, pivot_line, row_text}
 use Rattle.bt_laws.proofs.ValueTexts.{own, values_of_texts}

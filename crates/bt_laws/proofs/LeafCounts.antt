@@ -4,8 +4,8 @@ use Rattle.std.proofs.Math.Nat.{suc-mul, two-pow-succ}
 use Rattle.std.proofs.Math.Pow.{pow_mono}
 use Rattle.std.proofs.lemmas.Bool.{cases_lt}
 use Rattle.bt_keycode.specs.Keys.{Key}
-use Rattle.bt_node.specs.Fits.{AreSized, HasShape, IsSized, Lies, SiblingsLie}
-use Rattle.bt_node.specs.Trees.{Nodes, Shape, Tree, children, height, height_below, inner, leaf, node, none}
+use Rattle.bt_form.specs.Fits.{AreSized, HasShape, IsSized, Lies, SiblingsLie}
+use Rattle.bt_form.specs.Trees.{Nodes, Shape, Tree, children, height, height_below, inner, leaf, node, none}
 use Rattle.bt_laws.specs.Heights.{HasManyLeaves, HasFewLevels, leaf_count, leaves_below}
 
 -- twice a number below a sum of two parts, each at least this number

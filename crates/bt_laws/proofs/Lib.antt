@@ -4,5 +4,5 @@ pub mod FromScratch
 pub mod ImageRows
 pub mod LeafCounts
 pub mod Reloaded
-pub mod ToldRows
+pub mod RowsOfImages
 pub mod ValueTexts

@@ -16,7 +16,7 @@ use Rattle.bt_rowtype.specs.Loads.{is_header}
 use Rattle.bt_value.specs.Results.{all_read, unless, or_refused, and_then, map_ok}
 use Rattle.bt_record.specs.Records.{has_mark}
 use Rattle.bt_row.specs.RecordTexts.{record_text}
-use Rattle.bt_value.specs.Refusals.{least}
+use Rattle.bt_value.specs.Refusals.{lowest}
 use Rattle.bt_row.specs.Schemas.{Schema, fit_columns, is_schema, read_as, values_of}
 use Rattle.bt_value.specs.Values.{fits_kind, text_of}
 use Rattle.bt_value.specs.declared.refusal.Refusal.{Refusal}
@@ -28,9 +28,9 @@ use Rattle.bt_keycode.specs.Standing.{AllAreUnder, AllStand, AreOf, IsOf, RowMap
 use Rattle.bt_load.specs.Loads.{text_rows, typed_from, under_header}
 use Rattle.bt_load.specs.Maps.{map_of}
 use Rattle.bt_load.proofs.offered.Loaded.{map_of-rows}
-use Rattle.bt_view.specs.RecordTexts.{record_line}
-use Rattle.bt_node.specs.Messages.{between}
-use Rattle.bt_node.proofs.offered.Portions.{between-all}
+use Rattle.bt_show.specs.RecordTexts.{record_line}
+use Rattle.bt_form.specs.Messages.{between}
+use Rattle.bt_read.proofs.offered.Portions.{between-all}
 use Rattle.bt_table.specs.Calls.{Load, NamedTree, Rebuild, after_load, load_refusals, loaded_rows, step, tree_named, unless_any, with_rows}
 use Rattle.bt_table.specs.Standing.{IsSoundTable}
 use Rattle.bt_table.specs.Tables.{Intact, PlainTable}
@@ -150,7 +150,7 @@ all_found [] = refl
 all_found (row ∷ rows) = ap (λ (rest : List (List Value)). row ∷ rest) (all_found rows)
 
 all_read-found : (rows : List (List Value)) → all_read (found rows) ≡ Ok rows
-all_read-found rows = λ i. unless (least (none_refused rows i)) (all_found rows i)
+all_read-found rows = λ i. unless (lowest (none_refused rows i)) (all_found rows i)
 
 -- fields of rows with columns are read back
 read_back-fields : (columns : List Column) (rows : List (List Value)) → 1 ≤ length columns → AreOf columns rows → map read_back (fields_of rows) ≡ fields_of rows

@@ -3,8 +3,8 @@ use Rattle.std.specs.Prelude.{◌≡◌, Bool, List, Ok, Result, codes, map, tru
 use Rattle.std.specs.List.{list_all}
 use Rattle.bt_value.specs.declared.refusal.Refusal.{Refusal}
 use Rattle.bt_value.specs.declared.value.Value.{Value}
-use Rattle.bt_node.specs.Drains.{packed}
-use Rattle.bt_node.specs.Messages.{Rows}
+use Rattle.bt_flush.specs.Drains.{packed}
+use Rattle.bt_form.specs.Messages.{Rows}
 use Rattle.bt_fanout.specs.Entries.{entry_of}
 use Rattle.bt_fanout.specs.Selections.{select}
 use Rattle.bt_value.specs.Results.{and_then}

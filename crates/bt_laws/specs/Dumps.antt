@@ -8,7 +8,7 @@ use Rattle.bt_table.specs.Calls.{Load, NamedTree, Rebuild, load_refusals, step, 
 use Rattle.bt_table.specs.Tables.{Intact, PlainTable}
 use Rattle.bt_table.specs.declared.reply.Reply.TheVariants.{Loaded}
 use Rattle.bt_view.specs.Ranges.{scan}
-use Rattle.bt_view.specs.RecordTexts.{record_line}
+use Rattle.bt_show.specs.RecordTexts.{record_line}
 use Rattle.bt_laws.specs.CanonicalForms.{AreOfOneDefinition, image_after, is_of_all_rows}
 
 -- ---- the text

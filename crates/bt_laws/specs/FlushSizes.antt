@@ -1,12 +1,12 @@
 -- How much a flush moves down, and how many flushes packets lead to.
 use Rattle.std.specs.Prelude.{ℕ, zero, suc, ◌+◌, ◌*◌, ◌-◌, ◌<◌, ◌≤◌, List, [], ◌∷◌, length, map}
 use Rattle.std.specs.List.{AllByRecursion}
-use Rattle.bt_node.specs.Flushes.{Child, Flush, flush_at, flushed, loads, pending_load, shared, sunk}
-use Rattle.bt_node.specs.Loops.{opened_items}
-use Rattle.bt_node.specs.Messages.{Meaning, Messages, load, with_messages}
-use Rattle.bt_node.specs.Plans.{total}
-use Rattle.bt_node.specs.Trees.{Nodes, Shape, Tree, children, height, height_below, inner, leaf, node, none}
-use Rattle.bt_node.specs.declared.form.mode.Mode.TheVariants.{Absorb}
+use Rattle.bt_form.specs.Flushes.{Child, Flush, flush_at, flushed, loads, pending_load, shared, sunk}
+use Rattle.bt_form.specs.Loops.{opened_items}
+use Rattle.bt_form.specs.Messages.{Meaning, Messages, load, with_messages}
+use Rattle.bt_form.specs.Plans.{total}
+use Rattle.bt_form.specs.Trees.{Nodes, Shape, Tree, children, height, height_below, inner, leaf, node, none}
+use Rattle.bt_form.specs.declared.mode.Mode.TheVariants.{Absorb}
 
 module _ {V M : Type 0} (meaning : Meaning V M) (shape : Shape) where
   -- ---- one node

@@ -1,6 +1,6 @@
 -- How many levels a tree has, by the number of its leaves.
 use Rattle.std.specs.Prelude.{ℕ, ◌+◌, ◌-◌, ◌^◌, ◌≤◌, ◌<◌}
-use Rattle.bt_node.specs.Trees.{Nodes, Tree, height, inner, leaf, node, none}
+use Rattle.bt_form.specs.Trees.{Nodes, Tree, height, inner, leaf, node, none}
 
 -- the number of leaves of a tree
 abbrev mutual

@@ -4,7 +4,7 @@ use Rattle.std.specs.List.{AllByRecursion}
 use Rattle.bt_row.specs.Schemas.{is_schema}
 use Rattle.bt_value.specs.declared.value.Value.{Value}
 use Rattle.bt_value.specs.declared.value.Value.TheVariants as value
-use Rattle.bt_node.specs.Shapes.{is_shape}
+use Rattle.bt_form.specs.Shapes.{is_shape}
 use Rattle.bt_table.specs.Standing.{IsSoundTable}
 use Rattle.bt_table.specs.Tables.{PlainTable}
 

@@ -14,5 +14,5 @@ pub fn canonical_form()
     ensures loaded { (table : PlainTable) (text name : List ℕ) → IsSoundTable table → LoadsFromScratch table text name }
     ensures whole { (table : PlainTable) → IsSoundTable table → IsLoadedOnceRebuilt table }
     ensures alike { (first second : PlainTable) (name : List ℕ) → IsSoundTable first → IsSoundTable second → HaveSameRows first second → RebuildAlike first second name }
-    ensures told { (first second : PlainTable) → IsStored first → IsStored second → ImagesTellRows first second }
+    ensures rows { (first second : PlainTable) → IsStored first → IsStored second → ImagesTellRows first second }
 {}

@@ -1,10 +1,10 @@
 //! Dumps of tables, and loading them.
 ghost use Rattle.std.specs.Prelude.{◌≡◌, ◌++◌, List, [], flat_map, fold, map};
 ghost use Rattle.bt_value.specs.declared.value.Value.{Value};
-ghost use Rattle.bt_node.specs.Messages.{Rows};
+ghost use Rattle.bt_form.specs.Messages.{Rows};
 ghost use Rattle.bt_table.specs.Standing.{IsSoundTable};
 ghost use Rattle.bt_table.specs.Tables.{PlainTable};
-ghost use Rattle.bt_view.specs.RecordTexts.{record_line};
+ghost use Rattle.bt_show.specs.RecordTexts.{record_line};
 ghost use Rattle.bt_laws.specs.Dumps.{HasPlainHeader, IsReadyFor, LoadsImagesOf, LoadsRowsOf};
 ghost use Rattle.bt_laws.specs.StoredTables.{IsStored};
 

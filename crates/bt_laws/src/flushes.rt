@@ -3,10 +3,10 @@ ghost use Rattle.std.specs.Prelude.{List};
 ghost use Rattle.bt_messages.specs.Meanings.{meaning_of};
 ghost use Rattle.bt_messages.specs.Weights.{weigh_of};
 ghost use Rattle.bt_messages.specs.declared.message.Message.{Message};
-ghost use Rattle.bt_node.specs.Fits.{HasShape};
-ghost use Rattle.bt_node.specs.Flushes.{Child, Flush};
-ghost use Rattle.bt_node.specs.Messages.{Messages};
-ghost use Rattle.bt_node.specs.Trees.{Shape, Tree};
+ghost use Rattle.bt_form.specs.Fits.{HasShape};
+ghost use Rattle.bt_form.specs.Flushes.{Child, Flush};
+ghost use Rattle.bt_form.specs.Messages.{Messages};
+ghost use Rattle.bt_form.specs.Trees.{Shape, Tree};
 ghost use Rattle.bt_laws.specs.FlushSizes.{FlushesAreFew, FlushesAreFewInAll, FlushesAreLarge};
 
 use bt_messages::Merge;

@@ -1,8 +1,8 @@
 //! The height of trees.
 ghost use Rattle.bt_messages.specs.Weights.{weigh_of};
 ghost use Rattle.bt_messages.specs.declared.message.Message.{Message};
-ghost use Rattle.bt_node.specs.Fits.{HasShape};
-ghost use Rattle.bt_node.specs.Trees.{Shape, Tree};
+ghost use Rattle.bt_form.specs.Fits.{HasShape};
+ghost use Rattle.bt_form.specs.Trees.{Shape, Tree};
 ghost use Rattle.bt_laws.specs.Heights.{HasFewLevels, HasManyLeaves};
 
 use bt_messages::Merge;

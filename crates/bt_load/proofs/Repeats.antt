@@ -23,7 +23,7 @@ use Rattle.bt_keycode.proofs.offered.Truths.{not_true, t_both}
 use Rattle.bt_keycode.specs.Standing.{RowMap, row_key}
 use Rattle.bt_load.specs.Maps.{key_at, keyed_rows, map_of}
 use Rattle.bt_load.specs.Steps.{placed_cmp}
-use Rattle.bt_load.specs.inside.Sorts.{IsFirstRepeat, IsKeyBelow, Repeats, at, lesser_of, pair_at, placed_from}
+use Rattle.bt_load.specs.inside.Sorts.{IsFirstRepeat, IsKeyBelow, Repeats, at, lower_of, pair_at, placed_from}
 use Rattle.bt_load.specs.declared.placed.Placed.{Placed}
 use Rattle.bt_load.proofs.Maps.{refused_is_first}
 use Rattle.bt_load.proofs.Orders.{placed_before, placed_ranks}
@@ -267,8 +267,8 @@ module _ (keys : ℕ) (rows : List (List Value)) (placed : List Placed) (moved :
       refused_is_first keys rows before.0 place (omega (arith, within, long)) below same (λ k i low under e.
       let in_k : k < length rows = omega (arith, low, within) in
       let again = repeats_for k i in_k under (sym (key-at keys rows i (omega (arith, under, in_k))) ∙ e ∙ key-at keys rows k in_k) in
-      let least = found.1 again.0 again.1.within again.1 in
-      omega (arith, least, again.2, low))
+      let lowest = found.1 again.0 again.1.within again.1 in
+      omega (arith, lowest, again.2, low))
 
 -- ---- one more place in order is read
 
@@ -284,7 +284,7 @@ one_more_stays placed most (Some place) not before = (
 )
 
 pub one_more_repeats : (placed : List Placed) (most : ℕ) (found : Option ℕ) (place : ℕ) → Repeats placed most → place ≡ (at placed most).place → IsFirstRepeat placed most found
-    → IsFirstRepeat placed (most + 1) (Some (lesser_of found place))
+    → IsFirstRepeat placed (most + 1) (Some (lower_of found place))
 one_more_repeats placed most None place repeat is before = (
   (most, repeat, sym is),
   λ n within again. elim (eqb_tells n most) [
@@ -297,7 +297,7 @@ one_more_repeats placed most (Some found) place repeat is before = (
   by_order (cases_lt found place),
   λ n within again. elim (eqb_tells n most) [
     | inl e ↦ (let same = ap (λ k. (at placed k).place) e.1 in let low = min-le_right found place in omega (arith, is, same, low))
-    | inr other ↦ (let least = before.1 n (below_more n most within other.1) again in let low = min-le_left found place in omega (arith, least, low))
+    | inr other ↦ (let lowest = before.1 n (below_more n most within other.1) again in let low = min-le_left found place in omega (arith, lowest, low))
   ],
 )
   where

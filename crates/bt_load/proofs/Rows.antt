@@ -4,7 +4,7 @@ use Rattle.std.specs.List.{filter_map}
 use Rattle.std.specs.Result.{result_err, result_map_both, result_ok}
 use Rattle.bt_value.specs.Answers.{Answers}
 use Rattle.bt_value.specs.Results.{all_read, unless}
-use Rattle.bt_value.specs.Refusals.{least}
+use Rattle.bt_value.specs.Refusals.{lowest}
 use Rattle.bt_value.specs.Values.{AreInRange}
 use Rattle.bt_row.specs.Schemas.{read_as}
 use Rattle.bt_value.specs.declared.refusal.Refusal.{Refusal}
@@ -35,7 +35,7 @@ values_are (Some r) values rows e = cc
 pub read_rows : (columns : List Column) (item : ℕ) (records : List (List (List ℕ))) (rows : List (List Value)) → all_read (typed_from columns item records) ≡ Ok rows → AreOf columns rows
 read_rows columns item records rows is =
     let reads = typed_from columns item records in
-    subst (AreOf columns) (values_are (least (filter_map result_err reads)) (filter_map result_ok reads) rows is) (typed_rows columns item records)
+    subst (AreOf columns) (values_are (lowest (filter_map result_err reads)) (filter_map result_ok reads) rows is) (typed_rows columns item records)
 
 pub answered_rows : {T : Type 0} (items : T → List (List Value)) (columns : List Column) (records : List (List (List ℕ))) (r : Result T Refusal)
     → Answers (all_read (typed_from columns 1 records)) (result_map_both items (λ e. e) r) → IfOk r (λ rows. AreOf columns (items rows))

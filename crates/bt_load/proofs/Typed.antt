@@ -1,13 +1,12 @@
 -- Records that are typed one after the other, and one by one.
-use Rattle.std.proofs.Common.{◌≡◌, ℕ, zero, suc, ◌+◌, ◌<◌, ◌==◌, true, false, List, [], ◌∷◌, drop, get_or, length, map}
-use Rattle.std.proofs.Common.{refl, subst, sym, ap, ◌∙◌, arith, Option, None, Some, Result, Ok, Err, if◌then◌else◌}
+use Rattle.std.proofs.Common.{◌≡◌, ℕ, zero, suc, ◌+◌, ◌<◌, List, [], ◌∷◌, drop, get_or, length, map}
+use Rattle.std.proofs.Common.{refl, subst, sym, ap, ◌∙◌, arith, Option, None, Result, Ok}
 use Rattle.std.specs.List.{filter_map}
 use Rattle.std.specs.Result.{result_err, result_ok}
-use Rattle.bt_value.specs.Results.{all_read, unless, or_refused}
-use Rattle.bt_value.specs.Refusals.{least}
-use Rattle.bt_row.specs.Schemas.{read_as, values_of}
+use Rattle.bt_value.specs.Results.{all_read, unless}
+use Rattle.bt_value.specs.Refusals.{lowest}
+use Rattle.bt_row.specs.Schemas.{read_as}
 use Rattle.bt_value.specs.declared.refusal.Refusal.{Refusal}
-use Rattle.bt_value.specs.declared.refusal.Refusal.TheVariants.{BadField, BadLength}
 use Rattle.bt_row.specs.declared.schema.Column.{Column}
 use Rattle.bt_value.specs.declared.value.Value.{Value}
 use Rattle.bt_load.specs.Loads.{typed_from}
@@ -33,16 +32,12 @@ typed_next columns item zero (fields ∷ records) d within =
 typed_next columns item (suc place) (fields ∷ records) d within =
     let here : item + 1 + place ≡ item + suc place = omega arith in
     let next : item + 1 + (place + 1) ≡ item + (suc place + 1) = omega arith in
-    let behind : suc (place + 1) ≡ suc place + 1 = omega arith in
+    let following : suc (place + 1) ≡ suc place + 1 = omega arith in
     sym (from_item columns (item + 1 + place) (item + suc place) (drop place records) here)
     ∙ typed_next columns (item + 1) place records d (omega (arith, within))
-    ∙ (λ i. read_as columns (here i) (get_or records place d) ∷ typed_from columns (next i) (drop (behind i) (fields ∷ records)))
+    ∙ (λ i. read_as columns (here i) (get_or records place d) ∷ typed_from columns (next i) (drop (following i) (fields ∷ records)))
 
 -- ---- one by one
-
-spelt : (i j : ℕ) (o : Option (List Value)) (row : List Value) → or_refused (BadField i) o ≡ Ok row → or_refused (BadField j) o ≡ Ok row
-spelt i j None row e = cc
-spelt i j (Some values) row e = e
 
 abbrev row_answer : List Value → Answer
 row_answer row = Ok row
@@ -71,7 +66,7 @@ pub all_rows : (columns : List Column) (records : List Fields) (rows : List (Lis
     → all_read (typed_from columns 1 records) ≡ Ok rows
 all_rows columns records rows long are some =
     ap all_read (rows_of columns 1 records rows long each some)
-    ∙ ap (λ refusals. unless (least refusals) (filter_map result_ok (map row_answer rows))) (errs rows)
+    ∙ ap (λ refusals. unless (lowest refusals) (filter_map result_ok (map row_answer rows))) (errs rows)
     ∙ ap Ok (oks rows)
   where
     each : (k : ℕ) → k < length rows → IsRowOrNone columns (get_or records k []) (get_or rows k [])
@@ -79,5 +74,5 @@ all_rows columns records rows long are some =
 
 -- the result of reading all one after the other
 pub all_finish : (columns : List Column) (records : List Fields) (values : List (List Value)) (refusal : Option Refusal) → values ≡ filter_map result_ok (typed_from columns 1 records)
-    → refusal ≡ least (filter_map result_err (typed_from columns 1 records)) → all_read (typed_from columns 1 records) ≡ unless refusal values
-all_finish columns records values refusal are least_is = λ i. unless (sym least_is i) (sym are i)
+    → refusal ≡ lowest (filter_map result_err (typed_from columns 1 records)) → all_read (typed_from columns 1 records) ≡ unless refusal values
+all_finish columns records values refusal are lowest_is = λ i. unless (sym lowest_is i) (sym are i)

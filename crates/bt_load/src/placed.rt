@@ -5,7 +5,7 @@ ghost use Rattle.std.specs.Prelude.{◌≡◌, ◌≢◌, ◌<◌, ◌≤◌, �
 ghost use Rattle.bt_keycode.specs.Occurrences.{AreDistinctBelow};
 ghost use Rattle.bt_load.specs.Maps.{map_of};
 ghost use Rattle.bt_load.specs.Steps.{AreKeysOrNone, IsKeyOrNone, placed_cmp};
-ghost use Rattle.bt_load.specs.inside.Sorts.{HaveKeys, IsFirstRepeat, IsKeyBelow, lesser_of, pair_at, placed_from, places_of, repeats_at};
+ghost use Rattle.bt_load.specs.inside.Sorts.{HaveKeys, IsFirstRepeat, IsKeyBelow, lower_of, pair_at, placed_from, places_of, repeats_at};
 
 use crate::loading::Loading;
 use bt_keycode::{Key, encode_row};
@@ -154,8 +154,8 @@ fn repeats(placed: &[Placed], next: usize) -> bool
 }
 
 // The smaller of a place that was found, if one was, and another place.
-fn lesser(found: Option<usize>, place: usize) -> usize
-    ensures { result ≡ lesser_of found place }
+fn lower(found: Option<usize>, place: usize) -> usize
+    ensures { result ≡ lower_of found place }
 {
     match found {
         Some(other) => other.min(place),
@@ -170,7 +170,7 @@ fn first_repeat(placed: &[Placed]) -> Option<usize>
     let mut first: Option<usize> = None;
     for next in 1..placed.len() {
         if repeats(placed, next) {
-            first = Some(lesser(first, placed[next].place));
+            first = Some(lower(first, placed[next].place));
         }
     }
     first

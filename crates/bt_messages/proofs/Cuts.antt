@@ -5,7 +5,7 @@ use Rattle.std.proofs.Math.Seq.{drop-length, take-length}
 use Rattle.std.proofs.lemmas.List.{take_rest}
 use Rattle.std.proofs.lemmas.List.Filters.{length-filter_both}
 use Rattle.std.specs.List.{filter}
-use Rattle.std.specs.List.Sorted.{IsPartitionedBy, IsPartitionPoint}
+use Rattle.std.specs.List.Sorted.{IsPartitionedBy}
 use Rattle.std.specs.Option.{MatchOption}
 use Rattle.bt_keycode.specs.Keys.{AllFrom, IsSorted, is_before, is_before_lower, is_before_upper, is_between}
 use Rattle.bt_messages.specs.Messages.{Messages, messages_before, messages_between, messages_from, messages_outside, with_messages}
@@ -43,17 +43,6 @@ module _ {X : Type 0} (p : X → Bool) where
       let others = none_passes xs (λ j d l m. h (suc j) d (omega arith) (omega arith)) in (
         others.0 ∙ ap (λ b. cond b (x ∷ filter p xs) (filter p xs)) (sym here),
         ap (λ ys. x ∷ ys) others.1 ∙ ap (λ b. cond (not b) (x ∷ filter (λ y. not (p y)) xs) (filter (λ y. not (p y)) xs)) (sym here),
-      )
-
-  -- if a list satisfies a test up to a place and not after it, the two filters are the two parts
-  pub parts_are : (xs : List X) (n : ℕ) → IsPartitionPoint (λ x. p x ≡ true) (λ x. p x ≡ false) xs n → (take n xs ≡ filter p xs) × (drop n xs ≡ filter (λ x. not (p x)) xs)
-  parts_are xs zero h = none_passes xs h.1
-  parts_are [] (suc n) h = (refl, refl)
-  parts_are (x ∷ xs) (suc n) h =
-      let here : p x ≡ true = h.0 0 x (omega arith) (omega arith) in
-      let others = parts_are xs n ((λ k d l m. h.0 (suc k) d (omega arith) (omega arith)), (λ k d l m. h.1 (suc k) d (omega arith) (omega arith))) in (
-        ap (λ ys. x ∷ ys) others.0 ∙ ap (λ b. cond b (x ∷ filter p xs) (filter p xs)) (sym here),
-        others.1 ∙ ap (λ b. cond (not b) (x ∷ filter (λ y. not (p y)) xs) (filter (λ y. not (p y)) xs)) (sym here),
       )
 
   pub filter_both : (q : X → Bool) (xs : List X) → filter (λ x. q x && p x) xs ≡ filter q (filter p xs)
@@ -181,11 +170,11 @@ module _ {M : Type 0} where
         ap (λ b. cond (not b) (m ∷ messages_from k ms) (messages_from k ms)) here ∙ ap (λ zs. m ∷ zs) others.1,
       )
 
-  pub behind : (k : List ℕ) (newer older : Messages M) → AllFrom k newer → IsSorted older → messages_before k older ++ with_messages newer (messages_from k older) ≡ with_messages newer older
-  behind k newer [] h i = refl
-  behind k newer (e ∷ es) h i = elim (is_before e.0 k) as (λ t. is_before e.0 k ≡ t →
+  pub following : (k : List ℕ) (newer older : Messages M) → AllFrom k newer → IsSorted older → messages_before k older ++ with_messages newer (messages_from k older) ≡ with_messages newer older
+  following k newer [] h i = refl
+  following k newer (e ∷ es) h i = elim (is_before e.0 k) as (λ t. is_before e.0 k ≡ t →
       cond t (e ∷ messages_before k es) (messages_before k es) ++ with_messages newer (cond (not t) (e ∷ messages_from k es) (messages_from k es)) ≡ with_messages newer (e ∷ es)) [
-        | true ↦ λ t. ap (λ zs. e ∷ zs) (behind k newer es h i.1) ∙ sym (first_stays e newer es (from_earlier e.0 k newer (not_after e.0 k t) h))
+        | true ↦ λ t. ap (λ zs. e ∷ zs) (following k newer es h i.1) ∙ sym (first_stays e newer es (from_earlier e.0 k newer (not_after e.0 k t) h))
         | false ↦ λ t.
             let others = none_before k e.0 es t i.0 in
             ap (λ zs. zs ++ with_messages newer (e ∷ messages_from k es)) others.0 ∙ ap (λ zs. with_messages newer (e ∷ zs)) others.1

@@ -116,10 +116,10 @@ empty_more ns from place before here = λ j f l. below_more (λ k. from ≤ k �
 
 -- if none before a place and none after it has messages, no other has
 pub only_at : (ns : List ℕ) (p : ℕ) → ((j : ℕ) → 0 ≤ j → j < p → get_or ns j 0 ≡ 0) → ((j : ℕ) → p + 1 ≤ j → j < length ns → get_or ns j 0 ≡ 0) → (j : ℕ) → j ≢ p → get_or ns j 0 ≡ 0
-only_at ns p before behind j other = elim (leb_tells (length ns) j) [
+only_at ns p before following j other = elim (leb_tells (length ns) j) [
   | inl past ↦ past_all ns j past.1
   | inr within ↦ elim (leb_tells p j) [
-    | inl high ↦ behind j (omega (arith, high.1, other)) within.1
+    | inl high ↦ following j (omega (arith, high.1, other)) within.1
     | inr low ↦ before j (omega arith) low.1
   ]
 ]

@@ -1,13 +1,12 @@
 -- One pass over older and newer messages, or newer ones after all older ones, for `merge_front`.
-use Rattle.std.proofs.Common.{◌≡◌, ◌==◌, Ordering, Less, Equal, Greater, ℕ, zero, suc, ◌-◌, ◌<◌, ◌≤◌, true, false, List, [], ◌∷◌, ◌++◌}
-use Rattle.std.proofs.Common.{append_assoc, append-nil, get_or, length, take, refl, sym, ap, subst, ◌∙◌, arith, if◌then◌else◌}
-use Rattle.std.proofs.Math.Seq.{take-nil}
+use Rattle.std.proofs.Common.{◌≡◌, ◌==◌, Ordering, Less, Equal, Greater, ℕ, zero, suc, ◌<◌, true, false, List, [], ◌∷◌, ◌++◌}
+use Rattle.std.proofs.Common.{append_assoc, get_or, length, take, refl, sym, ap, subst, ◌∙◌, arith, if◌then◌else◌}
 use Rattle.std.proofs.lemmas.Bool.{false≢true}
 use Rattle.std.specs.Ordering.{is_lt, ordering_index}
 use Rattle.bt_keycode.specs.Keys.{AllFrom, IsSorted, is_before}
 use Rattle.bt_messages.specs.Messages.{Messages, messages_past, messages_up_to, with_messages}
 use Rattle.bt_messages.proofs.Cuts.{from_first, nothing}
-use Rattle.bt_messages.proofs.offered.Fronts.{from-take, sorted_take}
+use Rattle.bt_messages.proofs.offered.Fronts.{sorted_take}
 use Rattle.bt_messages.proofs.offered.Placed.{alone, first_stays, newer_first, newer_last}
 use Rattle.bt_keycode.proofs.offered.Order.{from_earlier}
 
@@ -34,39 +33,21 @@ step {M} n ns rest os past wanted start between done e h w b p d =
     ∙ ap (λ zs. done ++ with_messages ns zs) (sym p)
 
 -- new messages come after all old ones if none of them goes before the last of these
-pub all_behind : {M : Type 0} (older newer : Messages M) (last : List ℕ × M) (i : ℕ) → IsSorted older → IsSorted newer → length older ≡ suc i → last ≡ get_or older i last → AllFrom last.0 newer →
+pub all_following : {M : Type 0} (older newer : Messages M) (last : List ℕ × M) (i : ℕ) → IsSorted older → IsSorted newer → length older ≡ suc i → last ≡ get_or older i last → AllFrom last.0 newer →
     with_messages newer older ≡ older ++ newer
-all_behind [] newer last i h n l e f = alone newer n
-all_behind {M = M} (o ∷ []) newer last zero h n l e f =
+all_following [] newer last i h n l e f = alone newer n
+all_following {M = M} (o ∷ []) newer last zero h n l e f =
     first_stays o newer [] (subst (λ (m : List ℕ × M). AllFrom m.0 newer) e f) ∙ ap (λ zs. o ∷ zs) (alone newer n)
-all_behind (o ∷ []) newer last (suc i) h n l e f = absurd (omega (arith, l))
-all_behind (o ∷ p ∷ os) newer last zero h n l e f = absurd (omega (arith, l))
-all_behind {M = M} (o ∷ p ∷ os) newer last (suc i) h n l e f =
+all_following (o ∷ []) newer last (suc i) h n l e f = absurd (omega (arith, l))
+all_following (o ∷ p ∷ os) newer last zero h n l e f = absurd (omega (arith, l))
+all_following {M = M} (o ∷ p ∷ os) newer last (suc i) h n l e f =
     let later : is_before last.0 o.0 ≡ false = ap (λ (m : List ℕ × M). is_before m.0 o.0) e ∙ from_first o.0 (p ∷ os) i last h.0 (omega (arith, l)) in
-    first_stays o newer (p ∷ os) (from_earlier o.0 last.0 newer later f) ∙ ap (λ zs. o ∷ zs) (all_behind (p ∷ os) newer last i h.1 n (omega (arith, l)) e f)
-
-from_head : {M : Type 0} (k : List ℕ) (ms : Messages M) (m : List ℕ × M) → IsSorted ms → m ≡ get_or ms 0 m → is_before m.0 k ≡ false → AllFrom k ms
-from_head k [] m h e f = tt
-from_head {M = M} k (n ∷ ns) m h e f =
-    let here : is_before n.0 k ≡ false = ap (λ (x : List ℕ × M). is_before x.0 k) (sym e) ∙ f in
-    (here, from_earlier k n.0 ns here h.0)
+    first_stays o newer (p ∷ os) (from_earlier o.0 last.0 newer later f) ∙ ap (λ zs. o ∷ zs) (all_following (p ∷ os) newer last i h.1 n (omega (arith, l)) e f)
 
 module _ {M : Type 0} (older s : Messages M) (n : ℕ) where
-  -- no new message
-  pub none_new : length s ≤ 0 → with_messages (take n s) older ≡ older ++ take n s
-  none_new l =
-      subst (λ zs. with_messages (take n zs) older ≡ older ++ take n zs) (sym (nothing s (omega (arith, l))))
-      (subst (λ zs. with_messages zs older ≡ older ++ zs) (sym (take-nil n)) (sym (append-nil older)))
-
   -- no old message
   pub none_old : length older < 1 → IsSorted s → with_messages (take n s) older ≡ older ++ take n s
   none_old l h = subst (λ os. with_messages (take n s) os ≡ os ++ take n s) (sym (nothing older (omega (arith, l)))) (alone (take n s) (sorted_take n s h))
-
-  -- the first new message does not go before the last old one
-  pub first_behind : (first last : List ℕ × M) → IsSorted older → IsSorted s → 1 ≤ length older → last ≡ get_or older (length older - 1) last → first ≡ get_or s 0 first →
-      is_before first.0 last.0 ≡ false → with_messages (take n s) older ≡ older ++ take n s
-  first_behind first last h i l e f b =
-      all_behind older (take n s) last (length older - 1) h (sorted_take n s i) (omega (arith, l)) e (from-take last.0 n s (from_head last.0 s first i f b))
 
 -- the moves end at a message whose key is past this one
 pub ends_at : {M : Type 0} (k : List ℕ) (ms : Messages M) (m : List ℕ × M) → 0 < length ms → m ≡ get_or ms 0 m → is_before k m.0 ≡ true →

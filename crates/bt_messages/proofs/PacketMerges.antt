@@ -88,12 +88,12 @@ module _ {M : Type 0} where
   some_first (m ∷ r) empty rs new e f h l = subst (AreSome {X = List ℕ × M}) (sym l) (omega arith, h)
 
   -- what is left of older and newer messages may follow what is merged
-  pub older_behind : (p o n q older newer : Messages M) → p ++ (o ++ n) ≡ with_messages newer older → IsSorted older → q ≡ o → IsSorted (p ++ q)
-  older_behind p o n q older newer e h f =
+  pub older_after : (p o n q older newer : Messages M) → p ++ (o ++ n) ≡ with_messages newer older → IsSorted older → q ≡ o → IsSorted (p ++ q)
+  older_after p o n q older newer e h f =
       let whole : (p ++ q) ++ n ≡ with_messages newer older = ap (λ z. (p ++ z) ++ n) f ∙ append_assoc p o n ∙ e in
       sorted_left (p ++ q) n (subst (IsSorted {X = M}) (sym whole) (sorted-with_messages newer older h))
 
-  pub newer_behind : (p o n q t whole older newer : Messages M) → p ++ (o ++ n) ≡ with_messages newer older → IsSorted older → q ≡ o → whole ≡ p ++ q → t ≡ n → IsSorted (whole ++ t)
-  newer_behind p o n q t whole older newer e h f l k =
+  pub newer_after : (p o n q t whole older newer : Messages M) → p ++ (o ++ n) ≡ with_messages newer older → IsSorted older → q ≡ o → whole ≡ p ++ q → t ≡ n → IsSorted (whole ++ t)
+  newer_after p o n q t whole older newer e h f l k =
       let is : whole ++ t ≡ with_messages newer older = ap (λ z. whole ++ z) k ∙ ap (λ z. z ++ n) (l ∙ ap (λ z. p ++ z) f) ∙ append_assoc p o n ∙ e in
       subst (IsSorted {X = M}) (sym is) (sorted-with_messages newer older h)

@@ -10,7 +10,7 @@ use Rattle.bt_value.specs.Lists.{concatenation}
 use Rattle.bt_messages.specs.Bins.{AllBefore}
 use Rattle.bt_messages.specs.Messages.{Messages, with_messages}
 use Rattle.bt_messages.specs.inside.Runs.{AreRuns, AreSome, begins_before}
-use Rattle.bt_messages.proofs.Merging.{all_behind}
+use Rattle.bt_messages.proofs.Merging.{all_following}
 use Rattle.bt_messages.proofs.offered.Fronts.{from-take, sorted_take}
 
 pub some_there : (n : ℕ) → false ≡ (n == 0) → 1 ≤ n
@@ -181,9 +181,6 @@ module _ {M : Type 0} where
   abbrev pub Parts : List ℕ → ℕ → Messages M → Type 0
   Parts k n ms = AllBefore k (take n ms) × AllFrom k (drop n ms)
 
-  pub placed_first : (k : List ℕ) (a b : Messages M) (p : ℕ) → p ≤ length a → AllBefore k (take p a) → AllFrom k (drop p a) → AllFrom k b → Parts k p (a ++ b)
-  placed_first k a b p l g h i = (before_front k a b p l g, from_front k a b p l h i)
-
   pub placed_run : (k : List ℕ) (a : Messages M) (rs : List (Messages M)) (n m p at : ℕ) (r : Messages M) → IsSorted (a ++ concatenation rs) → n < length rs → begins_before k (get_or rs n []) ≡ true →
       m ≡ suc n → AllFrom k (concatenation (drop m rs)) → r ≡ get_or rs n [] → p ≤ length r → AllBefore k (take p r) → AllFrom k (drop p r) → at ≡ length a + length (concatenation (take n rs)) + p →
       Parts k at (a ++ concatenation rs)
@@ -201,26 +198,10 @@ module _ {M : Type 0} where
 
   -- ---- what begins before a key
 
-  pub begins_first : (k : List ℕ) (a b : Messages M) (m : List ℕ × M) → 0 < length a → m ≡ get_or a 0 m → is_before m.0 k ≡ begins_before k (a ++ b)
-  begins_first k [] b m l e = absurd (omega (arith, l))
-  begins_first k (n ∷ a) b m l e = ap (λ (x : List ℕ × M). is_before x.0 k) e
-
-  pub begins_run : (k : List ℕ) (a : Messages M) (rs : List (Messages M)) (r : Messages M) → length a ≡ 0 → AreSome rs → 0 < length rs → r ≡ get_or rs 0 r
-      → begins_before k r ≡ begins_before k (a ++ concatenation rs)
-  begins_run k (m ∷ a) rs r z s l e = absurd (omega (arith, z))
-  begins_run k [] [] r z s l e = absurd (omega (arith, l))
-  begins_run k [] ([] ∷ rs) r z s l e = absurd (omega (arith, s.0))
-  begins_run k [] ((m ∷ q) ∷ rs) r z s l e = ap (begins_before k) e
-
-  pub begins_none : (k : List ℕ) (a : Messages M) (rs : List (Messages M)) → length a ≡ 0 → length rs ≡ 0 → false ≡ begins_before k (a ++ concatenation rs)
-  begins_none k (m ∷ a) rs z w = absurd (omega (arith, z))
-  begins_none k [] (r ∷ rs) z w = absurd (omega (arith, w))
-  begins_none k [] [] z w = refl
-
   -- newer messages that do not begin before the last old one come after all old ones
-  pub behind_last : (older s : Messages M) (last : List ℕ × M) (n : ℕ) → IsSorted older → IsSorted s → 1 ≤ length older → last ≡ get_or older (length older - 1) last →
+  pub after_last : (older s : Messages M) (last : List ℕ × M) (n : ℕ) → IsSorted older → IsSorted s → 1 ≤ length older → last ≡ get_or older (length older - 1) last →
       begins_before last.0 s ≡ false → with_messages (take n s) older ≡ older ++ take n s
-  behind_last older s last n h i l e f = all_behind older (take n s) last (length older - 1) h (sorted_take n s i) (omega (arith, l)) e (from-take last.0 n s (begun last.0 s i f))
+  after_last older s last n h i l e f = all_following older (take n s) last (length older - 1) h (sorted_take n s i) (omega (arith, l)) e (from-take last.0 n s (begun last.0 s i f))
 
   -- ---- what is taken off
 

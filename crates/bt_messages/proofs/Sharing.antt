@@ -1,7 +1,7 @@
 -- Shares of a stream moved to bins, one after the other, for the loops of `move_each` and `room_for_each`.
 use Rattle.std.proofs.Common.{◌≡◌, ℕ, zero, suc, ◌<◌, ◌≤◌, ◌+◌, ◌-◌, List, [], ◌∷◌, ◌++◌, Vec, Global, append_assoc, length, take}
 use Rattle.std.proofs.Common.{drop, get_or, set, vec_len, vec_capacity, Result, Ok, Err, IfOk, refl, sym, ap, subst, ◌∙◌, arith}
-use Rattle.std.proofs.lemmas.List.{drop-drop, drop-set-lt, length-drop, drop_more, take_more_set}
+use Rattle.std.proofs.lemmas.List.{drop-drop, drop-set-lt, drop_more, take_more_set}
 use Rattle.bt_keycode.specs.Keys.{IsSorted}
 use Rattle.bt_messages.specs.Bins.{each_with}
 use Rattle.bt_messages.specs.Parts.{parted, total}
@@ -103,9 +103,6 @@ module _ {M : Type 0} where
     pub left_next : (wanted : Messages M) → s' ≡ drop n s → drop (total (drop i ns)) s ≡ wanted → drop (total (drop (i + 1) ns)) s' ≡ wanted
     left_next wanted left w =
         ap (drop (total (drop (i + 1) ns))) left ∙ drop-drop (total (drop (i + 1) ns)) n s ∙ sym (ap (λ ks. drop (total ks) s) shares_next) ∙ w
-
-    pub enough_next : s' ≡ drop n s → total (drop i ns) ≤ length s → total (drop (i + 1) ns) ≤ length s'
-    enough_next left l = omega (arith, l, ap total shares_next, ap length left, length-drop n s)
 
   -- the room of the next bin
   pub room_here : (ns : List ℕ) (bs : List (Messages M)) (rs : List (Vec (List ℕ × M) Global)) (i n : ℕ) (old : Messages M) (r : Vec (List ℕ × M) Global) →

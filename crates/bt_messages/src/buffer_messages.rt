@@ -71,7 +71,7 @@ impl<'a, V: Merge> BufferMessages<'a, V> {
     }
 
     // These messages, followed by those of the buffers.
-    pub(crate) fn behind(first: Messages<'a, V>, others: &'a [Buffer<V>]) -> Self
+    pub(crate) fn following(first: Messages<'a, V>, others: &'a [Buffer<V>]) -> Self
         ensures { result ≡ first.entry ++ concatenation others.now }
     {
         BufferMessages { first, others }

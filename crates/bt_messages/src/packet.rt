@@ -111,13 +111,13 @@ impl<V: Merge> Packet<V> {
 
     /// Appends messages, none of which comes before one of these. No message is moved. An `Err` changes nothing here, but drops the
     /// other packet.
-    pub fn append(&mut self, behind: Packet<V>) -> Result<(), AllocError>
-        requires { IsSorted (self.old ++ behind) }
-        ensures ok { OnOk result (self.new ≡ self.old ++ behind) }
+    pub fn append(&mut self, following: Packet<V>) -> Result<(), AllocError>
+        requires { IsSorted (self.old ++ following) }
+        ensures ok { OnOk result (self.new ≡ self.old ++ following) }
         ensures err { OnErr result (self.new ≡ self.old) }
     {
-        let count = count_of_both(self.count, behind.len())?;
-        let mut runs = behind.into_runs()?;
+        let count = count_of_both(self.count, following.len())?;
+        let mut runs = following.into_runs()?;
         self.rest.append(&mut runs)?;
         self.count = count;
         Ok(())
@@ -190,7 +190,7 @@ impl<V: Merge> Packet<V> {
         ensures messages { result ≡ self.now }
         ensures sorted { IsSorted self.now }
     {
-        BufferMessages::behind(self.first.iter(), self.rest.as_slice())
+        BufferMessages::following(self.first.iter(), self.rest.as_slice())
     }
 
     /// A stream of the messages. Allocates nothing.

@@ -132,7 +132,7 @@ fn merge_front<V: Merge>(
     ensures merged { merged.new.items ≡ merged.old.items ++ with_messages (take count stream.old) older.items }
     ensures left { stream.new ≡ drop count stream.old }
 {
-    if stream.is_behind(older.as_slice()) {
+    if stream.is_after(older.as_slice()) {
         append_reserved(merged, VecDeque::from(older));
         return stream.move_front(count, merged);
     }

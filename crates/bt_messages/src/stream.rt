@@ -266,8 +266,8 @@ impl<V: Merge> Stream<V> {
         let (first, second) = self.first.as_slices();
         let (runs, others) = self.rest.as_slices();
         StreamMessages::of(
-            BufferMessages::behind(Messages::of_sorted(first), &[]),
-            BufferMessages::behind(Messages::of_sorted(second), runs),
+            BufferMessages::following(Messages::of_sorted(first), &[]),
+            BufferMessages::following(Messages::of_sorted(second), runs),
             BufferMessages::of(others),
         )
     }
@@ -404,7 +404,7 @@ impl<V: Merge> Stream<V> {
     }
 
     // Whether all messages come after these, because the first one has a key at or past that of the last of these.
-    pub(crate) fn is_behind(&self, older: &[(Key, Message<V>)]) -> bool
+    pub(crate) fn is_after(&self, older: &[(Key, Message<V>)]) -> bool
         requires { IsSorted older.now }
         ensures { result ≡ true → (count : ℕ) → with_messages (take count self.now) older.now ≡ older.now ++ take count self.now }
     {

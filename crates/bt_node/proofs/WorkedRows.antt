@@ -15,15 +15,15 @@ use Rattle.bt_value.specs.declared.value.Value.{Value}
 use Rattle.bt_value.specs.declared.value.Value.TheVariants.{Int}
 use Rattle.bt_keycode.specs.Codes as codes
 use Rattle.bt_keycode.specs.Keys.{Key}
-use Rattle.bt_node.specs.Messages.{rows_after}
-use Rattle.bt_node.specs.Deals.{sizes}
-use Rattle.bt_node.specs.Plans.{planned}
-use Rattle.bt_node.specs.Marks.{flush_marks}
-use Rattle.bt_node.specs.declared.form.mode.Mode.TheVariants.{Absorb, Drain}
-use Rattle.bt_node.specs.Trees.{Shape, Tree, leaf, inner, Nodes, none, node}
-use Rattle.bt_node.specs.Flushes.{sunk, holds}
-use Rattle.bt_node.specs.Drains.{drained, packed, rebuilt}
-use Rattle.bt_node.specs.inside.Lookups.{tree_value}
+use Rattle.bt_form.specs.Messages.{rows_after}
+use Rattle.bt_form.specs.Deals.{sizes}
+use Rattle.bt_form.specs.Plans.{planned}
+use Rattle.bt_form.specs.Marks.{flush_marks}
+use Rattle.bt_form.specs.declared.mode.Mode.TheVariants.{Absorb, Drain}
+use Rattle.bt_form.specs.Trees.{Shape, Tree, leaf, inner, Nodes, none, node}
+use Rattle.bt_form.specs.Flushes.{sunk, holds}
+use Rattle.bt_flush.specs.Drains.{drained, packed, rebuilt}
+use Rattle.bt_read.specs.inside.Lookups.{tree_value}
 use Rattle.bt_node.proofs.offered.SampleTrees.{Change, adds, dels, entry, four_leaves, k, k_minus_1, meaning, merged, minus_10, puts, shape, split_leaf, three_high, two, two_leaves}
 
 abbrev effect : Option ℤ → Change → Option ℤ

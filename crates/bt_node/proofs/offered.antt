@@ -1,6 +1,5 @@
 -- What other crates may cite: statements that use only the definitions of this crate.
 pub mod FlushSteps
 pub mod PackedTrees
-pub mod Portions
 pub mod SampleTrees
 pub mod ShapedTrees

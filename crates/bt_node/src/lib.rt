@@ -44,23 +44,12 @@
 //! has worked examples of small trees, in `WorkedRows`.
 #![tactic(auto)]
 
-mod flush;
-mod form;
-mod read;
 mod tree;
 
-pub use flush::group::close;
-pub use flush::opening::{Opened, Step, open};
-pub use flush::planning::plan;
-pub use form::children::Children;
-pub use form::mode::Mode;
-pub use form::node::{Node, Parts, Siblings};
-pub use form::shape::{
-    LARGEST_BUFFER, LARGEST_FANOUT, LARGEST_LEAF, LARGEST_WEIGHED_BUFFER, SMALLEST_BUFFER,
-    SMALLEST_FANOUT, SMALLEST_LEAF, Shape,
+pub use bt_flush::{Opened, Step, close, open, plan};
+pub use bt_form::{
+    Children, LARGEST_BUFFER, LARGEST_FANOUT, LARGEST_LEAF, LARGEST_WEIGHED_BUFFER, Mode, Node,
+    Parts, RowSource, SMALLEST_BUFFER, SMALLEST_FANOUT, SMALLEST_LEAF, Shape, Siblings,
 };
-pub use form::source::RowSource;
-pub use read::portions::Portion;
-pub use read::visitor::{Copies, ForkVisitor, Visitor};
-pub use read::walk::Walk;
+pub use bt_read::{Copies, ForkVisitor, Portion, Visitor, Walk};
 pub use tree::{Tree, absorb_alone, crown, drain_alone, pack, pack_source, regroup};

@@ -8,27 +8,19 @@ ghost use Rattle.bt_messages.specs.Weights.{load, weigh_of};
 ghost use Rattle.bt_messages.specs.declared.message.Message.{Message};
 ghost use Rattle.bt_value.specs.Lists.{concatenation};
 ghost use Rattle.bt_messages.specs.Bins.{LieBetween};
-ghost use Rattle.bt_node.specs.Drains.{AreDry, IsDry, drain, drained, packed, rebuilt};
-ghost use Rattle.bt_node.specs.Fits.{AreFit, HasShape, IsInOrder};
-ghost use Rattle.bt_node.specs.Flushes.{absorb, crown, flush_in, grouped, holds, shared, sunk};
-ghost use Rattle.bt_node.specs.Laws.{ChosenArePlanned, ComeByOneRule, FitAbove, FitThere, FlushesInTurn, HoldAllAfter, HoldRowsAfter, HoldsAfter, HoldsAll, HoldsTheSame, KeepHeight, StandsAbove, StayWithoutPacket};
-ghost use Rattle.bt_node.specs.Messages.{Rows as RowsOf};
-ghost use Rattle.bt_node.specs.Trees.{leaf, nodes, pivots_of};
-ghost use Rattle.bt_node.specs.inside.Flushing.{IsReady};
+ghost use Rattle.bt_flush.specs.Drains.{AreDry, IsDry, drain, drained, packed, rebuilt};
+ghost use Rattle.bt_form.specs.Fits.{AreFit, HasShape, IsInOrder};
+ghost use Rattle.bt_form.specs.Flushes.{absorb, crown, flush_in, grouped, holds, shared, sunk};
+ghost use Rattle.bt_flush.specs.Laws.{ChosenArePlanned, ComeByOneRule, FitAbove, FitThere, FlushesInTurn, HoldAllAfter, HoldRowsAfter, HoldsAfter, HoldsAll, HoldsTheSame, KeepHeight, StandsAbove, StayWithoutPacket};
+ghost use Rattle.bt_form.specs.Messages.{Rows as RowsOf};
+ghost use Rattle.bt_form.specs.Trees.{leaf, nodes, pivots_of};
+ghost use Rattle.bt_form.specs.inside.Flushing.{IsReady};
 
-use crate::flush::crown::crown_node;
-use crate::flush::flushing::flush;
-use crate::flush::group::{close, leaves};
-use crate::flush::source_leaves::source_leaves;
-use crate::form::children::Children;
-use crate::form::mode::Mode;
-use crate::form::node::{Node, Siblings};
-use crate::form::rows::Rows;
-use crate::form::shape::Shape;
-use crate::form::source::RowSource;
-use crate::read::walk::Walk;
+use bt_flush::{close, crown_node, flush, leaves, source_leaves};
+use bt_form::{Children, Mode, Node, RowSource, Rows, Shape, Siblings};
 use bt_keycode::Key;
 use bt_messages::{Bins, Merge, Packet};
+use bt_read::Walk;
 use std::alloc::{AllocError, Global};
 use std::marker::Model;
 
@@ -42,9 +34,9 @@ pub struct Tree<V: Merge> {
 impl<V: Merge> Model for Tree<V> {
     ghost use Rattle.bt_messages.specs.Weights.{weigh_of};
     ghost use Rattle.bt_messages.specs.declared.message.Message.{Message};
-    ghost use Rattle.bt_node.specs.Trees as trees;
-    ghost use Rattle.bt_node.specs.Fits.{HasShape};
-    ghost use Rattle.bt_node.specs.Stored.{message_code, shaped_tree_code};
+    ghost use Rattle.bt_form.specs.Trees as trees;
+    ghost use Rattle.bt_form.specs.Fits.{HasShape};
+    ghost use Rattle.bt_form.specs.Stored.{message_code, shaped_tree_code};
 
     ghost Value = { trees.Shape × trees.Tree V (Message V V.Delta) };
 

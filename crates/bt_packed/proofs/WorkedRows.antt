@@ -2,7 +2,7 @@
 use Rattle.std.proofs.Common.{◌≡◌, ◌++◌, ℕ, List, [], ◌∷◌, pos, negsuc, refl, codes, true, false, Ok, Err, Some, None}
 use Rattle.std.specs.Char.{encode_utf8}
 use Rattle.std.specs.Str.{chars, is_utf8}
-use Rattle.bt_value.specs.declared.refusal.Refusal.TheVariants.{BadField, NoSuchColumn}
+use Rattle.bt_value.specs.declared.refusal.Refusal.TheVariants.{BadField, NoSuchColumn, NotInt}
 use Rattle.bt_value.specs.declared.value.Kind.{Kind}
 use Rattle.bt_value.specs.declared.value.Kind.TheVariants as kind
 use Rattle.bt_value.specs.declared.value.Value.TheVariants as value
@@ -20,6 +20,10 @@ column name of = record { name = name; kind = of }
 -- id:int city:text open:flag, with the first as the key
 abbrev shops : Schema
 shops = record { columns = column (codes "id") kind.Int ∷ column (codes "city") kind.Text ∷ column (codes "open") kind.Flag ∷ []; keys = 1 }
+
+-- id:int qty:int city:text, with the first as the key
+abbrev stock : Schema
+stock = record { columns = column (codes "id") kind.Int ∷ column (codes "qty") kind.Int ∷ column (codes "city") kind.Text ∷ []; keys = 1 }
 
 -- the eight bytes of 7
 abbrev seven : List ℕ
@@ -98,13 +102,26 @@ header_cut_off = refl
 
 -- ---- operations
 
-add_and_set : ops_at shops 1 (2 ∷ 1 ∷ 0 ∷ [] ++ (seven ++ (0 ∷ 1 ∷ 1 ∷ 65 ∷ []))) ≡ Ok (Add 0 (pos 7) ∷ Set 1 (value.Text (codes "A")) ∷ [], [])
+add_and_set : ops_at stock 1 (2 ∷ 1 ∷ 1 ∷ [] ++ (seven ++ (0 ∷ 2 ∷ 1 ∷ 65 ∷ []))) ≡ Ok (Add 1 (pos 7) ∷ Set 2 (value.Text (codes "A")) ∷ [], [])
 unfolding int_from chars encode_utf8 is_utf8
 add_and_set = refl
 
-third_operation_missing : ops_at shops 4 (3 ∷ 1 ∷ 0 ∷ [] ++ (seven ++ (0 ∷ 1 ∷ 1 ∷ 65 ∷ []))) ≡ Err (bad_bytes 4 0)
+third_operation_missing : ops_at stock 4 (3 ∷ 1 ∷ 1 ∷ [] ++ (seven ++ (0 ∷ 2 ∷ 1 ∷ 65 ∷ []))) ≡ Err (bad_bytes 4 0)
 unfolding int_from chars encode_utf8 is_utf8
 third_operation_missing = refl
+
+-- a key column cannot be changed
+add_to_the_key : op_at stock 2 (1 ∷ 0 ∷ seven) ≡ Err (fault_at NoSuchColumn 2 1)
+unfolding int_from
+add_to_the_key = refl
+
+add_to_a_text : op_at stock 2 (1 ∷ 2 ∷ seven) ≡ Err (fault_at NotInt 2 3)
+unfolding int_from
+add_to_a_text = refl
+
+add_to_no_column : op_at stock 2 (1 ∷ 3 ∷ seven) ≡ Err (fault_at NoSuchColumn 2 4)
+unfolding int_from
+add_to_no_column = refl
 
 no_fourth_column : op_at shops 2 (0 ∷ 3 ∷ seven) ≡ Err (fault_at NoSuchColumn 2 4)
 no_fourth_column = refl

@@ -13,15 +13,15 @@ use Rattle.bt_row.specs.declared.schema.Column.{Column}
 use Rattle.bt_keycode.specs.Codes.{code_of}
 use Rattle.bt_keycode.specs.Keys.{Key, key_cmp}
 use Rattle.bt_messages.specs.Messages.{sorted_batch}
-use Rattle.bt_node.specs.Messages.{Rows}
+use Rattle.bt_form.specs.Messages.{Rows}
 use Rattle.bt_batch.specs.Batches.{RowMessages}
 use Rattle.bt_table.specs.Tables.{Intact, Lost, TableState, after_batch}
 use Rattle.bt_view.specs.Groups.{sums_between}
 use Rattle.bt_view.specs.Ranges.{page, tree_columns}
 use Rattle.bt_view.specs.Usage.{usage}
-use Rattle.bt_view.specs.declared.groups.Sum.{Sum}
-use Rattle.bt_view.specs.declared.range.KeyRange.{KeyRange}
-use Rattle.bt_view.specs.declared.tree_usage.TreeUsage.{TreeUsage}
+use Rattle.bt_show.specs.declared.groups.Sum.{Sum}
+use Rattle.bt_show.specs.declared.range.KeyRange.{KeyRange}
+use Rattle.bt_show.specs.declared.tree_usage.TreeUsage.{TreeUsage}
 use Rattle.bt_packed.specs.Changes.{key_at, packed_changes}
 use Rattle.bt_packed.specs.Layout.{Read, bad_bytes, fault_at, header_at, magic, no_header, or_fault, row_bytes, then_read, value_at, values_at}
 use Rattle.bt_packed.specs.declared.fault.Fault.{Fault}
@@ -73,9 +73,9 @@ packed_option None = magic
 packed_option (Some row) = magic ++ row_bytes row
 
 -- the packed row of a key, or no row
-abbrev pub got : TableState → List ℕ → Result (List ℕ) Fault
-got Lost bytes = Err (fault_at Failed 0 0)
-got (Intact table) bytes = on_ok (λ key. packed_option (find key_cmp (code_of key) table.rows)) (packed_key table.schema bytes)
+abbrev pub get_reply : TableState → List ℕ → Result (List ℕ) Fault
+get_reply Lost bytes = Err (fault_at Failed 0 0)
+get_reply (Intact table) bytes = on_ok (λ key. packed_option (find key_cmp (code_of key) table.rows)) (packed_key table.schema bytes)
 
 -- ---- the columns of a tree
 
@@ -161,8 +161,8 @@ abbrev pub page_under : TableState → Option (Read ℕ) → Result (List ℕ) F
 page_under state None = Err no_header
 page_under state (Some read) = then_read (page_of_tree state read.0) (name_at read.1)
 
-abbrev pub packed_page : TableState → List ℕ → Result (List ℕ) Fault
-packed_page state bytes = page_under state (header_at bytes)
+abbrev pub page_reply : TableState → List ℕ → Result (List ℕ) Fault
+page_reply state bytes = page_under state (header_at bytes)
 
 -- ---- sums
 
@@ -193,10 +193,10 @@ abbrev pub sums_under : TableState → Option (Read ℕ) → Result (List ℕ) F
 sums_under state None = Err no_header
 sums_under state (Some read) = then_read (λ name. then_read (sums_of_tree state read.0 name.0) (name_at name.1)) (name_at read.1)
 
-abbrev pub told_sums : TableState → List ℕ → Result (List ℕ) Fault
-told_sums state bytes = sums_under state (header_at bytes)
+abbrev pub sums_reply : TableState → List ℕ → Result (List ℕ) Fault
+sums_reply state bytes = sums_under state (header_at bytes)
 
--- ---- what is told of a tree
+-- ---- counts of a tree
 
 -- the packed columns of the tree of this name
 abbrev pub columns_named : TableState → List ℕ → Result (List ℕ) Fault
@@ -210,8 +210,8 @@ name_under (Some read) = if read.0 == 1 then then_do (whole 1) (name_at read.1) 
 abbrev pub packed_name : List ℕ → Result (List ℕ) Fault
 packed_name bytes = name_under (header_at bytes)
 
-abbrev pub told_columns : TableState → List ℕ → Result (List ℕ) Fault
-told_columns state bytes = then_do (columns_named state) (packed_name bytes)
+abbrev pub columns_reply : TableState → List ℕ → Result (List ℕ) Fault
+columns_reply state bytes = then_do (columns_named state) (packed_name bytes)
 
 -- how much a tree holds: its rows, messages and height, each in eight bytes
 abbrev pub packed_usage : TreeUsage → List ℕ
@@ -220,5 +220,5 @@ packed_usage usage = magic ++ (count_bytes usage.rows ++ (count_bytes usage.mess
 abbrev pub usage_named : TableState → List ℕ → Result (List ℕ) Fault
 usage_named state name = on_ok packed_usage (of_call (usage state name))
 
-abbrev pub told_usage : TableState → List ℕ → Result (List ℕ) Fault
-told_usage state bytes = then_do (usage_named state) (packed_name bytes)
+abbrev pub usage_reply : TableState → List ℕ → Result (List ℕ) Fault
+usage_reply state bytes = then_do (usage_named state) (packed_name bytes)

@@ -4,6 +4,7 @@ use Rattle.bt_value.specs.declared.refusal.Refusal.{Refusal}
 use Rattle.bt_value.specs.declared.refusal.Refusal.TheVariants.{NoSuchColumn}
 use Rattle.bt_value.specs.declared.value.Value.{Value}
 use Rattle.bt_row.specs.Arithmetic.{op_making}
+use Rattle.bt_row.specs.Ops.{checked_ops}
 use Rattle.bt_row.specs.Schemas.{Schema}
 use Rattle.bt_row.specs.declared.op.Arithmetic.{Arithmetic}
 use Rattle.bt_row.specs.declared.op.Arithmetic.TheVariants as arithmetic
@@ -32,12 +33,25 @@ make_at item place None bytes = Err (bad_bytes item 0)
 make_at item place (Some arithmetic) bytes =
     then_read (λ read. Ok (op_making arithmetic place read.0, read.1)) (or_fault (bad_bytes item (place + 1)) (int_at bytes))
 
+-- the operation at a place, with what was read of it
+abbrev pub read_op : Schema → ℕ → ℕ → ℕ → List ℕ → Result (Read Op) Fault
+read_op schema item code place bytes =
+    if code == 0 then set_at item place (slice_get schema.columns place) bytes else make_at item place (arithmetic_of code) bytes
+
+-- an operation that was read, unless it is refused; the fault is at its column
+abbrev pub unless_refused : ℕ → ℕ → Read Op → Result (Unit {0}) Refusal → Result (Read Op) Fault
+unless_refused item place read (Ok fits) = Ok read
+unless_refused item place read (Err refusal) = Err (fault_at refusal item (place + 1))
+
+-- an operation that was read, if the schema allows it
+abbrev pub allowed : Schema → ℕ → ℕ → Read Op → Result (Read Op) Fault
+allowed schema item place read = unless_refused item place read (checked_ops schema item (read.0 ∷ []))
+
 -- one operation: its code, the place of its column, counted from 0, and its value or its number
 abbrev pub op_at : Schema → ℕ → List ℕ → Result (Read Op) Fault
 op_at schema item [] = Err (bad_bytes item 0)
 op_at schema item (code ∷ []) = Err (bad_bytes item 0)
-op_at schema item (code ∷ place ∷ bytes) =
-    if code == 0 then set_at item place (slice_get schema.columns place) bytes else make_at item place (arithmetic_of code) bytes
+op_at schema item (code ∷ place ∷ bytes) = then_read (allowed schema item place) (read_op schema item code place bytes)
 
 -- this many operations, after others
 abbrev pub ops_from : Schema → ℕ → ℕ → List Op → List ℕ → Result (Read (List Op)) Fault

@@ -10,11 +10,11 @@ ghost use Rattle.bt_packed.specs.Calls as spec;
 
 use crate::changes::{key_at, read_changes};
 use crate::columns::packed_columns;
+use crate::counts::{packed_sums, packed_usage};
 use crate::fault::Fault;
 use crate::page::{name_at, range_at};
 use crate::reading::header_at;
 use crate::rows::PackedRows;
-use crate::told::{packed_sums, packed_usage};
 use bt_keycode::encode_row;
 use bt_messages::Packet;
 use bt_row::{Row, Schema};
@@ -90,9 +90,9 @@ pub fn get_packed(
     bytes: &[u8],
     room: Vec<u8>,
 ) -> Result<Vec<u8>, Fault>
-    ensures done { IfOk result (λ reply. spec.got table.now bytes.now ≡ Ok reply.items) }
+    ensures done { IfOk result (λ reply. spec.get_reply table.now bytes.now ≡ Ok reply.items) }
     ensures failed { table.now ≡ Lost → IsErrOf result (fault_at Failed 0 0) }
-    ensures fault { IfErr result (λ fault. fault.refusal ≢ Refusal.OutOfMemory → spec.got table.now bytes.now ≡ Err fault) }
+    ensures fault { IfErr result (λ fault. fault.refusal ≢ Refusal.OutOfMemory → spec.get_reply table.now bytes.now ≡ Err fault) }
 {
     let key = match table.schema() {
         Ok(schema) => read_key(alloc, schema, bytes)?,
@@ -143,9 +143,9 @@ pub fn page_packed(
     bytes: &[u8],
     room: Vec<u8>,
 ) -> Result<Vec<u8>, Fault>
-    ensures done { IfOk result (λ reply. spec.packed_page table.now bytes.now ≡ Ok reply.items) }
+    ensures done { IfOk result (λ reply. spec.page_reply table.now bytes.now ≡ Ok reply.items) }
     ensures headless { bytes_header bytes.now ≡ None → IsErrOf result no_header }
-    ensures fault { IfErr result (λ fault. fault.refusal ≢ Refusal.OutOfMemory → spec.packed_page table.now bytes.now ≡ Err fault) }
+    ensures fault { IfErr result (λ fault. fault.refusal ≢ Refusal.OutOfMemory → spec.page_reply table.now bytes.now ≡ Err fault) }
 {
     let Some((limit, rest)) = header_at(bytes) else {
         return Err(Fault::no_header());
@@ -179,9 +179,9 @@ pub fn columns_packed(
     bytes: &[u8],
     room: Vec<u8>,
 ) -> Result<Vec<u8>, Fault>
-    ensures done { IfOk result (λ reply. spec.told_columns table.now bytes.now ≡ Ok reply.items) }
+    ensures done { IfOk result (λ reply. spec.columns_reply table.now bytes.now ≡ Ok reply.items) }
     ensures headless { bytes_header bytes.now ≡ None → IsErrOf result no_header }
-    ensures fault { IfErr result (λ fault. fault.refusal ≢ Refusal.OutOfMemory → spec.told_columns table.now bytes.now ≡ Err fault) }
+    ensures fault { IfErr result (λ fault. fault.refusal ≢ Refusal.OutOfMemory → spec.columns_reply table.now bytes.now ≡ Err fault) }
 {
     let name = read_name(alloc, bytes)?;
     match tree_columns(alloc, table, &name) {
@@ -197,9 +197,9 @@ pub fn usage_packed(
     bytes: &[u8],
     room: Vec<u8>,
 ) -> Result<Vec<u8>, Fault>
-    ensures done { IfOk result (λ reply. spec.told_usage table.now bytes.now ≡ Ok reply.items) }
+    ensures done { IfOk result (λ reply. spec.usage_reply table.now bytes.now ≡ Ok reply.items) }
     ensures headless { bytes_header bytes.now ≡ None → IsErrOf result no_header }
-    ensures fault { IfErr result (λ fault. fault.refusal ≢ Refusal.OutOfMemory → spec.told_usage table.now bytes.now ≡ Err fault) }
+    ensures fault { IfErr result (λ fault. fault.refusal ≢ Refusal.OutOfMemory → spec.usage_reply table.now bytes.now ≡ Err fault) }
 {
     let name = read_name(alloc, bytes)?;
     match usage(table, &name) {
@@ -234,9 +234,9 @@ pub fn sums_packed(
     bytes: &[u8],
     room: Vec<u8>,
 ) -> Result<Vec<u8>, Fault>
-    ensures done { IfOk result (λ reply. spec.told_sums table.now bytes.now ≡ Ok reply.items) }
+    ensures done { IfOk result (λ reply. spec.sums_reply table.now bytes.now ≡ Ok reply.items) }
     ensures headless { bytes_header bytes.now ≡ None → IsErrOf result no_header }
-    ensures fault { IfErr result (λ fault. fault.refusal ≢ Refusal.OutOfMemory → spec.told_sums table.now bytes.now ≡ Err fault) }
+    ensures fault { IfErr result (λ fault. fault.refusal ≢ Refusal.OutOfMemory → spec.sums_reply table.now bytes.now ≡ Err fault) }
 {
     let Some((grouping, rest)) = header_at(bytes) else {
         return Err(Fault::no_header());

@@ -29,12 +29,12 @@
 mod calls;
 mod changes;
 mod columns;
+mod counts;
 mod fault;
 mod operations;
 mod page;
 mod reading;
 mod rows;
-mod told;
 
 pub use calls::{apply_packed, columns_packed, get_packed, page_packed, sums_packed, usage_packed};
 pub use changes::read_changes;

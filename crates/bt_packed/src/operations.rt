@@ -5,9 +5,10 @@ ghost use Rattle.bt_packed.specs.Changes as spec;
 
 use crate::fault::Fault;
 use crate::reading::{int_at, value_at};
-use bt_row::{Arithmetic, Column, Op, Ops, Schema};
+use bt_row::{Arithmetic, Column, Op, Ops, Schema, check_ops};
 use bt_value::Refusal;
 use std::alloc::Global;
+use std::slice;
 
 // The arithmetic of an operation with this code.
 fn arithmetic_of(code: u8) -> Option<Arithmetic>
@@ -61,6 +62,43 @@ fn make_at<'b>(
     Ok((Op::making(arithmetic, place as usize, number), rest))
 }
 
+// The operation with this code at a place.
+fn read_op<'b>(
+    alloc: Global,
+    schema: &Schema,
+    item: u64,
+    code: u8,
+    place: u8,
+    bytes: &'b [u8],
+) -> Result<(Op, &'b [u8]), Fault>
+    ensures done { IfOk result (λ read. spec.read_op schema.now item code place bytes.now ≡ Ok (read.0, read.1.now)) }
+    ensures fault { IfErr result (λ fault. fault.refusal ≢ Refusal.OutOfMemory → spec.read_op schema.now item code place bytes.now ≡ Err fault) }
+{
+    if code == 0 {
+        let column = schema.columns().get(place as usize);
+        set_at(alloc, item, place, column, bytes)
+    } else {
+        make_at(item, place, arithmetic_of(code), bytes)
+    }
+}
+
+// An operation that was read, if the schema allows it, and the bytes after it.
+fn allowed<'b>(
+    schema: &Schema,
+    item: u64,
+    place: u8,
+    op: Op,
+    rest: &'b [u8],
+) -> Result<(Op, &'b [u8]), Fault>
+    ensures done { IfOk result (λ read. spec.allowed schema.now item place (op, rest.now) ≡ Ok (read.0, read.1.now)) }
+    ensures fault { IfErr result (λ fault. spec.allowed schema.now item place (op, rest.now) ≡ Err fault) }
+{
+    match check_ops(schema, item, slice::from_ref(&op)) {
+        Ok(()) => Ok((op, rest)),
+        Err(refusal) => Err(Fault::at(refusal, item, place as u64 + 1)),
+    }
+}
+
 // One operation at the front of bytes, and the bytes after it.
 fn op_at<'b>(
     alloc: Global,
@@ -74,12 +112,8 @@ fn op_at<'b>(
     let [code, place, rest @ ..] = bytes else {
         return Err(Fault::bad_bytes(item, 0));
     };
-    if *code == 0 {
-        let column = schema.columns().get(*place as usize);
-        set_at(alloc, item, *place, column, rest)
-    } else {
-        make_at(item, *place, arithmetic_of(*code), rest)
-    }
+    let (op, rest) = read_op(alloc, schema, item, *code, *place, rest)?;
+    allowed(schema, item, *place, op, rest)
 }
 
 /// The operations at the front of bytes, after their number, and the bytes after them.

@@ -5,13 +5,13 @@ use Rattle.std.specs.declared.option.Option.{Option}
 use Rattle.std.specs.declared.option.Option.TheVariants.{Some}
 use Rattle.bt_keycode.specs.Keys.{Key, AllWithin, IsSorted}
 use Rattle.bt_messages.proofs.offered.Placed.{sorted-with_messages}
-use Rattle.bt_node.specs.Fits.{IsLed, IsSized, Lies}
-use Rattle.bt_node.specs.Flushes.{Child, Flush, flush_in, flushed, flushed_in, grouped, pivot_first, shared}
-use Rattle.bt_node.specs.Marks.{has_room}
-use Rattle.bt_node.specs.Messages.{Meaning, Messages, load, with_messages}
-use Rattle.bt_node.specs.Trees.{Nodes, Shape, Tree, leaf, inner, children}
-use Rattle.bt_node.specs.declared.form.mode.Mode.{Mode}
-use Rattle.bt_node.specs.declared.form.mode.Mode.TheVariants.{Absorb, Drain}
+use Rattle.bt_form.specs.Fits.{IsLed, IsSized, Lies}
+use Rattle.bt_form.specs.Flushes.{Child, Flush, flush_in, flushed, flushed_in, grouped, pivot_first, shared}
+use Rattle.bt_form.specs.Marks.{has_room}
+use Rattle.bt_form.specs.Messages.{Meaning, Messages, load, with_messages}
+use Rattle.bt_form.specs.Trees.{Nodes, Shape, Tree, leaf, inner, children}
+use Rattle.bt_form.specs.declared.mode.Mode.{Mode}
+use Rattle.bt_form.specs.declared.mode.Mode.TheVariants.{Absorb, Drain}
 use Rattle.bt_node.proofs.offered.FlushSteps.{ChildLies, ChildrenLie, ChildrenSized, names, shared-sized, start-lies, stripped}
 use Rattle.bt_node.proofs.offered.FlushSteps.{Keeps, after_pass-lie, flush-keeps, flush_recurs, flushed-slots, names-slots, slots, still-here}
 use Rattle.bt_plan.specs.Pieces.{Holed, Place, filled_below, filled_with, holed_nodes, opened, whole}

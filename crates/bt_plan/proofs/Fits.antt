@@ -9,12 +9,12 @@ use Rattle.bt_value.specs.Lists.{concatenation}
 use Rattle.bt_messages.specs.Bins.{LieBetween, parts}
 use Rattle.bt_messages.proofs.offered.Parts.{concatenation_sorted, parts-concatenation}
 use Rattle.bt_messages.proofs.offered.Placed.{sorted-with_messages}
-use Rattle.bt_node.specs.Fits.{IsSized, Lies}
-use Rattle.bt_node.specs.Flushes.{Child, Flush, shared}
-use Rattle.bt_node.specs.Marks.{has_room}
-use Rattle.bt_node.specs.Messages.{Meaning, Messages, load, with_messages}
-use Rattle.bt_node.specs.Trees.{Shape, Tree, leaf, inner, children}
-use Rattle.bt_node.specs.declared.form.mode.Mode.{Mode}
+use Rattle.bt_form.specs.Fits.{IsSized, Lies}
+use Rattle.bt_form.specs.Flushes.{Child, Flush, shared}
+use Rattle.bt_form.specs.Marks.{has_room}
+use Rattle.bt_form.specs.Messages.{Meaning, Messages, load, with_messages}
+use Rattle.bt_form.specs.Trees.{Shape, Tree, leaf, inner, children}
+use Rattle.bt_form.specs.declared.mode.Mode.{Mode}
 use Rattle.bt_node.proofs.offered.FlushSteps.{ChildLies, ChildrenLie, ChildrenSized, all_pending, all_pending-shared, all_pending-within, divided-lie}
 use Rattle.bt_node.proofs.offered.FlushSteps.{flushed-fits, length-shared, names, start-lies, flushed-slots, names-slots, slots}
 use Rattle.bt_plan.specs.Pieces.{Holed, HoledChild, HoledFits, HoledNodes, IsSent, Place, hole, holed_nodes, opened, pivots_below, shared_below, whole, with_bins}

@@ -11,9 +11,9 @@ use Rattle.std.specs.Ordering.{eq_by_cmp, is_eq, ordering_reverse}
 use Rattle.std.specs.declared.cmp.Ordering.TheVariants.{Less}
 use Rattle.std.specs.declared.option.Option.TheVariants.{Some}
 use Rattle.bt_keycode.proofs.offered.Order.{is_less, total_keys}
-use Rattle.bt_node.specs.Flushes.{pivot_first, grouped, shared}
-use Rattle.bt_node.specs.Messages.{Meaning}
-use Rattle.bt_node.specs.Trees.{Shape, Siblings}
+use Rattle.bt_form.specs.Flushes.{pivot_first, grouped, shared}
+use Rattle.bt_form.specs.Messages.{Meaning}
+use Rattle.bt_form.specs.Trees.{Shape, Siblings}
 use Rattle.bt_keycode.proofs.offered.Truths.{t_first, t_second, true_t}
 use Rattle.bt_plan.specs.Pieces.{Holed, HoledNodes, Pieces, child, childless, filled_below, filled_with, hole, holes}
 use Rattle.bt_plan.specs.Pieces.{holes_below, node_place_cmp, opened, piece_at, whole, with_holes, with_holes_below}

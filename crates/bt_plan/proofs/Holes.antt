@@ -6,8 +6,8 @@ use Rattle.std.specs.declared.option.Option.TheVariants.{Some}
 use Rattle.bt_keycode.specs.Keys.{Key, AllWithin, IsSorted, SideBySide}
 use Rattle.bt_messages.specs.Bins.{parts}
 use Rattle.bt_messages.proofs.offered.Parts.{lie_length, parts_lie}
-use Rattle.bt_node.specs.Messages.{Messages}
-use Rattle.bt_node.specs.Trees.{Shape}
+use Rattle.bt_form.specs.Messages.{Messages}
+use Rattle.bt_form.specs.Trees.{Shape}
 use Rattle.bt_plan.specs.Pieces.{Holed, HoledChild, HoledFits, HoledNodes, IsSent, child, childless, hole, holes, holes_below, opened, pivots_below, whole, with_bins, with_holes, with_holes_below}
 use Rattle.bt_plan.proofs.offered.Each.{each-append, each-first, each-rest}
 

@@ -14,18 +14,18 @@ use Rattle.bt_messages.proofs.offered.Fronts.{sorted_take}
 use Rattle.bt_messages.proofs.offered.Parts.{added_lie, concatenation-added, lie_length}
 use Rattle.bt_messages.proofs.offered.Placed.{alone}
 use Rattle.bt_messages.proofs.offered.Totals.{nothing_pending}
-use Rattle.bt_node.specs.Children.{with_pending}
-use Rattle.bt_node.specs.Fits.{AreSized, IsLed, IsSized}
-use Rattle.bt_node.specs.Flushes.{loads, pending_load, shared}
-use Rattle.bt_node.specs.Marks.{flush_marks, has_room}
-use Rattle.bt_node.specs.Messages.{Messages, load, with_messages}
-use Rattle.bt_node.specs.Steps.{IsStep}
-use Rattle.bt_node.specs.Trees.{Shape, Siblings, Tree, inner, leaf, nodes, pivots_of, with_pivots}
-use Rattle.bt_node.specs.Walks.{is_leaf}
-use Rattle.bt_node.specs.declared.form.mode.Mode.{Mode}
-use Rattle.bt_node.specs.declared.flush.opening.Opened as code
-use Rattle.bt_node.specs.declared.flush.opening.Step.{Step}
-use Rattle.bt_node.specs.declared.flush.opening.Step.TheVariants.{Opens}
+use Rattle.bt_form.specs.Children.{with_pending}
+use Rattle.bt_form.specs.Fits.{AreSized, IsLed, IsSized}
+use Rattle.bt_form.specs.Flushes.{loads, pending_load, shared}
+use Rattle.bt_form.specs.Marks.{flush_marks, has_room}
+use Rattle.bt_form.specs.Messages.{Messages, load, with_messages}
+use Rattle.bt_flush.specs.Steps.{IsStep}
+use Rattle.bt_form.specs.Trees.{Shape, Siblings, Tree, inner, leaf, nodes, pivots_of, with_pivots}
+use Rattle.bt_form.specs.Walks.{is_leaf}
+use Rattle.bt_form.specs.declared.mode.Mode.{Mode}
+use Rattle.bt_flush.specs.declared.opening.Opened as code
+use Rattle.bt_flush.specs.declared.opening.Step.{Step}
+use Rattle.bt_flush.specs.declared.opening.Step.TheVariants.{Opens}
 use Rattle.bt_node.proofs.offered.FlushSteps.{bins-length, children-nodes, led-full, length-flush_marks, length-shared, pending-with_pending}
 use Rattle.bt_node.proofs.offered.FlushSteps.{pivots-with_pending, shares-length, some_length, with_pending-shared, from-back, from-joined, from-prefix}
 use Rattle.bt_plan.specs.Cuts.{Job, child_place, cut_out, hole_of, left_pending}

@@ -3,10 +3,10 @@ use Rattle.std.proofs.Common.{◌≡◌, ℕ, Bool, true, false, List, [], ◌�
 use Rattle.std.specs.declared.option.Option.{Option}
 use Rattle.bt_keycode.specs.Keys.{Key}
 use Rattle.bt_messages.specs.Bins.{LieBetween}
-use Rattle.bt_node.specs.Children.{with_pending}
-use Rattle.bt_node.specs.Flushes.{Child, Flush, flushed, none_pending, pivot_first, shared}
-use Rattle.bt_node.specs.Trees.{Siblings, pivots_of}
-use Rattle.bt_node.specs.Passes.{after_pass}
+use Rattle.bt_form.specs.Children.{with_pending}
+use Rattle.bt_form.specs.Flushes.{Child, Flush, flushed, none_pending, pivot_first, shared}
+use Rattle.bt_form.specs.Trees.{Siblings, pivots_of}
+use Rattle.bt_form.specs.Passes.{after_pass}
 use Rattle.bt_node.proofs.offered.FlushSteps.{ChildrenLie, all_pending, divided-lie, joined-pending, stripped, with_pending-shared}
 use Rattle.bt_plan.specs.Cuts.{left_pending}
 

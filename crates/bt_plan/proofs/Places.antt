@@ -8,12 +8,12 @@ use Rattle.std.specs.FinMap.Entries.{below_all}
 use Rattle.std.specs.List.{AllByRecursion as Each}
 use Rattle.std.specs.Ordering.{is_lt, nat_cmp, ordering_then}
 use Rattle.std.specs.declared.cmp.Ordering.TheVariants.{Less, Equal}
-use Rattle.bt_node.specs.Flushes.{Child, shared}
-use Rattle.bt_node.specs.Marks.{has_room}
+use Rattle.bt_form.specs.Flushes.{Child, shared}
+use Rattle.bt_form.specs.Marks.{has_room}
 use Rattle.bt_keycode.specs.Keys.{Key}
-use Rattle.bt_node.specs.Messages.{Messages, load, with_messages}
-use Rattle.bt_node.specs.Trees.{Nodes, Shape, Tree, children, leaf, inner}
-use Rattle.bt_node.specs.declared.form.mode.Mode.{Mode}
+use Rattle.bt_form.specs.Messages.{Messages, load, with_messages}
+use Rattle.bt_form.specs.Trees.{Nodes, Shape, Tree, children, leaf, inner}
+use Rattle.bt_form.specs.declared.mode.Mode.{Mode}
 use Rattle.bt_node.proofs.offered.FlushSteps.{slots}
 use Rattle.bt_keycode.proofs.offered.Truths.{t_both, t_first, t_second}
 use Rattle.bt_plan.specs.Pieces.{Place, holed_nodes, holes, holes_below, node_place_cmp, whole}

@@ -7,9 +7,9 @@ use Rattle.bt_messages.specs.Parts.{parted, total}
 use Rattle.bt_messages.specs.Shares.{counts}
 use Rattle.bt_messages.specs.declared.share.Share.{Share}
 use Rattle.bt_keycode.specs.Keys.{Key}
-use Rattle.bt_node.specs.Messages.{Messages, with_messages}
-use Rattle.bt_node.specs.Trees.{Shape, Tree}
-use Rattle.bt_node.specs.declared.form.mode.Mode.{Mode}
+use Rattle.bt_form.specs.Messages.{Messages, with_messages}
+use Rattle.bt_form.specs.Trees.{Shape, Tree}
+use Rattle.bt_form.specs.declared.mode.Mode.{Mode}
 use Rattle.bt_plan.specs.Cuts.{Job, child_place, cut_out}
 use Rattle.bt_plan.specs.Pieces.{Holed, Place, whole}
 use Rattle.bt_plan.specs.inside.Cutting.{cut_each, kept_bins}

@@ -3,12 +3,12 @@ use Rattle.std.specs.Prelude.{◌≡◌, ℕ, List, [], ◌∷◌, ℤ}
 use Rattle.std.proofs.Common.{refl}
 use Rattle.bt_messages.specs.declared.measure.Measure.TheVariants as measures
 use Rattle.bt_messages.specs.declared.message.Message.TheVariants.{Put}
-use Rattle.bt_node.specs.Flushes.{absorb}
-use Rattle.bt_node.specs.Drains.{drain}
-use Rattle.bt_node.specs.Messages.{Messages}
-use Rattle.bt_node.specs.Trees.{Shape, Siblings, Tree, leaf, inner, none, node}
-use Rattle.bt_node.specs.declared.form.mode.Mode.{Mode}
-use Rattle.bt_node.specs.declared.form.mode.Mode.TheVariants.{Absorb, Drain}
+use Rattle.bt_form.specs.Flushes.{absorb}
+use Rattle.bt_flush.specs.Drains.{drain}
+use Rattle.bt_form.specs.Messages.{Messages}
+use Rattle.bt_form.specs.Trees.{Shape, Siblings, Tree, leaf, inner, none, node}
+use Rattle.bt_form.specs.declared.mode.Mode.{Mode}
+use Rattle.bt_form.specs.declared.mode.Mode.TheVariants.{Absorb, Drain}
 use Rattle.bt_node.proofs.offered.SampleTrees.{Change, dels, entry, first_three, four_leaves, k, k_minus_1, last_two, meaning, minus_10, one_waits, puts, shape, three_high, two}
 use Rattle.bt_plan.specs.Pieces.{Holed, Place, whole, hole, opened, childless, child, filled}
 use Rattle.bt_plan.specs.Cuts.{Job, Pieced, cut, outcomes}

@@ -2,11 +2,11 @@
 use Rattle.std.specs.Prelude.{ℕ, zero, suc, Bool, cond, List, [], ◌∷◌, ◌++◌, map}
 use Rattle.std.specs.List.{flat_map, zip}
 use Rattle.bt_keycode.specs.Keys.{Key}
-use Rattle.bt_node.specs.declared.form.mode.Mode.{Mode}
-use Rattle.bt_node.specs.Flushes.{Child, flush_in, loads, shared}
-use Rattle.bt_node.specs.Marks.{flush_marks, has_room}
-use Rattle.bt_node.specs.Messages.{Meaning, Messages, load, with_messages}
-use Rattle.bt_node.specs.Trees.{Shape, Tree, leaf, inner, Siblings, children}
+use Rattle.bt_form.specs.declared.mode.Mode.{Mode}
+use Rattle.bt_form.specs.Flushes.{Child, flush_in, loads, shared}
+use Rattle.bt_form.specs.Marks.{flush_marks, has_room}
+use Rattle.bt_form.specs.Messages.{Meaning, Messages, load, with_messages}
+use Rattle.bt_form.specs.Trees.{Shape, Tree, leaf, inner, Siblings, children}
 use Rattle.bt_plan.specs.Pieces.{Holed, Pieces, Place, whole, hole, opened, holed_nodes, holes, with_holes}
 
 -- a node that was moved out, with the messages for it

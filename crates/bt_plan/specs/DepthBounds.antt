@@ -1,6 +1,6 @@
 -- The depth of trees in pieces, which bounds recursion over them.
 use Rattle.std.specs.Prelude.{◌+◌, ◌*◌, ℕ, max}
-use Rattle.bt_node.specs.Trees.{height}
+use Rattle.bt_form.specs.Trees.{height}
 use Rattle.bt_plan.specs.Pieces.{Holed, HoledNodes, whole, hole, opened, childless, child}
 
 -- a bound on the depth of a tree in pieces

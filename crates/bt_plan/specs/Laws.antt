@@ -5,11 +5,11 @@ use Rattle.std.specs.List.{All}
 use Rattle.std.specs.declared.option.Option.{Option}
 use Rattle.std.specs.declared.option.Option.TheVariants.{None, Some}
 use Rattle.bt_keycode.specs.Keys.{AllWithin, Key}
-use Rattle.bt_node.specs.Fits.{NodeFits}
-use Rattle.bt_node.specs.Flushes.{flush_in}
-use Rattle.bt_node.specs.Messages.{Meaning, Messages}
-use Rattle.bt_node.specs.Trees.{Shape, Tree}
-use Rattle.bt_node.specs.declared.form.mode.Mode.{Mode}
+use Rattle.bt_form.specs.Fits.{NodeFits}
+use Rattle.bt_form.specs.Flushes.{flush_in}
+use Rattle.bt_form.specs.Messages.{Meaning, Messages}
+use Rattle.bt_form.specs.Trees.{Shape, Tree}
+use Rattle.bt_form.specs.declared.mode.Mode.{Mode}
 use Rattle.bt_plan.specs.Cuts.{Job, Pieced, hole_of, outcome}
 use Rattle.bt_plan.specs.Pieces.{Holed, HoledFits, Pieces, filled, holes, node_place_cmp, with_holes}
 

@@ -9,10 +9,10 @@ use Rattle.std.specs.declared.option.Option.{Option}
 use Rattle.std.specs.declared.option.Option.TheVariants.{Some}
 use Rattle.bt_keycode.specs.Keys.{Key, AllWithin, IsSorted, SideBySide}
 use Rattle.bt_messages.specs.Bins.{parts}
-use Rattle.bt_node.specs.Fits.{NodeFits, SiblingsFit}
-use Rattle.bt_node.specs.Flushes.{pivot_first, shared, grouped}
-use Rattle.bt_node.specs.Messages.{Messages, load}
-use Rattle.bt_node.specs.Trees.{Shape, Tree, Siblings}
+use Rattle.bt_form.specs.Fits.{NodeFits, SiblingsFit}
+use Rattle.bt_form.specs.Flushes.{pivot_first, shared, grouped}
+use Rattle.bt_form.specs.Messages.{Messages, load}
+use Rattle.bt_form.specs.Trees.{Shape, Tree, Siblings}
 
 -- the place of a node: the number of its tree, and the numbers of the children on the path from the root, before any change
 pub record Place : Type 0 where

@@ -4,9 +4,9 @@ use Rattle.bt_keycode.specs.Keys.{Key}
 use Rattle.bt_value.specs.Lists.{concatenation}
 use Rattle.bt_messages.specs.Bins.{LieBetween}
 use Rattle.bt_messages.specs.declared.message.Message.{Message}
-use Rattle.bt_node.specs.Messages.{Messages}
-use Rattle.bt_node.specs.Trees.{Shape, Tree, with_pivots}
-use Rattle.bt_node.specs.declared.form.mode.Mode.{Mode}
+use Rattle.bt_form.specs.Messages.{Messages}
+use Rattle.bt_form.specs.Trees.{Shape, Tree, with_pivots}
+use Rattle.bt_form.specs.declared.mode.Mode.{Mode}
 use Rattle.bt_plan.specs.declared.holed.HoledParts.{HoledParts}
 use Rattle.bt_plan.specs.declared.holed.HoledParts.TheVariants.{Whole, Hole, Opened}
 use Rattle.bt_plan.specs.declared.job.Job as code

@@ -15,7 +15,7 @@
 ghost use Rattle.std.specs.Prelude.{◌≡◌, ◌+◌, length};
 ghost use Rattle.bt_value.specs.Lists.{concatenation};
 ghost use Rattle.bt_messages.specs.Bins.{LieBetween};
-ghost use Rattle.bt_node.specs.Trees.{with_pivots};
+ghost use Rattle.bt_form.specs.Trees.{with_pivots};
 ghost use Rattle.bt_plan.specs.Pieces as pieces;
 ghost use Rattle.bt_plan.specs.Views.{HasPivotsAndBins, holed_of, node_place};
 
@@ -135,7 +135,7 @@ pub struct Holed<V: Merge> {
 
 impl<V: Merge> Model for Holed<V> {
     ghost use Rattle.bt_messages.specs.declared.message.Message.{Message};
-    ghost use Rattle.bt_node.specs.Trees as trees;
+    ghost use Rattle.bt_form.specs.Trees as trees;
     ghost use Rattle.bt_plan.specs.Pieces as pieces;
     ghost use Rattle.bt_plan.specs.inside.Stored.{shaped_holed_code};
 

@@ -184,8 +184,8 @@ none_of_feeds line text cut all = none_there line text cut (elim (cases_Bool (is
   | inr other ↦ rw other (sym (feeds_alone text all))
 ])
 
-pub none_behind_mark : (line text : List ℕ) → text ≡ strip_bom line → has_mark text ≡ true → None ≡ record_of line
-none_behind_mark line text cut mark = none_there line text cut (none_if_refused text (refused_by_mark (length text == 0) (has_mark text) (list_any (λ b. b == 13) text) mark))
+pub none_after_mark : (line text : List ℕ) → text ≡ strip_bom line → has_mark text ≡ true → None ≡ record_of line
+none_after_mark line text cut mark = none_there line text cut (none_if_refused text (refused_by_mark (length text == 0) (has_mark text) (list_any (λ b. b == 13) text) mark))
   where
     refused_by_mark : (empty mark return : Bool) → mark ≡ true → (empty || mark || return) ≡ true
     refused_by_mark true true return is = refl

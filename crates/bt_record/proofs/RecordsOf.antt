@@ -133,12 +133,12 @@ unfolding next_record
 none_of_nothing = refl
 
 -- the records after one that was read from this many bytes, with more iterations than bytes
-turns_behind : (n m size : ℕ) (found : Option Read)
+turns_after : (n m size : ℕ) (found : Option Read)
     → ((text : List ℕ) → length text < n → length text < m
     → records_from default_config n st.StartRecord text ≡ records_from default_config m st.StartRecord text)
     → size < n → size < m → IfSome found (Leaves (suc size)) → records_next (records_from default_config n) found ≡ records_next (records_from default_config m) found
-turns_behind n m size None same more_n more_m left = refl
-turns_behind n m size (Some r) same more_n more_m left =
+turns_after n m size None same more_n more_m left = refl
+turns_after n m size (Some r) same more_n more_m left =
     let rest : records_from default_config n r.1 r.2 ≡ records_from default_config m r.1 r.2 =
     from_between n r.1 r.2 left.0 ∙ same r.2 (omega (arith, left.1, more_n)) (omega (arith, left.1, more_m)) ∙ sym (from_between m r.1 r.2 left.0) in
     ap (λ (others : List (List (List ℕ))). r.0 ∷ others) rest
@@ -149,9 +149,9 @@ turns zero m text more_n more_m = absurd (omega (arith, more_n))
 turns (suc n) zero text more_n more_m = absurd (omega (arith, more_m))
 turns (suc n) (suc m) [] more_n more_m = rw (one_turn n st.StartRecord [], one_turn m st.StartRecord [], none_of_nothing) refl
 turns (suc n) (suc m) (b ∷ bs) more_n more_m =
-    let behind = turns_behind n m (length bs) (next_record default_config st.StartRecord [] [] (b ∷ bs)) (turns n m) (omega (arith, more_n))
+    let following = turns_after n m (length bs) (next_record default_config st.StartRecord [] [] (b ∷ bs)) (turns n m) (omega (arith, more_n))
     (omega (arith, more_m)) (leaves st.StartRecord [] [] (b ∷ bs)) in
-    one_turn n st.StartRecord (b ∷ bs) ∙ behind ∙ sym (one_turn m st.StartRecord (b ∷ bs))
+    one_turn n st.StartRecord (b ∷ bs) ∙ following ∙ sym (one_turn m st.StartRecord (b ∷ bs))
 
 -- a text with nothing left has no records
 pub no_more : records default_config [] ≡ []

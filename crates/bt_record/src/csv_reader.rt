@@ -2,7 +2,7 @@
 ghost use Rattle.std.specs.Prelude.{◌≡◌, ◌∷◌, ◌⊎◌, ℕ, List, [], drop, false, take, true, IfOk, OnErr, OnOk};
 ghost use Rattle.csv.specs.Reading.{default_config, records};
 ghost use Rattle.csv.specs.Records.{fields_of};
-ghost use Rattle.bt_record.specs.Records.{has_mark as is_behind_mark};
+ghost use Rattle.bt_record.specs.Records.{has_mark as is_after_mark};
 
 use crate::fields::Fields;
 use csv::{ByteRecord, Reader, ReaderBuilder};
@@ -47,7 +47,7 @@ fn copy_fields(fields: &mut Fields, record: &ByteRecord, most: usize) -> Result<
 impl<'a> CsvReader<'a> {
     /// A reader of the records of a text.
     pub(crate) fn new(alloc: Global, text: &'a [u8]) -> Self
-        requires { is_behind_mark text.now ≡ false }
+        requires { is_after_mark text.now ≡ false }
         ensures { result ≡ records default_config text.now }
     {
         let reader = ReaderBuilder::new()

@@ -22,6 +22,6 @@ mod records;
 
 pub use csv_reader::CsvReader;
 pub use fields::{Fields, FieldsRef};
-pub use line::{RecordLine, read_record};
+pub use line::RecordLine;
 pub use record_cutter::RecordCutter;
 pub use records::Records;

@@ -2,7 +2,7 @@
 ghost use Rattle.std.specs.Prelude.{◌≡◌, ◌==◌, is_some, true, IfOk};
 ghost use Rattle.std.specs.List.{list_all, list_any};
 ghost use Rattle.csv.specs.Reading.{strip_bom};
-ghost use Rattle.bt_record.specs.Records.{csv_record, has_mark as is_behind_mark, record_of, fields_in};
+ghost use Rattle.bt_record.specs.Records.{csv_record, has_mark as is_after_mark, record_of, fields_in};
 
 use crate::commas::cut_plain;
 use crate::csv_states::cut_quoted;
@@ -32,7 +32,7 @@ impl<'a> Model for RecordLine<'a> {
 
 /// Whether a text begins with a byte order mark.
 pub(crate) fn has_mark(text: &[u8]) -> bool
-    ensures { result ≡ is_behind_mark text.now }
+    ensures { result ≡ is_after_mark text.now }
 {
     matches!(text, [0xEF, 0xBB, 0xBF, ..])
 }
@@ -101,15 +101,5 @@ impl<'a> RecordLine<'a> {
             cut_quoted(&mut bytes, &mut spans, self.text, usize::MAX)?;
         }
         Ok(Fields::from_parts(bytes, spans))
-    }
-}
-
-/// The fields of the record in a line, or `None` if the line has no record, as in [`RecordLine::new`].
-pub fn read_record(alloc: Global, line: &[u8]) -> Result<Option<Fields>, AllocError>
-    ensures { IfOk result (λ fields. fields ≡ record_of line.now) }
-{
-    match RecordLine::new(line) {
-        Some(line) => Ok(Some(line.fields(alloc)?)),
-        None => Ok(None),
     }
 }

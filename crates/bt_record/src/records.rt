@@ -1,7 +1,7 @@
 //! The records of a text, one after the other.
 ghost use Rattle.std.specs.Prelude.{◌≡◌, ◌≤◌, ◌∷◌, [], false, length, true, IfNone, IfSome, MatchOption};
 ghost use Rattle.csv.specs.Reading.{default_config, records, strip_bom};
-ghost use Rattle.bt_record.specs.Records.{has_mark as is_behind_mark};
+ghost use Rattle.bt_record.specs.Records.{has_mark as is_after_mark};
 ghost use Rattle.bt_record.specs.inside.RecordParts.{EndsAt, begins_record, is_line_end as ends_line};
 
 use crate::csv_reader::CsvReader;
@@ -21,13 +21,13 @@ pub struct Records<'a> {
 impl<'a> Model for Records<'a> {
     ghost use Rattle.std.specs.Prelude.{◌≡◌, List, ℕ, false};
     ghost use Rattle.csv.specs.Reading.{default_config, records};
-    ghost use Rattle.bt_record.specs.Records.{has_mark as is_behind_mark};
+    ghost use Rattle.bt_record.specs.Records.{has_mark as is_after_mark};
 
     ghost Value = { List (List (List ℕ)) };
 
     ghost view = { λ a. records default_config a.rest.now };
 
-    ghost invariant = { λ a. is_behind_mark a.rest.now ≡ false };
+    ghost invariant = { λ a. is_after_mark a.rest.now ≡ false };
 }
 
 // Whether a byte ends a line.
@@ -72,8 +72,8 @@ impl<'a> Records<'a> {
     /// The records of a text. One byte order mark at its start is dropped; if there are two, the result is `None`.
     pub fn new(text: &'a [u8]) -> Option<Self>
         ensures some { IfSome result (λ found. found ≡ records default_config (strip_bom text.now)) }
-        ensures unmarked { IfSome result (λ _. is_behind_mark (strip_bom text.now) ≡ false) }
-        ensures none { IfNone result (is_behind_mark (strip_bom text.now) ≡ true) }
+        ensures unmarked { IfSome result (λ _. is_after_mark (strip_bom text.now) ≡ false) }
+        ensures none { IfNone result (is_after_mark (strip_bom text.now) ≡ true) }
     {
         let rest = without_mark(text);
         if has_mark(rest) {

@@ -65,11 +65,11 @@ get_dropped (suc n) i (x ∷ xs) = get_dropped n i xs ∙ ap (slice_get (x ∷ x
 pub open_kind_at : (schema : Schema) (name : List ℕ) (found : ℕ × Kind) → open_column schema name ≡ Some found → open_kind schema found.0 ≡ Some found.1
 open_kind_at schema name found is =
     let at = named_at schema.keys name (drop schema.keys schema.columns) found is in
-    let behind : schema.keys ≤ found.0 = (let p : found.0 ≡ schema.keys + at.0 = at.1 in omega arith) in
+    let following : schema.keys ≤ found.0 = (let p : found.0 ≡ schema.keys + at.0 = at.1 in omega arith) in
     let here : option_map (λ c. c.kind) (slice_get schema.columns found.0) ≡ Some found.1 =
     ap (λ n. option_map (λ (c : Column). c.kind) (slice_get schema.columns n)) at.1
     ∙ ap (option_map (λ (c : Column). c.kind)) (sym (get_dropped schema.keys at.0 schema.columns)) ∙ at.2 in
-    rw (le-leb schema.keys found.0 behind) here
+    rw (le-leb schema.keys found.0 following) here
 
 column_read : {T : Type 0} (read : ℕ × Kind → Result T Refusal) (found : Option (ℕ × Kind)) (value : T) → at_column read found ≡ Ok value → (column : ℕ × Kind)
     × (found ≡ Some column) × (read column ≡ Ok value)

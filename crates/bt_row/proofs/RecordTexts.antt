@@ -63,11 +63,11 @@ wrote_more values rest others place old out new v so_far is added =
           ∙ ap (λ (t : List ℕ). t ++ (next_sep default_writer so_far.count ++ field)) so_far.text
           ∙ append_assoc old wrote (next_sep default_writer so_far.count ++ field)
           ∙ ap (λ (t : List ℕ). old ++ t) (sym (one_more values so_far.count v first.within first.at));
-      separator = sep_behind so_far.count;
+      separator = sep_after so_far.count;
     }
   where
-    sep_behind : (n : ℕ) → next_sep default_writer 1 ≡ next_sep default_writer (n + 1)
-    sep_behind n = let other : n + 1 ≢ 0 = omega arith in rw (ne_eqb (n + 1) 0 other) refl
+    sep_after : (n : ℕ) → next_sep default_writer 1 ≡ next_sep default_writer (n + 1)
+    sep_after n = let other : n + 1 ≢ 0 = omega arith in rw (ne_eqb (n + 1) 0 other) refl
 
 -- all values were written
 pub wrote_all : (values rest : List Value) (place : ℕ) (old out : List ℕ) → Wrote values rest place old out → rest ≡ [] → out ≡ old ++ row_body default_writer (map text_of values)

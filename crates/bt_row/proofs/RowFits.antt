@@ -45,8 +45,8 @@ made_fits : (arithmetic : Arithmetic) (n : ℤ) (v : Value) → fits_kind kind.I
 made_fits arithmetic n (value.Int old) fits = refl
 made_fits arithmetic n other fits = fits
 
-behind_key : (schema : Schema) (place : ℕ) (k : Kind) → open_kind schema place ≡ Some k → (schema.keys ≤ place) × (option_map (λ c. c.kind) (slice_get schema.columns place) ≡ Some k)
-behind_key schema place k is = by_place (nat_le schema.keys place) refl is
+after_key : (schema : Schema) (place : ℕ) (k : Kind) → open_kind schema place ≡ Some k → (schema.keys ≤ place) × (option_map (λ c. c.kind) (slice_get schema.columns place) ≡ Some k)
+after_key schema place k is = by_place (nat_le schema.keys place) refl is
   where
     by_place : (b : Bool) → nat_le schema.keys place ≡ b → (if b then option_map (λ c. c.kind) (slice_get schema.columns place) else None) ≡ Some k
         → (schema.keys ≤ place) × (option_map (λ c. c.kind) (slice_get schema.columns place) ≡ Some k)
@@ -71,14 +71,14 @@ action_keeps : (schema : Schema) (action : Action) (row : List Value) → ((item
     → (fit_columns schema.columns (after_action row action) ≡ true) × (take schema.keys (after_action row action) ≡ take schema.keys row)
 action_keeps schema (Sets place v) row fits fit =
     let found = set_kind 1 v (open_kind schema place) (fits 1) in
-    let behind = behind_key schema place found.0 found.1 in
-    (set_value_fits schema.columns row place found.0 v fit behind.1 found.2, take-set-le schema.keys row place v behind.0)
+    let following = after_key schema place found.0 found.1 in
+    (set_value_fits schema.columns row place found.0 v fit following.1 found.2, take-set-le schema.keys row place v following.0)
 action_keeps schema (Makes arithmetic place n) row fits fit =
-    let behind = behind_key schema place kind.Int (number_kind (open_kind schema place) (fits 1)) in
+    let following = after_key schema place kind.Int (number_kind (open_kind schema place) (fits 1)) in
     let old = get_or row place (value.Int (pos 0)) in
-    let is_int : fits_kind kind.Int old ≡ true = value_at_fits schema.columns row place kind.Int (value.Int (pos 0)) fit behind.1 in (
-      set_value_fits schema.columns row place kind.Int (new_value arithmetic n old) fit behind.1 (made_fits arithmetic n old is_int),
-      take-set-le schema.keys row place (new_value arithmetic n old) behind.0,
+    let is_int : fits_kind kind.Int old ≡ true = value_at_fits schema.columns row place kind.Int (value.Int (pos 0)) fit following.1 in (
+      set_value_fits schema.columns row place kind.Int (new_value arithmetic n old) fit following.1 (made_fits arithmetic n old is_int),
+      take-set-le schema.keys row place (new_value arithmetic n old) following.0,
     )
 
 pub op_keeps : (schema : Schema) (op : Op) (row : List Value) → OpFits schema op → fit_columns schema.columns row ≡ true

@@ -1,6 +1,6 @@
 -- A walk over the bytes of values.
 use Rattle.std.proofs.Common.{◌≡◌, ◌≢◌, ℕ, zero, suc, ◌+◌, ◌<◌, ◌≤◌, ◌==◌, true, false, List, [], ◌∷◌, ◌++◌, length, length-append, length-drop}
-use Rattle.std.proofs.Common.{append-nil, take, drop, get_or, set, slice_get, map, None, Some, refl, sym, ap, subst, ◌∙◌, arith}
+use Rattle.std.proofs.Common.{append-nil, take, drop, get_or, set, slice_get, None, Some, refl, sym, ap, subst, ◌∙◌, arith}
 use Rattle.std.proofs.Math.Logic.{⊎_elim}
 use Rattle.std.proofs.lemmas.Bool.{cases_lt, ne_eqb}
 use Rattle.std.proofs.lemmas.List.{take_all, drop_all}
@@ -151,11 +151,6 @@ pushed bytes v h fits =
     let joined : packed_values (unpacked bytes ++ v ∷ []) ≡ bytes ++ packed_value v =
     packed-append (unpacked bytes) (v ∷ []) ∙ ap (λ z. z ++ (packed_value v ++ [])) h.same ∙ ap (λ z. bytes ++ z) (append-nil (packed_value v)) in
     sym (ap unpacked joined) ∙ unpacked-packed _ (in_range-append (unpacked bytes) (v ∷ []) h.in_range (fits, tt))
-
-set_around : (n : ℕ) (vs : List Value) (v : Value) → n < length vs → (take n vs ++ v ∷ []) ++ drop (n + 1) vs ≡ set vs n v
-set_around n [] v within = absurd (omega arith)
-set_around zero (w ∷ vs) v within = refl
-set_around (suc n) (w ∷ vs) v within = let k : suc n + 1 ≡ suc (n + 1) = omega arith in rw k (ap (λ z. w ∷ z) (set_around n vs v (omega arith)))
 
 -- bytes of values after bytes of values
 join : (first second : List ℕ) → IsPacked first → IsPacked second → packed_values (unpacked first ++ unpacked second) ≡ first ++ second

@@ -34,8 +34,8 @@ in_turn = refl
 greatest : after_ops (Add 0 (pos 1) ∷ []) (value.Int (pos 9223372036854775807) ∷ []) ≡ value.Int (pos 9223372036854775807) ∷ []
 greatest = refl
 
-least : after_ops (Add 0 (negsuc 0) ∷ []) (value.Int (negsuc 9223372036854775807) ∷ []) ≡ value.Int (negsuc 9223372036854775807) ∷ []
-least = refl
+lowest : after_ops (Add 0 (negsuc 0) ∷ []) (value.Int (negsuc 9223372036854775807) ∷ []) ≡ value.Int (negsuc 9223372036854775807) ∷ []
+lowest = refl
 
 -- the next number is added to the sum that stopped at the largest int
 held_between : after_ops (Add 0 (pos 2) ∷ Add 0 (negsuc 2) ∷ []) (value.Int (pos 9223372036854775806) ∷ []) ≡ value.Int (pos 9223372036854775804) ∷ []
@@ -137,8 +137,8 @@ bad_key = refl
 add_to_key : checked_ops stock 2 (Add 0 (pos 1) ∷ []) ≡ Err NoSuchColumn
 add_to_key = refl
 
-least_fault : checked_ops shops 2 (Add 2 (pos 1) ∷ Set 4 (value.Int (pos 1)) ∷ Set 1 (value.Int (pos 1)) ∷ []) ≡ Err NoSuchColumn
-least_fault = refl
+lowest_fault : checked_ops shops 2 (Add 2 (pos 1) ∷ Set 4 (value.Int (pos 1)) ∷ Set 1 (value.Int (pos 1)) ∷ []) ≡ Err NoSuchColumn
+lowest_fault = refl
 
 of_another_kind : checked_ops shops 2 (Add 2 (pos 1) ∷ Set 3 (value.Int (pos 1)) ∷ []) ≡ Err (BadField 2)
 of_another_kind = refl

@@ -5,7 +5,7 @@ use Rattle.std.specs.Cmp.Lexicographic.{pointwise}
 use Rattle.std.specs.List.{filter_map}
 use Rattle.bt_row.specs.Arithmetic.{Action, Makes, Sets, action_of, arithmetic_of_word, op_making, new_value, word_of}
 use Rattle.bt_value.specs.Ints.{int_of}
-use Rattle.bt_value.specs.Refusals.{least}
+use Rattle.bt_value.specs.Refusals.{lowest}
 use Rattle.bt_row.specs.Schemas.{Schema, values_of}
 use Rattle.bt_value.specs.Values.{fits_kind, default_of, value_of}
 use Rattle.bt_value.specs.Results.{all_read, both_read, or_refused, unless}
@@ -171,4 +171,4 @@ fault_of schema item op = action_fault schema item (action_of op)
 -- whether these are 1 to 16 operations that fit a schema, or their least refusal as this item
 abbrev pub checked_ops : Schema → ℕ → List Op → Result (Unit {0}) Refusal
 checked_ops schema item ops =
-    if nat_le 1 (length ops) && nat_le (length ops) most_ops then unless (least (filter_map (fault_of schema item) ops)) tt else Err (BadLength item)
+    if nat_le 1 (length ops) && nat_le (length ops) most_ops then unless (lowest (filter_map (fault_of schema item) ops)) tt else Err (BadLength item)

@@ -68,7 +68,7 @@ fn has_room(short: &Inline, first: &[u8], second: &[u8]) -> bool
 
 // Writes both byte strings after the bytes that are there.
 #[inline(always)]
-fn write_behind(short: &mut Inline, first: &[u8], second: &[u8])
+fn write_after(short: &mut Inline, first: &[u8], second: &[u8])
     requires { short.old.len + (length first.now + length second.now) ≤ MOST_INLINE }
     ensures bytes { take short.new.len short.new.bytes ≡ take short.old.len short.old.bytes ++ (first.now ++ second.now) }
     ensures inside { short.new.len ≤ MOST_INLINE }
@@ -177,7 +177,7 @@ impl GrowingBytes {
         match &mut self.storage {
             GrowingStorage::Short(short) => {
                 if has_room(short, first, second) {
-                    write_behind(short, first, second);
+                    write_after(short, first, second);
                     return Ok(());
                 }
                 let len = short.len as usize;

@@ -41,7 +41,7 @@ pub use arguments::Arguments;
 pub use change::{Change, copy_change};
 pub use filter::{Filter, Test};
 pub use growing_bytes::GrowingBytes;
-pub use op::{Action, Arithmetic, MOST_OPS, Op, Ops, SET_WORD, one_op};
+pub use op::{Action, Arithmetic, MOST_OPS, Op, Ops, SET_WORD};
 pub use op_faults::check_ops;
 pub use record_writer::{write_record, write_row};
 pub use row::{Row, copy_row};

@@ -42,7 +42,7 @@ pub enum Action<'a> {
 pub type Ops = Sequence<Op>;
 
 /// The list of this one operation.
-pub fn one_op(alloc: Global, op: Op) -> Result<Ops, AllocError>
+pub(crate) fn one_op(alloc: Global, op: Op) -> Result<Ops, AllocError>
     ensures { IfOk result (λ ops. ops ≡ op ∷ []) }
 {
     let mut ops = Ops::with_capacity(alloc, 1)?;

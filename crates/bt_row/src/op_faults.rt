@@ -4,12 +4,12 @@ ghost use Rattle.std.specs.List.{filter_map};
 ghost use Rattle.std.specs.Option.{option_to_list};
 ghost use Rattle.bt_row.specs.Fits.{OpInRange, OpsInRange};
 ghost use Rattle.bt_row.specs.Ops as spec;
-ghost use Rattle.bt_value.specs.Refusals.{least, least_from};
+ghost use Rattle.bt_value.specs.Refusals.{lowest, lowest_from};
 ghost use Rattle.bt_value.specs.Values.{IsInRange};
 
 use crate::op::{Action, MOST_OPS, Op};
 use crate::schema::{Schema, is_of_kind};
-use bt_value::{Kind, Refusal, Value, least_with};
+use bt_value::{Kind, Refusal, Value, lowest_with};
 
 // The kind of the column at a place, if operations may change it.
 fn open_kind(schema: &Schema, place: usize) -> Option<Kind>
@@ -61,17 +61,17 @@ fn fault_of(schema: &Schema, item: u64, op: &Op) -> Option<Refusal>
 
 // The smaller of a refusal found before, if there was one, and of a fault, if there is one.
 fn with_fault(found: Option<Refusal>, fault: Option<Refusal>) -> Option<Refusal>
-    ensures { result ≡ least_from found (option_to_list fault) }
+    ensures { result ≡ lowest_from found (option_to_list fault) }
 {
     match fault {
-        Some(fault) => Some(least_with(found, fault)),
+        Some(fault) => Some(lowest_with(found, fault)),
         None => found,
     }
 }
 
 // The least fault of the operations, if they have one.
-fn least_fault(schema: &Schema, item: u64, ops: &[Op]) -> Option<Refusal>
-    ensures fault { result ≡ least (filter_map (spec.fault_of schema.now item) ops.now) }
+fn lowest_fault(schema: &Schema, item: u64, ops: &[Op]) -> Option<Refusal>
+    ensures fault { result ≡ lowest (filter_map (spec.fault_of schema.now item) ops.now) }
     ensures in_range { OpsInRange ops.now }
 {
     let mut found = None;
@@ -90,7 +90,7 @@ pub fn check_ops(schema: &Schema, item: u64, ops: &[Op]) -> Result<(), Refusal>
     if ops.is_empty() || ops.len() > MOST_OPS {
         return Err(Refusal::BadLength(item));
     }
-    match least_fault(schema, item, ops) {
+    match lowest_fault(schema, item, ops) {
         Some(refusal) => Err(refusal),
         None => Ok(()),
     }

@@ -19,12 +19,12 @@ pub(crate) fn int_at(bytes: &[u8]) -> i64
 
 // The number of bytes that a value of a form takes, given the bytes after its tag.
 #[inline(always)]
-fn width_in(form: Form, behind: &[u8]) -> usize
-    ensures { result ≡ width_of_form form behind.now }
+fn width_in(form: Form, following: &[u8]) -> usize
+    ensures { result ≡ width_of_form form following.now }
 {
     match form {
         Form::Number => 9,
-        Form::Bytes => match behind {
+        Form::Bytes => match following {
             [len, ..] => *len as usize + 2,
             [] => 2,
         },
@@ -38,7 +38,7 @@ pub(crate) fn width(bytes: &[u8]) -> usize
     ensures { result ≡ width_of bytes.now }
 {
     match bytes {
-        [tag, behind @ ..] => width_in(Kind::from_tag(*tag).form(), behind),
+        [tag, following @ ..] => width_in(Kind::from_tag(*tag).form(), following),
         [] => 0,
     }
 }

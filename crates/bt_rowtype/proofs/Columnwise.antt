@@ -9,24 +9,24 @@ use Rattle.bt_row.specs.declared.schema.Column.{Column}
 use Rattle.bt_value.specs.declared.value.Value.{Value}
 
 -- values followed by others, if there are others
-abbrev pub behind : List Value → Option (List Value) → Option (List Value)
-behind prefix rest = option_map (λ vs. prefix ++ vs) rest
+abbrev pub following : List Value → Option (List Value) → Option (List Value)
+following prefix rest = option_map (λ vs. prefix ++ vs) rest
 
-behind-first : (prefix : List Value) (v : Value) (rest : Option (List Value)) → behind prefix (with_first (Some v) rest) ≡ behind (prefix ++ v ∷ []) rest
-behind-first prefix v None = refl
-behind-first prefix v (Some vs) = ap Some (sym (append_assoc prefix (v ∷ []) vs))
+following-first : (prefix : List Value) (v : Value) (rest : Option (List Value)) → following prefix (with_first (Some v) rest) ≡ following (prefix ++ v ∷ []) rest
+following-first prefix v None = refl
+following-first prefix v (Some vs) = ap Some (sym (append_assoc prefix (v ∷ []) vs))
 
 -- one more field that encodes a value
 pub values-drop-some : (columns : List Column) (fields : List (List ℕ)) (i : ℕ) (c : Column) (prefix : List Value) (v : Value) → i < length columns → i < length fields
     → value_of (get_or columns i c).kind (get_or fields i []) ≡ Some v
-    → behind prefix (values_of (drop i columns) (drop i fields)) ≡ behind (prefix ++ v ∷ []) (values_of (drop (i + 1) columns) (drop (i + 1) fields))
+    → following prefix (values_of (drop i columns) (drop i fields)) ≡ following (prefix ++ v ∷ []) (values_of (drop (i + 1) columns) (drop (i + 1) fields))
 values-drop-some columns fields i c prefix v in_columns in_fields spelled =
-    rw (drop_more columns i c in_columns, drop_more fields i [] in_fields, spelled) (behind-first prefix v (values_of (drop (i + 1) columns) (drop (i + 1) fields)))
+    rw (drop_more columns i c in_columns, drop_more fields i [] in_fields, spelled) (following-first prefix v (values_of (drop (i + 1) columns) (drop (i + 1) fields)))
 
 -- a field that encodes no value
 pub values-drop-none : (columns : List Column) (fields : List (List ℕ)) (i : ℕ) (c : Column) (prefix : List Value) → i < length columns → i < length fields
     → value_of (get_or columns i c).kind (get_or fields i []) ≡ None
-    → behind prefix (values_of (drop i columns) (drop i fields)) ≡ None
+    → following prefix (values_of (drop i columns) (drop i fields)) ≡ None
 values-drop-none columns fields i c prefix in_columns in_fields not_spelled = rw (drop_more columns i c in_columns, drop_more fields i [] in_fields, not_spelled) refl
 
 -- the field at a place
@@ -44,8 +44,8 @@ first_value columns fields place column field found within at_column at_field is
 pub first_more : (columns : List Column) (fields : List (List ℕ)) (place : ℕ) (column : Column) (prefix : List Value) (v : Value) (field : List ℕ)
     → place < length columns → length columns ≤ length fields
     → get_or columns place column ≡ column → slice_get fields place ≡ Some field → value_of column.kind field ≡ Some v
-    → behind prefix (values_of (drop place columns) (drop place (take (length columns) fields)))
-    ≡ behind (prefix ++ v ∷ []) (values_of (drop (place + 1) columns) (drop (place + 1) (take (length columns) fields)))
+    → following prefix (values_of (drop place columns) (drop place (take (length columns) fields)))
+    ≡ following (prefix ++ v ∷ []) (values_of (drop (place + 1) columns) (drop (place + 1) (take (length columns) fields)))
 first_more columns fields place column prefix v field within long at_column at_field is =
     let here : place < length (take (length columns) fields) = omega (arith, within, long, length-take (length columns) fields) in
     values-drop-some columns (take (length columns) fields) place column prefix v within here (first_value columns fields place column field (Some v) within at_column at_field is)
@@ -53,7 +53,7 @@ first_more columns fields place column prefix v field within long at_column at_f
 -- a field that encodes no value
 pub first_none : (columns : List Column) (fields : List (List ℕ)) (place : ℕ) (column : Column) (prefix : List Value) (field : List ℕ) → place < length columns → length columns ≤ length fields
     → get_or columns place column ≡ column → slice_get fields place ≡ Some field → value_of column.kind field ≡ None
-    → behind prefix (values_of (drop place columns) (drop place (take (length columns) fields))) ≡ None
+    → following prefix (values_of (drop place columns) (drop place (take (length columns) fields))) ≡ None
 first_none columns fields place column prefix field within long at_column at_field is =
     let here : place < length (take (length columns) fields) = omega (arith, within, long, length-take (length columns) fields) in
     values-drop-none columns (take (length columns) fields) place column prefix within here (first_value columns fields place column field None within at_column at_field is)

@@ -33,7 +33,7 @@ pub fn both_read<S: Drop, T: Drop>(
                 Err(refusal)
             }
             Err(Refusal::OutOfMemory) => Err(Refusal::OutOfMemory),
-            Err(other) => Err(refusal.lesser(other)),
+            Err(other) => Err(refusal.lower(other)),
         },
     }
 }

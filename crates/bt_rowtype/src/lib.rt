@@ -4,9 +4,9 @@
 //! [`Row`], or is refused with a number, a name and the item at fault. The record of an upsert becomes a key and operations ([`Op`]) that
 //! change single columns of a row. Together with the row to begin with, they are a [`Change`].
 //!
-//! The records of a CSV text are borrowed one after the other ([`Records`]). A [`RecordReader`] reads rows, keys and upserts directly from
-//! lines. If you already have owned [`Fields`], then [`read_row`], [`read_key`], [`read_ops`] and [`read_upsert`] return the same, and
-//! [`is_header`] compares them with the names of columns.
+//! The records of a CSV text are borrowed one after the other ([`Records`]). A [`RecordReader`] reads rows, keys and changes directly from
+//! lines. If you already have owned [`Fields`], then [`read_row`], [`read_key`] and [`read_ops`] return the same, and [`is_header`]
+//! compares them with the names of columns.
 //!
 //! The crate depends on three crates: `bt_value` has kinds, values and refusals, `bt_record` cuts texts into records and fields, and
 //! `bt_row` has rows, schemas and operations. This crate re-exports the parts of them that most callers need. A crate that needs only
@@ -43,7 +43,7 @@ mod row_reader;
 mod upsert;
 
 pub use both::both_read;
-pub use bt_record::{Fields, RecordLine, Records, read_record};
+pub use bt_record::{Fields, RecordLine, Records};
 pub use bt_row::{
     Action, Arguments, Arithmetic, Change, Column, Columns, Filter, GrowingBytes, MOST_COLUMNS,
     MOST_KEYS, MOST_OPS, Op, Ops, Row, Schema, Test, Values, apply_ops, check_ops, compare_values,
@@ -51,11 +51,11 @@ pub use bt_row::{
 };
 pub use bt_value::{
     Binary, Bytes, Collected, Content, Form, Kind, MOST_VALUE_BYTES, Refusal, SHORT_BYTES,
-    Sequence, Text, Texts, TryClone, Value, ValueRef, clone_all, least_with, read_field, write_hex,
-    write_number,
+    Sequence, Text, Texts, TryClone, Value, ValueRef, clone_all, lowest_with, read_field,
+    write_hex, write_number,
 };
 pub use header::is_header;
 pub use item::Item;
 pub use record_reader::RecordReader;
 pub use row_reader::{read_key, read_row};
-pub use upsert::{Upsert, read_ops, read_upsert};
+pub use upsert::read_ops;

@@ -7,9 +7,9 @@ ghost use Rattle.bt_row.specs.Schemas.{prefix_as, read_as};
 
 use crate::plain_row::read_plain_row;
 use crate::row_reader::{read_fields, read_values};
-use crate::upsert::{Upsert, read_plain_upsert, read_upsert_record};
+use crate::upsert::{Upsert, read_plain_upsert, read_upsert};
 use bt_record::{FieldsRef, RecordCutter, RecordLine};
-use bt_row::{Change, Column, MOST_OPS, Row, Schema, default_row, one_op};
+use bt_row::{Change, Column, MOST_OPS, Row, Schema, default_row};
 use bt_value::Refusal;
 use std::alloc::Global;
 
@@ -109,25 +109,10 @@ impl RecordReader {
         read_fields(alloc, &columns[..fields.len()], item, &fields)
     }
 
-    /// The key and the operations that a line encodes. The result is the same as that of `read_upsert` for the line's fields.
-    pub fn read_upsert(
-        &mut self,
-        alloc: Global,
-        schema: &Schema,
-        item: u64,
-        line: &RecordLine<'_>,
-    ) -> Result<Upsert, Refusal>
-        ensures { Answers (spec.upsert_as schema.now item line.now) (result_map_both (λ upsert. (upsert.key, upsert.ops)) (λ e. e) result) }
-    {
-        if let Some((key, op)) = read_plain_upsert(alloc, schema, item, line.text())? {
-            let ops = one_op(alloc, op)?;
-            return Ok(Upsert { key, ops });
-        }
-        self.read_cut_upsert(alloc, schema, item, line)
-    }
-
-    /// What the upsert that a line encodes does to the row of its key, refused as in `read_upsert`. The row to begin with starts with the
-    /// key's values.
+    /// What the upsert that a line encodes does to the row of its key. The row to begin with starts with the key's values.
+    ///
+    /// Its operations are refused as in [`read_ops`](crate::read_ops), and a field of the key as `BadField`. If both are at fault, the
+    /// smaller refusal is returned.
     ///
     /// If the line is plain, a single arithmetic operation needs no list.
     #[tactic(auto, using(bt_row::proofs::offered::Fits::upsert_begins))]
@@ -162,6 +147,6 @@ impl RecordReader {
     {
         let keys = schema.key_columns().len();
         let fields = self.bounded_fields(item, line, keys + 3 * MOST_OPS)?;
-        read_upsert_record(alloc, schema, item, &fields)
+        read_upsert(alloc, schema, item, &fields)
     }
 }

@@ -1,14 +1,13 @@
 //! Reading the record of an upsert.
-ghost use Rattle.std.specs.Prelude.{◌≡◌, ◌≢◌, ◌≤◌, ◌∷◌, [], Err, IfErr, IfOk, IfSome, List, Ok, drop, false, is_some, length, true};
+ghost use Rattle.std.specs.Prelude.{◌≡◌, ◌≤◌, ◌∷◌, [], Err, IfErr, IfOk, IfSome, Ok, drop, false, is_some, length, true};
 ghost use Rattle.std.specs.List.{filter_map};
 ghost use Rattle.std.specs.Result.{result_err, result_map_both, result_ok};
 ghost use Rattle.bt_value.specs.Answers.{Answers};
 ghost use Rattle.bt_value.specs.Ints.{int_of};
 ghost use Rattle.bt_row.specs.Ops as spec;
 ghost use Rattle.bt_record.specs.Records.{csv_record, fields_in};
-ghost use Rattle.bt_value.specs.Refusals.{least};
+ghost use Rattle.bt_value.specs.Refusals.{lowest};
 ghost use Rattle.bt_value.specs.Results.{both_read, or_refused};
-ghost use Rattle.bt_value.specs.declared.value.Value.{Value};
 
 use crate::both::both_read;
 use crate::plain_row::read_plain_columns;
@@ -19,12 +18,12 @@ use bt_value::{Collected, Kind, Refusal, plain_group, read_int, read_value};
 use std::alloc::{AllocError, Global};
 
 /// The key and the operations of an upsert.
-#[derive(Debug, Drop)]
-pub struct Upsert {
+#[derive(Drop)]
+pub(crate) struct Upsert {
     /// The values of the key.
-    pub key: Row,
+    pub(crate) key: Row,
     /// The operations on its row.
-    pub ops: Ops,
+    pub(crate) ops: Ops,
 }
 
 // The column with this name that operations may change, and its kind.
@@ -121,7 +120,7 @@ fn read_groups(
 ) -> Result<Collected<Op>, AllocError>
     requires { schema.now.keys ≤ length fields.now }
     ensures values { IfOk result (λ read. read.values ≡ filter_map result_ok (spec.ops_of schema.now item (drop schema.now.keys fields.now))) }
-    ensures refusal { IfOk result (λ read. read.refusal ≡ least (filter_map result_err (spec.ops_of schema.now item (drop schema.now.keys fields.now)))) }
+    ensures refusal { IfOk result (λ read. read.refusal ≡ lowest (filter_map result_err (spec.ops_of schema.now item (drop schema.now.keys fields.now)))) }
 {
     let keys = schema.keys();
     let groups = (fields.len() - keys) / 3;
@@ -193,15 +192,15 @@ pub(crate) fn read_plain_upsert(
     }
 }
 
-/// The key and the operations that the record of an upsert encodes.
-pub(crate) fn read_upsert_record(
+/// The key and the operations that the record of an upsert encodes. They are refused as in [`read_ops`], or as `BadField` for a field of
+/// the key. If both are at fault, the smaller refusal is returned.
+pub(crate) fn read_upsert(
     alloc: Global,
     schema: &Schema,
     item: u64,
     fields: &FieldsRef<'_>,
 ) -> Result<Upsert, Refusal>
-    ensures answer { Answers (spec.upsert_as schema.now item fields.now) (result_map_both (λ upsert. (upsert.key, upsert.ops)) (λ e. e) result) }
-    ensures certain { spec.is_upsert schema.now.keys (length fields.now) ≡ false → result ≡ Err (Refusal.BadLength item) }
+    ensures { Answers (spec.upsert_as schema.now item fields.now) (result_map_both (λ upsert. (upsert.key, upsert.ops)) (λ e. e) result) }
 {
     if !is_upsert(schema.keys(), fields.len()) {
         return Err(Refusal::BadLength(item));
@@ -210,18 +209,4 @@ pub(crate) fn read_upsert_record(
     let ops = read_ops_record(alloc, schema, item, fields);
     let (key, ops) = both_read(key, ops)?;
     Ok(Upsert { key, ops })
-}
-
-/// The key and the operations that the record of an upsert encodes. They are refused as in [`read_ops`], or as `BadField` for a field of
-/// the key. If both are at fault, the smaller refusal is returned.
-pub fn read_upsert(
-    alloc: Global,
-    schema: &Schema,
-    item: u64,
-    fields: &Fields,
-) -> Result<Upsert, Refusal>
-    ensures answer { Answers (spec.upsert_as schema.now item fields.now) (result_map_both (λ upsert. (upsert.key, upsert.ops)) (λ e. e) result) }
-    ensures certain { spec.is_upsert schema.now.keys (length fields.now) ≡ false → result ≡ Err (Refusal.BadLength item) }
-{
-    read_upsert_record(alloc, schema, item, &fields.as_ref())
 }

@@ -78,9 +78,9 @@ feed_at (b ∷ bs) within = elim (cases_Bool (b == 10)) [
     feed_later b bs other more = rw (other, one_plus_one (position_or_len (λ x. x == 10) bs), one_plus (position_or_len (λ x. x == 10) bs)) (ap (λ (l : List ℕ). b ∷ l) more)
 
 -- the bytes of the line at a place, if a line feed ends it
-pub feed_behind : (script : List ℕ) (at n : ℕ) → n ≡ length (take_while (λ b. not (b == 10)) (take (length script - at) (drop at script)))
+pub feed_after : (script : List ℕ) (at n : ℕ) → n ≡ length (take_while (λ b. not (b == 10)) (take (length script - at) (drop at script)))
     → at + n < length script → drop at script ≡ take n (take (length script - at) (drop at script)) ++ 10 ∷ drop (at + n + 1) script
-feed_behind script at n count within =
+feed_after script at n count within =
     let rest = drop at script in
     let whole : take (length script - at) rest ≡ rest = take_rest script at in
     let n_is : n ≡ position_or_len (λ b. b == 10) rest =

@@ -3,5 +3,5 @@ use Rattle.std.proofs.Common.{List, ◌++◌, Option}
 use Rattle.std.specs.Prelude.{option_map}
 
 -- the first items and then others, if those exist
-abbrev pub behind : {A : Type 0} → List A → Option (List A) → Option (List A)
-behind prefix rest = option_map (λ xs. prefix ++ xs) rest
+abbrev pub following : {A : Type 0} → List A → Option (List A) → Option (List A)
+following prefix rest = option_map (λ xs. prefix ++ xs) rest

@@ -1,4 +1,4 @@
-pub mod Behind
+pub mod Following
 pub mod Blanks
 pub mod Cuts
 pub mod Feeds

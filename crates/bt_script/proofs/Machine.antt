@@ -7,7 +7,7 @@ use Rattle.std.proofs.lemmas.List.Elements.{filter-append}
 use Rattle.std.specs.Prelude.{◌&&◌, if◌then◌else◌, is_none, is_some, option_map}
 use Rattle.bt_record.specs.Records.{record_of}
 use Rattle.bt_script.specs.inside.Blocks.{FindsHeaded, IsBlock, and_bound, and_line, block_answer, headed, is_closed, place_after, with_bound, with_last}
-use Rattle.bt_script.specs.Commands.{Answer, Finds, Inside, Outside, all_some, behind_prefix, bounds_between, bounds_from, bounds_of, closing_of}
+use Rattle.bt_script.specs.Commands.{Answer, Finds, Inside, Outside, all_some, after_prefix, bounds_between, bounds_from, bounds_of, closing_of}
 use Rattle.bt_script.specs.Commands.{command_of, commands, commands_from, filled_lines, if_some, is_blank_line, is_word, item_of_line, items_of}
 use Rattle.bt_script.specs.Commands.{line_step, load_command, lower_bound, or_syntax, text_of_line, unfinished, upper_bound}
 use Rattle.bt_script.specs.Lines.{lines, words, without_return}
@@ -22,12 +22,12 @@ pub all_some-snoc : {A : Type 0} (os : List (Option A)) (o : Option A) → all_s
 all_some-snoc [] None = refl
 all_some-snoc [] (Some x) = refl
 all_some-snoc (None ∷ os) o = refl
-all_some-snoc (Some y ∷ os) o = ap (option_map (λ xs. y ∷ xs)) (all_some-snoc os o) ∙ behind_first y (all_some os) o
+all_some-snoc (Some y ∷ os) o = ap (option_map (λ xs. y ∷ xs)) (all_some-snoc os o) ∙ following_first y (all_some os) o
   where
-    behind_first : {A : Type 0} (y : A) (xs : Option (List A)) (o : Option A) → option_map (λ ys. y ∷ ys) (with_last xs o) ≡ with_last (option_map (λ ys. y ∷ ys) xs) o
-    behind_first y None o = refl
-    behind_first y (Some xs) None = refl
-    behind_first y (Some xs) (Some x) = refl
+    following_first : {A : Type 0} (y : A) (xs : Option (List A)) (o : Option A) → option_map (λ ys. y ∷ ys) (with_last xs o) ≡ with_last (option_map (λ ys. y ∷ ys) xs) o
+    following_first y None o = refl
+    following_first y (Some xs) None = refl
+    following_first y (Some xs) (Some x) = refl
 
 -- one more line of a batch
 pub items-more : (block : List (List ℕ)) (line : List ℕ) → items_of (block ++ line ∷ []) ≡ and_line (items_of block) (without_return line)
@@ -39,16 +39,16 @@ items-more block line = elim (cases_Bool (is_blank_line line)) [
 ]
 
 -- a line that begins with `from` does not begin with `to`
-not_upper : (line : List ℕ) → is_some (behind_prefix (codes "from ") line) ≡ true → behind_prefix (codes "to ") line ≡ None
+not_upper : (line : List ℕ) → is_some (after_prefix (codes "from ") line) ≡ true → after_prefix (codes "to ") line ≡ None
 not_upper [] lower = absurd (true≢false (sym lower))
 not_upper (b ∷ bs) lower = elim (cases_Bool (b == 116)) [
-  | inl first ↦ absurd (true≢false (sym (subst (λ x. is_some (behind_prefix (codes "from ") (x ∷ bs)) ≡ true) (eqb-true b 116 first) lower)))
+  | inl first ↦ absurd (true≢false (sym (subst (λ x. is_some (after_prefix (codes "from ") (x ∷ bs)) ≡ true) (eqb-true b 116 first) lower)))
   | inr other ↦ rw other refl
 ]
 
 -- after the upper bound there is no other one
 upper_last : (from : Option (List (List ℕ))) (to : List (List ℕ)) (line : List ℕ) → with_bound (bounds_between from (Some to)) line ≡ None
-upper_last from to line = by_test (is_some (behind_prefix (codes "from ") line)) from
+upper_last from to line = by_test (is_some (after_prefix (codes "from ") line)) from
   where
     by_test : (lower : Bool) (from : Option (List (List ℕ)))
         → (if lower then (if is_none from && is_none (Some to) then option_map (λ own. bounds_between (Some own) None) (lower_bound line) else None) else None) ≡ None
@@ -58,7 +58,7 @@ upper_last from to line = by_test (is_some (behind_prefix (codes "from ") line))
 
 -- after the lower bound comes the upper one
 upper_after : (from : List (List ℕ)) (line : List ℕ) → option_map (λ to. bounds_between (Some from) (Some to)) (upper_bound line) ≡ with_bound (bounds_between (Some from) None) line
-upper_after from line = elim (cases_Bool (is_some (behind_prefix (codes "from ") line))) [
+upper_after from line = elim (cases_Bool (is_some (after_prefix (codes "from ") line))) [
   | inl lower ↦ rw (lower, not_upper line lower) refl
   | inr other ↦ rw other refl
 ]
@@ -66,7 +66,7 @@ upper_after from line = elim (cases_Bool (is_some (behind_prefix (codes "from ")
 -- one more line of those that write bounds
 bounds_from-more : (texts : List (List ℕ)) (line : List ℕ) → bounds_from (texts ++ line ∷ []) ≡ if_some (bounds_from texts) (λ own. with_bound own line)
 bounds_from-more [] line = refl
-bounds_from-more (first ∷ []) line = by_first (behind_prefix (codes "from ") first)
+bounds_from-more (first ∷ []) line = by_first (after_prefix (codes "from ") first)
   where
     by_upper : (to : Option (List (List ℕ))) → ◌≡◌ {A = Option Bounds} None (if_some (option_map (λ own. bounds_between None (Some own)) to) (λ own. with_bound own line))
     by_upper None = refl

@@ -25,7 +25,7 @@ use Rattle.clap.proofs.CallerLemmas.{entry_by_id}
 use Rattle.clap.proofs.SimpleLemmas.{HasPlainFields, all_simple, plain_fields, simple_groups}
 use Rattle.clap.proofs.WalkLemmas.{first_value-rows}
 use Rattle.bt_gang.specs.declared.crew.TheConstants.{DEEPEST_CUT, LARGEST_GRAIN, MOST_WORKERS}
-use Rattle.bt_script.specs.Options.{betable, number_given, options, rows_of_words}
+use Rattle.bt_script.specs.Options.{betable, number_given, options, rows_of_arguments}
 
 -- an option of this name takes a whole number from 1 to `most`
 abbrev pub HasLimit : Text → ℕ → Rule → Type 0
@@ -148,27 +148,27 @@ module _ (command : Command) (matches : ArgMatches) (parse : IsParsedFrom comman
 abbrev pub ReadsNumber : Text → Result ℕ ParseIntError → Type 0
 ReadsNumber text r = ParsesUnsigned 64 10 text r × ExplainsUnsignedError 10 text r × HasUnsignedDigitsIfOk text r
 
--- the words give the number n, from 1 to `most`, by an option or by its default
+-- the arguments give the number n, from 1 to `most`, by an option or by its default
 abbrev pub IsNumberGiven : List Text → Text → ℕ → ℕ → ℕ → Type 0
-IsNumberGiven words name most default n = (n ≡ number_given name default words) × ((1 ≤ n) × (n ≤ most))
+IsNumberGiven arguments name most default n = (n ≡ number_given name default arguments) × ((1 ≤ n) × (n ≤ most))
 
-module _ (words : List Text) (matches : ArgMatches) (rows : rows_of (found_of matches) ≡ rows_of_words words)
+module _ (arguments : List Text) (matches : ArgMatches) (rows : rows_of (found_of matches) ≡ rows_of_arguments arguments)
     (parsed : (command : Command) × (app_of command ≡ betable) × IsParsedFrom command matches) where
-  -- what `get_one` reads, or else the default, is the number that the words give
+  -- what `get_one` reads, or else the default, is the number that the arguments give
   pub number_read : (name : Text) (most : ℕ) → IsNumberOption name most → (default : ℕ) → 1 ≤ default → default ≤ most → (r : Option ℕ)
       → (one_text (found_of matches) name ≡ None → r ≡ None) → ((t : Text) → one_text (found_of matches) name ≡ Some t → ReadsOne ReadsNumber t r)
-      → (n : ℕ) → n ≡ unwrap_or r default → IsNumberGiven words name most default n
-  number_read name most option default least fits r none some n is =
-      let texts : first_value (found_of matches) name ≡ first_of name (rows_of_words words) =
+      → (n : ℕ) → n ≡ unwrap_or r default → IsNumberGiven arguments name most default n
+  number_read name most option default lowest fits r none some n is =
+      let texts : first_value (found_of matches) name ≡ first_of name (rows_of_arguments arguments) =
       first_value-rows (found_of matches) name ∙ ap (first_of name) rows in
-      subst (IsNumberGiven words name most default) (sym is) (elim (number_found parsed.0 matches parsed.2 parsed.1 name most option) [
+      subst (IsNumberGiven arguments name most default) (sym is) (elim (number_found parsed.0 matches parsed.2 parsed.1 name most option) [
         | inl absent ↦
             let no : r ≡ None = none absent.0 in
-            rw (no, ← texts, absent.1) (refl, (least, fits))
+            rw (no, ← texts, absent.1) (refl, (lowest, fits))
         | inr there ↦ go there.0 (sym texts ∙ there.3) there.1 r (some there.0 there.2)
       ])
     where
-      go : (t : Text) → first_of name (rows_of_words words) ≡ Some t → IsUnsignedIn 1 most t → (o : Option ℕ) → ReadsOne ReadsNumber t o
-          → IsNumberGiven words name most default (unwrap_or o default)
+      go : (t : Text) → first_of name (rows_of_arguments arguments) ≡ Some t → IsUnsignedIn 1 most t → (o : Option ℕ) → ReadsOne ReadsNumber t o
+          → IsNumberGiven arguments name most default (unwrap_or o default)
       go t text within (Some v) h = rw text (h.0.1, (rw h.0.1 within.2, rw h.0.1 within.3))
       go t text within None h = absurd (h.1.0 (within.0, within.1))

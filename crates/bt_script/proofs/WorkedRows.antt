@@ -6,7 +6,7 @@ use Rattle.bt_row.specs.declared.filter.Test.TheVariants as test
 use Rattle.bt_value.specs.declared.value.Kind.TheVariants as kind
 use Rattle.bt_value.proofs.offered.OnLiterals.{values_on_literals}
 use Rattle.bt_script.specs.Commands.{build_command, closing_of, command_of, commands, commands_from, column_of, filter_of, table_from, index_command, index_from, line_step, names_of, table_command}
-use Rattle.bt_script.specs.Lines.{behind_words, text_of_lines}
+use Rattle.bt_script.specs.Lines.{after_words, text_of_lines}
 use Rattle.bt_script.specs.declared.command.Capacity.TheVariants.{Bytes, Messages}
 use Rattle.bt_script.specs.declared.command.Command.TheVariants.{Build, Drain, Drop, Load, Rebuild}
 
@@ -51,55 +51,55 @@ leaf_of_bytes = refl
 -- all parts of an index
 pub whole_index : command_of (codes "index c on city include qty where qty >= 15") []
     ≡ Some (index_from (codes "c") (codes "city" ∷ []) (codes "qty" ∷ []) (Some (record { column = codes "qty"; test = test.AtLeast; constant = codes "15" })))
-unfolding command_of index_command names_of filter_of behind_words values_on_literals
+unfolding command_of index_command names_of filter_of after_words values_on_literals
 whole_index = refl
 
 -- a constant in quotes, with a comma and a space, in a line with more spaces than it needs
 pub quoted_constant : command_of (codes " index  c on city   where  city  = \"Oslo, west\"") []
     ≡ Some (index_from (codes "c") (codes "city" ∷ []) [] (Some (record { column = codes "city"; test = test.Equal; constant = codes "Oslo, west" })))
-unfolding command_of index_command names_of filter_of behind_words values_on_literals
+unfolding command_of index_command names_of filter_of after_words values_on_literals
 quoted_constant = refl
 
 -- the spaces after the first one belong to the constant
 pub spaces_in_constant : command_of (codes "index c on city where qty <  a ") []
     ≡ Some (index_from (codes "c") (codes "city" ∷ []) [] (Some (record { column = codes "qty"; test = test.Less; constant = codes " a " })))
-unfolding command_of index_command names_of filter_of behind_words values_on_literals
+unfolding command_of index_command names_of filter_of after_words values_on_literals
 spaces_in_constant = refl
 
 -- no columns to include, no filter, and spaces at the end
 pub spaces_at_end : command_of (codes "index c on city,qty  ") [] ≡ Some (index_from (codes "c") (codes "city" ∷ codes "qty" ∷ []) [] None)
-unfolding command_of index_command names_of behind_words values_on_literals
+unfolding command_of index_command names_of after_words values_on_literals
 spaces_at_end = refl
 
 -- two fields after the test, no space, and no field
 pub two_fields : command_of (codes "index c on city where qty = 1,2") [] ≡ None
-unfolding command_of index_command names_of filter_of behind_words values_on_literals
+unfolding command_of index_command names_of filter_of after_words values_on_literals
 two_fields = refl
 
 pub no_space : command_of (codes "index c on city where qty =") [] ≡ None
-unfolding command_of index_command names_of filter_of behind_words values_on_literals
+unfolding command_of index_command names_of filter_of after_words values_on_literals
 no_space = refl
 
 pub no_field : command_of (codes "index c on city where qty = ") [] ≡ None
-unfolding command_of index_command names_of filter_of behind_words values_on_literals
+unfolding command_of index_command names_of filter_of after_words values_on_literals
 no_field = refl
 
 -- a filter without its column, and a test other than the three
 pub no_column : command_of (codes "index c on city where >= 15") [] ≡ None
-unfolding command_of index_command names_of filter_of behind_words values_on_literals
+unfolding command_of index_command names_of filter_of after_words values_on_literals
 no_column = refl
 
 pub other_test : command_of (codes "index c on city where qty > 15") [] ≡ None
-unfolding command_of index_command names_of filter_of behind_words values_on_literals
+unfolding command_of index_command names_of filter_of after_words values_on_literals
 other_test = refl
 
 -- a list of names with a space, and with an empty name
 pub spaced_names : command_of (codes "index c on city, qty") [] ≡ None
-unfolding command_of index_command names_of behind_words values_on_literals
+unfolding command_of index_command names_of after_words values_on_literals
 spaced_names = refl
 
 pub empty_name : command_of (codes "index c on city include qty,") [] ≡ None
-unfolding command_of index_command names_of behind_words values_on_literals
+unfolding command_of index_command names_of after_words values_on_literals
 empty_name = refl
 
 -- an index is dropped; more than one name is refused

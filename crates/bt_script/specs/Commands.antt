@@ -11,7 +11,7 @@ use Rattle.bt_row.specs.declared.filter.Test.TheVariants as test
 use Rattle.bt_value.specs.declared.refusal.Refusal.{Refusal}
 use Rattle.bt_value.specs.declared.refusal.Refusal.TheVariants.{Syntax, Unfinished}
 use Rattle.bt_row.specs.declared.schema.Column.{Column}
-use Rattle.bt_script.specs.Lines.{behind_words, is_blank, is_name, lines, name_of_word, number_of_word, text_of_lines, without_return, without_spaces, words}
+use Rattle.bt_script.specs.Lines.{after_words, is_blank, is_name, lines, name_of_word, number_of_word, text_of_lines, without_return, without_spaces, words}
 use Rattle.bt_script.specs.declared.command.Capacity.{Capacity}
 use Rattle.bt_script.specs.declared.command.Capacity.TheVariants.{Bytes, Messages}
 use Rattle.bt_script.specs.declared.command.Command.{Command}
@@ -45,19 +45,19 @@ abbrev pub if_some : {A B : Type 0} → Option A → (A → Option B) → Option
 if_some part rest = option_and_then rest part
 
 -- what follows a prefix, if a line begins with it
-abbrev pub behind_prefix : List ℕ → List ℕ → Option (List ℕ)
-behind_prefix prefix line = if is_word (take (length prefix) line) prefix then Some (drop (length prefix) line) else None
+abbrev pub after_prefix : List ℕ → List ℕ → Option (List ℕ)
+after_prefix prefix line = if is_word (take (length prefix) line) prefix then Some (drop (length prefix) line) else None
 
 -- the record that follows a prefix
-abbrev pub record_behind : List ℕ → List ℕ → Option (List (List ℕ))
-record_behind prefix line = if_some (behind_prefix prefix line) record_of
+abbrev pub record_after : List ℕ → List ℕ → Option (List (List ℕ))
+record_after prefix line = if_some (after_prefix prefix line) record_of
 
 -- a message of a batch: put, del or ups, one space and a record
 abbrev pub item_from : List ℕ → Option Item
 item_from line =
-    if is_some (behind_prefix (codes "put ") line) then option_map Put (record_behind (codes "put ") line)
-    else (if is_some (behind_prefix (codes "del ") line) then option_map Del (record_behind (codes "del ") line)
-    else option_map Ups (record_behind (codes "ups ") line))
+    if is_some (after_prefix (codes "put ") line) then option_map Put (record_after (codes "put ") line)
+    else (if is_some (after_prefix (codes "del ") line) then option_map Del (record_after (codes "del ") line)
+    else option_map Ups (record_after (codes "ups ") line))
 
 -- a line without the carriage return at its end and the spaces before its first word
 abbrev pub text_of_line : List ℕ → List ℕ
@@ -121,16 +121,16 @@ bounds_between from to = record { from = from; to = to }
 
 -- the lower bound that a line writes, if it begins with `from`, and the upper one, if it begins with `to`
 abbrev pub lower_bound : List ℕ → Option (List (List ℕ))
-lower_bound line = record_behind (codes "from ") line
+lower_bound line = record_after (codes "from ") line
 
 abbrev pub upper_bound : List ℕ → Option (List (List ℕ))
-upper_bound line = record_behind (codes "to ") line
+upper_bound line = record_after (codes "to ") line
 
 -- the bounds that these lines write: none, the lower one, the upper one, or the lower one and then the upper one
 abbrev pub bounds_from : List (List ℕ) → Option Bounds
 bounds_from [] = Some (bounds_between None None)
 bounds_from (line ∷ []) =
-    if is_some (behind_prefix (codes "from ") line) then option_map (λ from. bounds_between (Some from) None) (lower_bound line)
+    if is_some (after_prefix (codes "from ") line) then option_map (λ from. bounds_between (Some from) None) (lower_bound line)
     else option_map (λ to. bounds_between None (Some to)) (upper_bound line)
 bounds_from (first ∷ second ∷ []) = if_some (lower_bound first) (λ from. option_map (λ to. bounds_between (Some from) (Some to)) (upper_bound second))
 bounds_from (first ∷ second ∷ third ∷ others) = None
@@ -162,7 +162,7 @@ sums_command ws bounds =
 
 -- get, one space and a record
 abbrev pub get_command : List ℕ → Option Command
-get_command head = option_map Get (record_behind (codes "get ") (without_spaces head))
+get_command head = option_map Get (record_after (codes "get ") (without_spaces head))
 
 -- the names that commas join
 unfoldable pub names_of : List ℕ → Option (List (List ℕ))
@@ -182,7 +182,7 @@ only_field (field ∷ other ∷ fields) = None
 
 -- the constant of a filter: one space and a record of one field
 abbrev pub constant_of : List ℕ → Option (List ℕ)
-constant_of rest = if_some (record_behind (codes " ") rest) only_field
+constant_of rest = if_some (record_after (codes " ") rest) only_field
 
 -- the filter that a text of these words writes: `where`, a column, a test and a constant
 unfoldable pub filter_of : List ℕ → List (List ℕ) → Option Filter
@@ -190,7 +190,7 @@ filter_of text ws =
     if begins ws (codes "where") then
     if_some (name_of_word (word_at ws 1)) (λ column.
     if_some (test_of (word_at ws 2)) (λ t.
-    option_map (λ constant. record { column = column; test = t; constant = constant }) (constant_of (behind_words 3 text))))
+    option_map (λ constant. record { column = column; test = t; constant = constant }) (constant_of (after_words 3 text))))
     else None
 
 -- the filter of an index, or none if the text has no word
@@ -206,7 +206,7 @@ abbrev pub included_of : List (List ℕ) → Option (List (List ℕ))
 included_of ws = if includes ws then names_of (word_at ws 1) else Some []
 
 abbrev pub after_included : List ℕ → List (List ℕ) → List ℕ
-after_included text ws = if includes ws then behind_words 2 text else text
+after_included text ws = if includes ws then after_words 2 text else text
 
 abbrev pub index_from : List ℕ → List (List ℕ) → List (List ℕ) → Option Filter → Command
 index_from name on include filter = Index (record { name = name; on = on; include = include; filter = filter })
@@ -222,7 +222,7 @@ unfoldable pub index_command : List ℕ → List (List ℕ) → Option Command
 index_command head ws =
     if is_word (word_at ws 2) (codes "on") then
     if_some (name_of_word (word_at ws 1)) (λ name.
-    if_some (names_of (word_at ws 3)) (λ on. index_with name on (behind_words 4 head)))
+    if_some (names_of (word_at ws 3)) (λ on. index_with name on (after_words 4 head)))
     else None
 
 -- build, the name of an index and a number

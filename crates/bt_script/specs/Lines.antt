@@ -50,10 +50,10 @@ abbrev pub name_of_word : List ℕ → Option (List ℕ)
 name_of_word word = if is_name word then Some word else None
 
 -- what follows the first word of a line
-abbrev pub behind_word : List ℕ → List ℕ
-behind_word line = drop (length (take_while (λ b. not (b == 32)) (without_spaces line))) (without_spaces line)
+abbrev pub after_word : List ℕ → List ℕ
+after_word line = drop (length (take_while (λ b. not (b == 32)) (without_spaces line))) (without_spaces line)
 
 -- what follows the first n words of a line
-unfoldable pub behind_words : ℕ → List ℕ → List ℕ
-behind_words zero line = line
-behind_words (suc count) line = behind_words count (behind_word line)
+unfoldable pub after_words : ℕ → List ℕ → List ℕ
+after_words zero line = line
+after_words (suc count) line = after_words count (after_word line)

@@ -75,6 +75,6 @@ fault_text Read = codes "read failed"
 fault_text Write = codes "write failed"
 fault_text OutOfMemory = codes "out of memory"
 
--- the line of the error stream with these words
+-- the line of the error stream with this message
 abbrev pub error_line : List ℕ → List ℕ
-error_line words = codes "betable: " ++ (words ++ codes "\n")
+error_line message = codes "betable: " ++ (message ++ codes "\n")

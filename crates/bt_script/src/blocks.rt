@@ -5,7 +5,7 @@ ghost use Rattle.bt_script.specs.Commands as spec;
 
 use crate::command::{Bounds, Items};
 use crate::lines::{
-    behind_prefix, is_blank, is_word, next_line, record_behind, without_return, without_spaces,
+    after_prefix, is_blank, is_word, next_line, record_after, without_return, without_spaces,
 };
 use bt_record::RecordLine;
 use bt_rowtype::Item;
@@ -15,13 +15,13 @@ use std::alloc::{AllocError, Global};
 fn parse_item(text: &[u8]) -> Option<Item<'_>>
     ensures { result ≡ spec.item_from text.now }
 {
-    if let Some(record) = behind_prefix(b"put ", text) {
+    if let Some(record) = after_prefix(b"put ", text) {
         return RecordLine::new(record).map(Item::Put);
     }
-    if let Some(record) = behind_prefix(b"del ", text) {
+    if let Some(record) = after_prefix(b"del ", text) {
         return RecordLine::new(record).map(Item::Del);
     }
-    if let Some(record) = behind_prefix(b"ups ", text) {
+    if let Some(record) = after_prefix(b"ups ", text) {
         return RecordLine::new(record).map(Item::Ups);
     }
     None
@@ -96,7 +96,7 @@ fn with_bound<'a>(bounds: Bounds<'a>, text: &'a [u8]) -> Option<Bounds<'a>>
     ensures { result ≡ with_bound bounds.entry text.now }
 {
     let Bounds { from, to } = bounds;
-    if let Some(record) = behind_prefix(b"from ", text) {
+    if let Some(record) = after_prefix(b"from ", text) {
         if from.is_some() || to.is_some() {
             return None;
         }
@@ -109,7 +109,7 @@ fn with_bound<'a>(bounds: Bounds<'a>, text: &'a [u8]) -> Option<Bounds<'a>>
     if to.is_some() {
         return None;
     }
-    let to = record_behind(b"to ", text)?;
+    let to = record_after(b"to ", text)?;
     Some(Bounds { from, to: Some(to) })
 }
 

@@ -5,7 +5,7 @@ ghost use Rattle.bt_script.specs.inside.Forms as forms;
 
 use crate::command::{Bounds, Capacity, Command, IndexForm, Items, SumsForm, TableForm};
 use crate::lines::{
-    begins, behind_words, is_word, parse_name, parse_names, parse_number, parts, record_behind,
+    after_words, begins, is_word, parse_name, parse_names, parse_number, parts, record_after,
     without_spaces, word_at, words,
 };
 use crate::load::BlockText;
@@ -180,7 +180,7 @@ pub(crate) fn sums_command<'a>(
 pub(crate) fn get_command(head: &[u8]) -> Option<Command<'_>>
     ensures { result ≡ spec.get_command head.now }
 {
-    record_behind(b"get ", without_spaces(head)).map(Command::Get)
+    record_after(b"get ", without_spaces(head)).map(Command::Get)
 }
 
 // The command that a name makes with the word before it.
@@ -227,11 +227,11 @@ fn parse_test(word: &[u8]) -> Option<Test>
 }
 
 // The constant of a filter: one space, and a record of one field.
-#[tactic(auto, using(crate::proofs::Behind::only_none, crate::proofs::Behind::only_first))]
+#[tactic(auto, using(crate::proofs::Following::only_none, crate::proofs::Following::only_first))]
 fn parse_constant(alloc: Global, rest: &[u8]) -> Result<Option<Bytes>, AllocError>
     ensures { IfOk result (λ constant. constant ≡ spec.constant_of rest.now) }
 {
-    let Some(record) = record_behind(b" ", rest) else {
+    let Some(record) = record_after(b" ", rest) else {
         return Ok(None);
     };
     let fields = record.fields(alloc)?;
@@ -255,7 +255,7 @@ fn parse_filter(alloc: Global, text: &[u8], words: &[&[u8]]) -> Result<Option<Fi
     let Some(column) = parse_name(alloc, word_at(words, 1))? else {
         return Ok(None);
     };
-    match parse_constant(alloc, behind_words(text, 3))? {
+    match parse_constant(alloc, after_words(text, 3))? {
         Some(constant) => Ok(Some(Filter {
             column,
             test,
@@ -300,7 +300,7 @@ fn after_included<'a>(text: &'a [u8], words: &[&[u8]]) -> &'a [u8]
     ensures { result.now ≡ spec.after_included text.now (map (λ w. w.now) words.now) }
 {
     if includes(words) {
-        behind_words(text, 2)
+        after_words(text, 2)
     } else {
         text
     }
@@ -345,7 +345,7 @@ fn index_command<'a>(
         return Ok(None);
     };
     match parse_names(alloc, word_at(words, 3))? {
-        Some(on) => index_with(alloc, name, on, behind_words(head, 4)),
+        Some(on) => index_with(alloc, name, on, after_words(head, 4)),
         None => Ok(None),
     }
 }

@@ -1,4 +1,4 @@
-//! Scripts as text: the lines, words and commands of a script, the words of a command line, and the streams that a script is read from
+//! Scripts as text: the lines, words and commands of a script, the arguments of a command line, and the streams that a script is read from
 //! and its replies are written to.
 //!
 //! A script is any list of bytes. It is cut into lines, and the lines into commands; some commands have a block with a closing line.
@@ -14,6 +14,7 @@
 //! ```
 #![tactic(auto)]
 
+mod arguments;
 mod blocks;
 mod command;
 mod counted;
@@ -22,11 +23,10 @@ mod lines;
 mod load;
 mod parse;
 mod streams;
-mod words;
 
+pub use arguments::{Words, WordsError, read_words};
 pub use command::{Bounds, Capacity, Command, IndexForm, Items, Parsed, SumsForm, TableForm};
 pub use counted::Counted;
 pub use load::BlockText;
 pub use parse::parse_command;
 pub use streams::{RunFault, SCRIPT_LIMIT, read_script, write_error, write_text};
-pub use words::{Words, WordsError, read_words};

@@ -101,16 +101,16 @@ pub(crate) fn begins(words: &[&[u8]], word: &[u8]) -> bool
 }
 
 /// What follows a prefix, if the line begins with it.
-pub(crate) fn behind_prefix<'a>(prefix: &[u8], line: &'a [u8]) -> Option<&'a [u8]>
-    ensures { option_map (λ s. s.now) result ≡ spec.behind_prefix prefix.now line.now }
+pub(crate) fn after_prefix<'a>(prefix: &[u8], line: &'a [u8]) -> Option<&'a [u8]>
+    ensures { option_map (λ s. s.now) result ≡ spec.after_prefix prefix.now line.now }
 {
     line.strip_prefix(prefix)
 }
 
-pub(crate) fn record_behind<'a>(prefix: &[u8], line: &'a [u8]) -> Option<RecordLine<'a>>
-    ensures { result ≡ spec.record_behind prefix.now line.now }
+pub(crate) fn record_after<'a>(prefix: &[u8], line: &'a [u8]) -> Option<RecordLine<'a>>
+    ensures { result ≡ spec.record_after prefix.now line.now }
 {
-    match behind_prefix(prefix, line) {
+    match after_prefix(prefix, line) {
         Some(record) => RecordLine::new(record),
         None => None,
     }
@@ -131,22 +131,22 @@ fn word_len(line: &[u8]) -> usize
 }
 
 // What follows the first word of a line.
-fn behind_word(line: &[u8]) -> &[u8]
-    ensures { result.now ≡ text.behind_word line.now }
+fn after_word(line: &[u8]) -> &[u8]
+    ensures { result.now ≡ text.after_word line.now }
 {
     let from_word = without_spaces(line);
     &from_word[word_len(from_word)..]
 }
 
 /// What follows the first `count` words of a line.
-#[tactic(auto, using(crate::proofs::Behind::behind_none, crate::proofs::Behind::behind_more))]
-pub(crate) fn behind_words(line: &[u8], count: usize) -> &[u8]
-    ensures { result.now ≡ text.behind_words count line.now }
+#[tactic(auto, using(crate::proofs::Following::after_none, crate::proofs::Following::following_more))]
+pub(crate) fn after_words(line: &[u8], count: usize) -> &[u8]
+    ensures { result.now ≡ text.after_words count line.now }
 {
     if count == 0 {
         return line;
     }
-    behind_words(behind_word(line), count - 1)
+    after_words(after_word(line), count - 1)
 }
 
 fn has_digits(word: &[u8]) -> bool

@@ -1,6 +1,6 @@
 //! The parser of commands.
 ghost use Rattle.std.specs.Prelude.{◌≡◌, ◌∷◌, ◌<◌, ◌≤◌, IfOk, List, drop, length, true, ℕ};
-ghost use Rattle.bt_script.specs.inside.Blocks.{FindsHeaded, NextBehind, block_answer, place_after};
+ghost use Rattle.bt_script.specs.inside.Blocks.{FindsHeaded, NextFollowing, block_answer, place_after};
 ghost use Rattle.bt_script.specs.Commands as spec;
 
 use crate::blocks::{Block, BlockEnd, read_bounds, read_items};
@@ -51,7 +51,7 @@ fn parse_headed<'a>(
 ) -> Result<Parsed<'a>, AllocError>
     requires { at ≤ length script.now }
     ensures found { IfOk result (λ parsed. FindsHeaded parsed script.now head.now at) }
-    ensures past { IfOk result (λ parsed. NextBehind parsed script.now at) }
+    ensures past { IfOk result (λ parsed. NextFollowing parsed script.now at) }
 {
     if is_get(head) {
         return Ok(parsed_command(get_command(head), BlockEnd::Closed(at)));

@@ -100,13 +100,13 @@ pub fn write_text<W: Write>(writer: &mut Counted<W>, text: &[u8]) -> Result<(), 
     Ok(())
 }
 
-/// Writes these words as a line of the error stream, after `betable: `. If it fails, a prefix of the line is written.
-pub fn write_error<W: Write>(errors: &mut Counted<W>, words: &str) -> Result<(), RunFault>
-    ensures ok { OnOk result (Took W.contents errors.old errors.new (error_line words.now)) }
-    ensures err { OnErr result (TookPrefix W.contents errors.old errors.new (error_line words.now)) }
+/// Writes this message as a line of the error stream, after `betable: `. If it fails, a prefix of the line is written.
+pub fn write_error<W: Write>(errors: &mut Counted<W>, message: &str) -> Result<(), RunFault>
+    ensures ok { OnOk result (Took W.contents errors.old errors.new (error_line message.now)) }
+    ensures err { OnErr result (TookPrefix W.contents errors.old errors.new (error_line message.now)) }
     ensures fault { OnErr result (has_failed errors.new ≡ true) }
 {
     write_text(errors, b"betable: ")?;
-    write_text(errors, words.as_bytes())?;
+    write_text(errors, message.as_bytes())?;
     write_text(errors, b"\n")
 }

@@ -7,12 +7,12 @@ use Rattle.bt_script.specs.declared.command.Command.{Command}
 use Rattle.bt_script.specs.declared.command.IndexForm.{IndexForm}
 use Rattle.bt_fanout.specs.Definitions.{definition_as}
 use Rattle.bt_fanout.specs.Entries.{Definition}
-use Rattle.bt_value.specs.Refusals.{least}
+use Rattle.bt_value.specs.Refusals.{lowest}
 use Rattle.bt_table.specs.Calls.{name_refusals}
 use Rattle.bt_table.specs.Tables.{TableState, Intact, Lost}
 use Rattle.bt_table.specs.declared.reply.Reply.{Reply}
 use Rattle.bt_shell.specs.Logs.{checked, kind_after, kind_of, permitted}
-use Rattle.bt_shell.specs.Steps.{Done, State, call_outcome, creation_outcome, definition_of, definition_or_least, read_outcome}
+use Rattle.bt_shell.specs.Steps.{Done, State, call_outcome, creation_outcome, definition_of, definition_or_lowest, read_outcome}
 use Rattle.bt_shell.specs.declared.log.ReplyKind.{ReplyKind}
 use Rattle.bt_shell.specs.declared.log.ReplyKind.TheVariants.{Refused}
 use Rattle.bt_shell.specs.inside.Turns.{IsChecked}
@@ -28,7 +28,7 @@ of_mapped made (Ok value) = refl
 of_mapped made (Err refusal) = refl
 
 -- a name that is refused is no definition's
-named_freely : (found : Option Refusal) (made : Result Definition Refusal) (def : Definition) → definition_or_least made found ≡ Ok def → found ≡ None
+named_freely : (found : Option Refusal) (made : Result Definition Refusal) (def : Definition) → definition_or_lowest made found ≡ Ok def → found ≡ None
 named_freely None made def is = refl
 named_freely (Some refusal) (Ok other) def is = absurd cc
 named_freely (Some refusal) (Err other) def is = absurd cc
@@ -42,8 +42,8 @@ pub created : (state : TableState) (form : IndexForm) (def : Definition) → def
     → permitted (creation_outcome state form.name (definition_of state form)) ≡ Ok tt
 created Lost form def is = absurd cc
 created (Intact table) form def is =
-    let free = named_freely (least (name_refusals table form.name)) (definition_as table.schema form.on form.include form.filter) def is in
-    ap (λ d. permitted (creation_outcome (Intact table) form.name d)) is ∙ allowed (least (name_refusals table form.name)) _ free
+    let free = named_freely (lowest (name_refusals table form.name)) (definition_as table.schema form.on form.include form.filter) def is in
+    ap (λ d. permitted (creation_outcome (Intact table) form.name d)) is ∙ allowed (lowest (name_refusals table form.name)) _ free
 
 -- a command that is not permitted is refused
 pub kind_refused : (command : Command) (outcome : Result Done Refusal) (refusal : Refusal) → permitted outcome ≡ Err refusal → Refused ≡ kind_after command outcome

@@ -8,7 +8,7 @@ use Rattle.std.specs.FinMap.{find}
 use Rattle.std.specs.List.{remove}
 use Rattle.bt_value.specs.Lists.{concatenation}
 use Rattle.bt_value.specs.Results.{unless, or_refused, and_then, map_ok, one_if}
-use Rattle.bt_value.specs.Refusals.{least}
+use Rattle.bt_value.specs.Refusals.{lowest}
 use Rattle.bt_row.specs.Schemas.{Schema, is_schema}
 use Rattle.bt_rowtype.specs.declared.item.Item.{Item}
 use Rattle.bt_value.specs.declared.refusal.Refusal.{Refusal}
@@ -19,7 +19,7 @@ use Rattle.bt_keycode.specs.Codes.{code_of}
 use Rattle.bt_keycode.specs.Keys.{Key, key_cmp}
 use Rattle.bt_messages.specs.Effects.{Rows, rows_after, with_value}
 use Rattle.bt_messages.specs.declared.measure.Measure.TheVariants as measure
-use Rattle.bt_node.specs.Trees.{Shape, leaf}
+use Rattle.bt_form.specs.Trees.{Shape, leaf}
 use Rattle.bt_fanout.specs.Definitions.{definition_as}
 use Rattle.bt_fanout.specs.Effects.{row_effect}
 use Rattle.bt_fanout.specs.Entries.{Definition}
@@ -45,7 +45,7 @@ use Rattle.bt_shell.specs.Contents.{AreAllTaken, AreAnsweredAlike, BatchesAreFol
 use Rattle.bt_shell.specs.Contents.{ShapeIsNoContent, ShowNoTree, ShowsNoTree, UpkeepKeepsContents, batch_commands, contents, contents_of, head_of}
 use Rattle.bt_shell.specs.Replies.{count_line, refused_text, reply_text, scan_reply, sums_reply}
 use Rattle.bt_shell.specs.Runs.{after_commands, replies}
-use Rattle.bt_shell.specs.Steps.{Done, State, call_outcome, creation_outcome, definition_of, definition_or_least, done_or_refused}
+use Rattle.bt_shell.specs.Steps.{Done, State, call_outcome, creation_outcome, definition_of, definition_or_lowest, done_or_refused}
 use Rattle.bt_shell.specs.Steps.{form_refusals, is_allowed, outcome, read_outcome, shape_of, table_of, turn}
 
 -- ---- a state of given contents in which all trees are empty leaves of the same shape
@@ -265,9 +265,9 @@ created_alike table name (Ok def) =
     let new : Index = empty_index table.shape name def in
     let bare_new : Index = empty_index no_shape name def in
     in_text (step (Intact (bared table)) (call.CreateIndex name def)) (step (Intact table) (call.CreateIndex name def))
-    (unless_alike (least (name_refusals (bared table) name)) (least (name_refusals table name))
+    (unless_alike (lowest (name_refusals (bared table) name)) (lowest (name_refusals table name))
     (Intact (with_index (bared table) name def), reply.Created name) (Intact (with_index table name def), reply.Created name)
-    (ap least (same_names table name)) refl
+    (ap lowest (same_names table name)) refl
     (same_indexes table (all_bare table.indexes ++ bare_new ∷ []) (table.indexes ++ new ∷ [])
     (map-append head_of (all_bare table.indexes) (bare_new ∷ []) ∙ ap (λ (heads : List IndexHead). heads ++ head_of new ∷ []) (heads-bare table.indexes)
     ∙ sym (map-append head_of table.indexes (new ∷ [])))))
@@ -282,7 +282,7 @@ of_table table (Table form) shows = table_alike
     table_alike = alike_itself _
 of_table table (Batch items) shows =
     let messages = messages_of table.schema items in
-    let refusal = least (batch_refusals table.schema items) in
+    let refusal = lowest (batch_refusals table.schema items) in
     in_text (step (Intact (bared table)) (call.Apply items)) (step (Intact table) (call.Apply items))
     (unless_alike refusal refusal (Intact (after_batch (bared table) messages), reply.Batch (length items) (sent_counts (bared table) messages))
     (Intact (after_batch table messages), reply.Batch (length items) (sent_counts table messages)) refl (ap (reply.Batch (length items)) (same_counts table messages)) (same_batch table messages))
@@ -295,7 +295,7 @@ of_table table (Sums form) shows =
 of_table table (Image tree) shows = absurd shows
 of_table table (command.Index form) shows =
     subst (λ (d : Result Definition Refusal). AreAlike (creation_outcome (Intact (bared table)) form.name d) (creation_outcome (Intact table) form.name (definition_of (Intact table) form)))
-    (sym (ap (λ (rs : List Refusal). definition_or_least (definition_as table.schema form.on form.include form.filter) (least rs))
+    (sym (ap (λ (rs : List Refusal). definition_or_lowest (definition_as table.schema form.on form.include form.filter) (lowest rs))
     (same_names table form.name))) (created_alike table form.name (definition_of (Intact table) form))
 of_table table (Build name count) shows =
     in_text (step (Intact (bared table)) (call.BuildStep name count)) (step (Intact table) (call.BuildStep name count))
@@ -416,7 +416,7 @@ shape_is_no_content state form other differ =
       count_line (codes "table ") (length columns),
     )) in
     let same : Fact form.columns form.keys true true =
-    made_alike (least (refusals form.columns form.keys true)) form.columns form.keys (count_line (codes "table ") (length form.columns)) shape other_shape
+    made_alike (lowest (refusals form.columns form.keys true)) form.columns form.keys (count_line (codes "table ") (length form.columns)) shape other_shape
     in
     let allowed : Fact form.columns form.keys (is_allowed shape) (is_allowed other_shape) =
     subst (λ (b : Bool). Fact form.columns form.keys b (is_allowed other_shape)) (sym differ.2) (subst (λ (b : Bool). Fact form.columns form.keys true b) (sym differ.3) same) in
@@ -455,7 +455,7 @@ after_cut table (items ∷ more) taken =
     let next = after_batch table messages in
     let others = messages_of table.schema (concatenation more) in
     ap (λ (state : State). contents (after_commands state (batch_commands more)))
-    (taken_leaves table items (least (batch_refusals table.schema items)) (reply.Batch (length items) (sent_counts table messages)) taken.0)
+    (taken_leaves table items (lowest (batch_refusals table.schema items)) (reply.Batch (length items) (sent_counts table messages)) taken.0)
     ∙ after_cut next more taken.1
     ∙ ap (λ (heads : List IndexHead). Some (Some (record {
       schema = table.schema;

@@ -1,14 +1,14 @@
 -- The definition of a new index, or its smallest refusal. Serves the command that creates one.
 use Rattle.std.proofs.Common.{◌≡◌, None, Some, OnOk, IfErr, Option, Result, Ok, Err, ap, refl, subst}
 use Rattle.bt_value.specs.Answers.{Answers}
-use Rattle.bt_value.specs.Refusals.{least}
+use Rattle.bt_value.specs.Refusals.{lowest}
 use Rattle.bt_value.specs.Results.{both_read, map_ok, unless}
 use Rattle.bt_value.specs.declared.refusal.Refusal.{Refusal}
 use Rattle.bt_row.specs.Schemas.{Schema}
 use Rattle.bt_fanout.specs.Definitions.{definition_as, kinds_of}
 use Rattle.bt_fanout.specs.Entries.{Definition, SuitsKinds}
 use Rattle.bt_script.specs.declared.command.IndexForm.{IndexForm}
-use Rattle.bt_shell.specs.Steps.{definition_of, definition_or_least}
+use Rattle.bt_shell.specs.Steps.{definition_of, definition_or_lowest}
 use Rattle.bt_table.specs.Calls.{index_refusals, name_refusals}
 use Rattle.bt_table.specs.Standing.{HasSchema, Suits}
 use Rattle.bt_table.specs.Tables.{TableState, Intact, Lost}
@@ -35,15 +35,15 @@ mapped f answer (Err refusal) is = λ some. ap (map_ok f) (is some)
 
 -- the definition of a new index by both its name and its parts
 pub defined : (state : TableState) (schema : Schema) (form : IndexForm) (free : Result (Unit {0}) Refusal) (made : Result Definition Refusal) (result : Result (Unit {0} × Definition) Refusal)
-    → HasSchema state schema → OnOk free (least (index_refusals state form.name) ≡ None) → IfErr free (λ refusal. least (index_refusals state form.name) ≡ Some refusal)
+    → HasSchema state schema → OnOk free (lowest (index_refusals state form.name) ≡ None) → IfErr free (λ refusal. lowest (index_refusals state form.name) ≡ Some refusal)
     → Answers (definition_as schema form.on form.include form.filter) made
     → ((one : Result (Unit {0}) Refusal) → (other : Result Definition Refusal) → Answers one free → Answers other made → Answers (both_read one other) result)
     → Answers (definition_of state form) (map_ok (λ both. both.1) result)
 defined Lost schema form free made result has none some as_made both = absurd has
 defined (Intact table) schema form free made result has none some as_made both =
-    let name = unless (least (name_refusals table form.name)) tt in
-    let whole = both name (definition_as schema form.on form.include form.filter) (free_name (least (name_refusals table form.name)) free none some) as_made in
-    subst (λ s. Answers (definition_or_least (definition_as s form.on form.include form.filter) (least (name_refusals table form.name))) (map_ok (λ both. both.1) result)) has
+    let name = unless (lowest (name_refusals table form.name)) tt in
+    let whole = both name (definition_as schema form.on form.include form.filter) (free_name (lowest (name_refusals table form.name)) free none some) as_made in
+    subst (λ s. Answers (definition_or_lowest (definition_as s form.on form.include form.filter) (lowest (name_refusals table form.name))) (map_ok (λ both. both.1) result)) has
     (mapped (λ (both : Unit {0} × Definition). both.1) (both_read name (definition_as schema form.on form.include form.filter)) result whole)
 
 -- a definition of the schema of a table is a definition of the table

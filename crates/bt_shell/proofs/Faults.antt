@@ -1,10 +1,8 @@
 -- Where a fault stops a run, and which table it leaves. Serves the loop of a run.
-use Rattle.std.proofs.Common.{ℕ, Bool, ◌≡◌, ◌≤◌, ◌+◌, ◌∙◌, List, [], ◌∷◌, ◌++◌, refl, sym, ap, subst, arith, flat_map, length, take, inl, inr, length-append, Option, Some, None, Ok, Err}
+use Rattle.std.proofs.Common.{ℕ, Bool, ◌≡◌, ◌≤◌, ◌+◌, ◌∙◌, List, [], ◌∷◌, ◌++◌, refl, sym, ap, subst, arith, flat_map, length, take, inl, inr, Option, Some, Ok, Err}
 use Rattle.std.proofs.Math.Seq.{take-append-add, take-length}
 use Rattle.std.proofs.lemmas.List.{take_all, take_at}
 use Rattle.std.specs.Io.KnownBytes.{Keeps}
-use Rattle.bt_value.specs.Results.{unless}
-use Rattle.bt_value.specs.Refusals.{least}
 use Rattle.bt_row.specs.Schemas.{is_schema}
 use Rattle.bt_script.specs.Commands.{Answer, commands}
 use Rattle.bt_script.specs.Streams.{Took, TookPrefix, count_of, source_of}
@@ -13,12 +11,14 @@ use Rattle.bt_script.specs.declared.command.Command.TheVariants.{Batch, Build, D
 use Rattle.bt_script.specs.declared.counted.Counted.{Counted}
 use Rattle.bt_script.proofs.offered.Streams.{Took-kept, Took-trans}
 use Rattle.bt_table.specs.Tables.{Lost}
-use Rattle.bt_shell.specs.Faults.{IsLeftAfter, StopsBetweenReplies, StopsWithinReply, lost_reply}
+use Rattle.bt_shell.specs.declared.log.ReplyKind.{ReplyKind}
+use Rattle.bt_shell.specs.Faults.{IsLeftAfter, LogsWholeReplies, StopsBetweenReplies, StopsWithinReply, lost_reply}
+use Rattle.bt_shell.specs.Logs.{logged}
 use Rattle.bt_shell.specs.Runs.{after_commands, replies}
 use Rattle.bt_shell.specs.Steps.{State, done_or_refused, is_allowed, shape_of, turn}
 use Rattle.bt_shell.specs.inside.Turns.{IsCutShort, IsTurn}
 use Rattle.bt_shell.proofs.Refusals.{exists_first}
-use Rattle.bt_shell.proofs.Turns.{HasRun, after_commands-append, left_with_next, run_ends, run_leaves, said_with_next}
+use Rattle.bt_shell.proofs.Turns.{HasLogged, HasRun, after_commands-append, left_with_next, log_ends, log_so_far, replies-append, run_ends, run_leaves, said_with_next}
 
 -- ---- which table is left
 
@@ -69,41 +69,85 @@ module _ {W : Type 0} {contents : W → Option (List ℕ)} {old new : Counted W}
     left_later so_far left next,
   )
 
-  -- the reply to the next command is not written whole
-  pub stops_within : {after : State} {more : List Answer} {text : List ℕ} {refused : Bool} (last : Counted W) → IsTurn table after others more text refused → TookPrefix contents new last text
-      → StopsWithinReply (Took contents old last) begin after script
-  stops_within {text = text} last next prefix =
+  -- the first bytes of the reply to the next command are written
+  written_within : {after : State} {more : List Answer} {text : List ℕ} {refused : Bool} (last : Counted W) → IsTurn table after others more text refused → TookPrefix contents new last text
+      → (k : ℕ) × (length (replies begin (take (length so_far.done) (commands script))) ≤ k) × Took contents old last (take k (replies begin (take (length so_far.done + 1) (commands script))))
+  written_within {text = text} last next prefix =
       let all = commands script in
       let done = so_far.done in
       let whole : length (replies begin (take (length done) all)) ≡ length (replies begin done) = ap (λ (answers : List Answer). length (replies begin answers)) (first_done so_far) in
       let taken : take (length (replies begin done) + prefix.0) (replies begin (take (length done + 1) all)) ≡ replies begin done ++ take prefix.0 text =
       ap (take (length (replies begin done) + prefix.0)) (said_with so_far next) ∙ take-append-add (replies begin done) text prefix.0 in (
-        length done,
-        left_with so_far next,
-        (
-          length (replies begin done) + prefix.0,
-          omega (arith, whole),
-          subst (λ (bytes : List ℕ). Took contents old last bytes) (sym taken) (Took-trans contents old new last (replies begin done) (take prefix.0 text) so_far.took prefix.1),
-        ),
+        length (replies begin done) + prefix.0,
+        omega (arith, whole),
+        subst (λ (bytes : List ℕ). Took contents old last bytes) (sym taken) (Took-trans contents old new last (replies begin done) (take prefix.0 text) so_far.took prefix.1),
       )
 
+  pub stops_within : {after : State} {more : List Answer} {text : List ℕ} {refused : Bool} (last : Counted W) → IsTurn table after others more text refused → TookPrefix contents new last text
+      → StopsWithinReply (Took contents old last) begin after script
+  stops_within last next prefix = (length so_far.done, left_with so_far next, written_within last next prefix)
+
   -- all replies are written, and the flush after them fails
-  pub stops_at_end : (last : Counted W) → others ≡ [] → Keeps (contents (source_of new)) (contents (source_of last)) → count_of last ≡ count_of new
-      → StopsWithinReply (Took contents old last) begin table script
-  stops_at_end last none kept count =
+  one_more : take (length (commands script) + 1) (commands script) ≡ commands script
+  one_more = take_all (length (commands script) + 1) (commands script) (omega arith)
+
+  written_at_end : (last : Counted W) → others ≡ [] → Keeps (contents (source_of new)) (contents (source_of last)) → count_of last ≡ count_of new
+      → (k : ℕ) × (length (replies begin (take (length (commands script)) (commands script))) ≤ k)
+      × Took contents old last (take k (replies begin (take (length (commands script) + 1) (commands script))))
+  written_at_end last none kept count =
       let all = commands script in
       let text = replies begin all in
-      let one_more : take (length all + 1) all ≡ all = take_all (length all + 1) all (omega arith) in
       let whole : length (replies begin (take (length all) all)) ≡ length text = ap (λ (answers : List Answer). length (replies begin answers)) (take-length all) in
       let taken : take (length text) (replies begin (take (length all + 1) all)) ≡ text = ap (λ (answers : List Answer). take (length text) (replies begin answers)) one_more ∙ take-length text in (
-        length all,
-        run_leaves contents old begin new table all others so_far none ∙ ap (after_commands begin) (sym one_more),
-        (
-          length text,
-          omega (arith, whole),
-          subst (λ (bytes : List ℕ). Took contents old last bytes) (sym taken) (Took-kept contents old new last text (run_ends contents old begin new table all others so_far none) kept count),
-        ),
+        length text,
+        omega (arith, whole),
+        subst (λ (bytes : List ℕ). Took contents old last bytes) (sym taken) (Took-kept contents old new last text (run_ends contents old begin new table all others so_far none) kept count),
       )
+
+  pub stops_at_end : (last : Counted W) → others ≡ [] → Keeps (contents (source_of new)) (contents (source_of last)) → count_of last ≡ count_of new
+      → StopsWithinReply (Took contents old last) begin table script
+  stops_at_end last none kept count = (
+    length (commands script),
+    run_leaves contents old begin new table (commands script) others so_far none ∙ ap (after_commands begin) (sym one_more),
+    written_at_end last none kept count,
+  )
+
+-- ---- what is in the log where a run stops
+
+module _ {W L : Type 0} {contents : W → Option (List ℕ)} {added : L → ℕ → ReplyKind → L} {old new : Counted W} {old_log log : L} {begin table : State} (script : List ℕ)
+    {others : List Answer} (logs : HasLogged contents added old new old_log log begin table (commands script) others) where
+  first_logged : log ≡ logged added old_log (count_of old) begin (take (length logs.so_far.done) (commands script))
+  first_logged = log_so_far contents added old old_log begin logs ∙ ap (logged added old_log (count_of old) begin) (sym (first_done logs.so_far))
+
+  -- between two replies
+  pub logs_between : LogsWholeReplies added (Took contents old new) old_log log (count_of old) begin script
+  logs_between =
+      let all = commands script in
+      let done = logs.so_far.done in
+      let text = replies begin done in
+      let said : replies begin (take (length done + 1) all) ≡ text ++ replies (after_commands begin done) (take 1 others) =
+      ap (replies begin) (first_and_next logs.so_far) ∙ replies-append begin done (take 1 others) in
+      let whole : length (replies begin (take (length done) all)) ≡ length text = ap (λ (answers : List Answer). length (replies begin answers)) (first_done logs.so_far) in
+      let taken : take (length text) (replies begin (take (length done + 1) all)) ≡ text =
+      ap (take (length text)) said ∙ take_at text (replies (after_commands begin done) (take 1 others)) (length text) refl in (
+        length done,
+        first_logged,
+        (length text, omega (arith, whole), subst (λ (bytes : List ℕ). Took contents old new bytes) (sym taken) logs.so_far.took),
+      )
+
+  -- the reply to the next command is not written whole, or not logged
+  pub logs_within : {after : State} {more : List Answer} {text : List ℕ} {refused : Bool} (last : Counted W) (last_log : L) → last_log ≡ log → IsTurn table after others more text refused
+      → TookPrefix contents new last text → LogsWholeReplies added (Took contents old last) old_log last_log (count_of old) begin script
+  logs_within last last_log same next prefix = (length logs.so_far.done, same ∙ first_logged, written_within script logs.so_far last next prefix)
+
+  -- all replies are written and logged, and the flush after them fails
+  pub logs_at_end : (last : Counted W) → others ≡ [] → Keeps (contents (source_of new)) (contents (source_of last)) → count_of last ≡ count_of new
+      → LogsWholeReplies added (Took contents old last) old_log log (count_of old) begin script
+  logs_at_end last none kept count = (
+    length (commands script),
+    log_ends contents added old old_log begin logs none ∙ ap (logged added old_log (count_of old) begin) (sym (take-length (commands script))),
+    written_at_end script logs.so_far last none kept count,
+  )
 
 -- ---- one command
 

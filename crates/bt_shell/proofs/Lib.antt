@@ -7,6 +7,7 @@ pub mod Refusals
 pub mod Replied
 pub mod Sound
 pub mod Turns
+pub mod Unchanged
 pub mod WorkedRows
 pub mod Written
 pub mod offered

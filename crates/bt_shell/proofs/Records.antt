@@ -7,7 +7,7 @@ use Rattle.bt_row.specs.Arithmetic.{arithmetic_of_word, op_making}
 use Rattle.bt_value.specs.Ints.{int_of}
 use Rattle.bt_value.specs.Results.{all_read, both_read, unless, or_refused, map_ok}
 use Rattle.bt_row.specs.Ops.{at_column, is_upsert, key_as, making_of, making_of_kind, number_op_of, op_of, open_column, ops_as, ops_of, set_of, set_word, upsert_as}
-use Rattle.bt_value.specs.Refusals.{least, least_from, lesser}
+use Rattle.bt_value.specs.Refusals.{lowest, lowest_from, lower}
 use Rattle.bt_row.specs.Schemas.{Schema, read_as, values_of}
 use Rattle.bt_value.specs.Values.{value_of}
 use Rattle.bt_rowtype.specs.declared.item.Item.{Item}
@@ -49,9 +49,9 @@ ok_of_both (Ok x) (Err s) = refl
 ok_of_both (Err r) (Ok y) = refl
 ok_of_both (Err r) (Err s) = refl
 
-ok_of_found : {T : Type 0} (found : Refusal) (others : List Refusal) (value : T) → result_ok (unless (least_from (Some found) others) value) ≡ None
+ok_of_found : {T : Type 0} (found : Refusal) (others : List Refusal) (value : T) → result_ok (unless (lowest_from (Some found) others) value) ≡ None
 ok_of_found found [] value = refl
-ok_of_found found (other ∷ others) value = ok_of_found (lesser found other) others value
+ok_of_found found (other ∷ others) value = ok_of_found (lower found other) others value
 
 ok_of_unless : {S T : Type 0} (f : S → T) (refusal : Option Refusal) (value : S) → result_ok (unless refusal (f value)) ≡ option_map f (result_ok (unless refusal value))
 ok_of_unless f None value = refl
@@ -62,7 +62,7 @@ ok_of_all [] = refl
 ok_of_all (Err r ∷ others) = ok_of_found r (filter_map result_err others) (filter_map result_ok others)
 ok_of_all {T} (Ok x ∷ others) =
     let with_first : List T → List T = λ xs. x ∷ xs in
-    ok_of_unless with_first (least (filter_map result_err others)) (filter_map result_ok others) ∙ ap (option_map with_first) (ok_of_all others)
+    ok_of_unless with_first (lowest (filter_map result_err others)) (filter_map result_ok others) ∙ ap (option_map with_first) (ok_of_all others)
 
 -- ---- operations
 

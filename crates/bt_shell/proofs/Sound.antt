@@ -1,7 +1,7 @@
 -- A table stays sound through the commands of a script. Serves the run.
 use Rattle.std.proofs.Common.{ℕ, ◌≡◌, ◌≤◌, ◌+◌, arith, not, Bool, true, false, List, [], ◌∷◌, ◌++◌, refl, sym, subst, inl, inr, length, take, Option, Some, None, IfSome, IfOk, Result, Ok, Err, codes}
 use Rattle.std.proofs.lemmas.Bool.Decides.{nat_tests}
-use Rattle.bt_value.specs.Refusals.{least}
+use Rattle.bt_value.specs.Refusals.{lowest}
 use Rattle.bt_row.specs.Schemas.{is_schema}
 use Rattle.bt_value.specs.Results.{unless, one_if}
 use Rattle.bt_row.specs.declared.schema.Column.{Column}
@@ -18,7 +18,7 @@ use Rattle.bt_fanout.proofs.offered.Definitions.{definition_suits}
 use Rattle.bt_shell.specs.Faults.{IsLeftAfter}
 use Rattle.bt_shell.specs.Replies.{count_line}
 use Rattle.bt_shell.specs.Runs.{after_commands}
-use Rattle.bt_shell.specs.Steps.{Done, State, call_outcome, creation_outcome, definition_of, definition_or_least, done_or_refused}
+use Rattle.bt_shell.specs.Steps.{Done, State, call_outcome, creation_outcome, definition_of, definition_or_lowest, done_or_refused}
 use Rattle.bt_shell.specs.Steps.{form_refusals, is_allowed, outcome, read_outcome, shape_of, table_of, turn}
 use Rattle.bt_shell.proofs.Faults.{stays_lost}
 use Rattle.bt_table.specs.Calls as call
@@ -29,7 +29,7 @@ use Rattle.bt_table.specs.declared.reply.Reply.{Reply}
 use Rattle.bt_table.proofs.offered.Steps.{empty_is_sound, shape_is_roomy, sound_hold, step_keeps_sound, unless_lost_hold}
 
 -- a table that no refusal applies to has a schema and a shape
-both_allowed : (exists schema shape : Bool) → least (one_if exists TableExists ++ (one_if (not schema) BadSchema ++ one_if (not shape) BadShape)) ≡ None → (schema ≡ true) × (shape ≡ true)
+both_allowed : (exists schema shape : Bool) → lowest (one_if exists TableExists ++ (one_if (not schema) BadSchema ++ one_if (not shape) BadShape)) ≡ None → (schema ≡ true) × (shape ≡ true)
 both_allowed exists true true none = (refl, refl)
 both_allowed true true false none = absurd cc
 both_allowed true false true none = absurd cc
@@ -51,7 +51,7 @@ when_allowed None done sound = sound refl
 
 form_keeps_sound : (state : State) (form : TableForm) → IsSoundAfter (outcome state (Table form))
 form_keeps_sound state form =
-    when_allowed (least (form_refusals state form)) (Some (table_of form), count_line (codes "table ") (length form.columns)) (λ none.
+    when_allowed (lowest (form_refusals state form)) (Some (table_of form), count_line (codes "table ") (length form.columns)) (λ none.
     let shape = shape_of form.fanout form.buffer form.leaf in
     let allowed = both_allowed _ (is_schema form.columns form.keys) (is_allowed shape) none in
     empty_is_sound (record { columns = form.columns; keys = form.keys }) shape (few_keys form.columns form.keys allowed.0) (shape_is_roomy shape allowed.1))
@@ -65,7 +65,7 @@ seen_keeps_sound table (Ok text) sound = sound
 seen_keeps_sound table (Err refusal) sound = tt
 
 -- a definition that no refusal applies to is the one that was made
-checked_is : (def : Result Definition Refusal) (other : Option Refusal) (one : Definition) → definition_or_least def other ≡ Ok one → def ≡ Ok one
+checked_is : (def : Result Definition Refusal) (other : Option Refusal) (one : Definition) → definition_or_lowest def other ≡ Ok one → def ≡ Ok one
 checked_is (Ok def) None one is = is
 checked_is (Ok def) (Some other) one is = cc
 checked_is (Err refusal) None one is = cc
@@ -79,7 +79,7 @@ created_keeps_sound (Intact table) form sound = by_definition (definition_of (In
     by_definition (Ok def) is =
         told_keeps_sound _ (step_keeps_sound (Intact table) (call.CreateIndex form.name def)
         (definition_suits table.schema form.on form.include form.filter def sound.keys
-        (checked_is (definition_as table.schema form.on form.include form.filter) (least (name_refusals table form.name)) def is)) sound)
+        (checked_is (definition_as table.schema form.on form.include form.filter) (lowest (name_refusals table form.name)) def is)) sound)
     by_definition (Err refusal) is = tt
 
 command_keeps_sound : (state : State) (command : Command) → IfSome state IsSound → IsSoundAfter (outcome state command)

@@ -1,13 +1,12 @@
 -- The replies to commands one after the other, and the table that they leave. Serves the loop of a run.
-use Rattle.std.proofs.Common.{ℕ, Bool, ◌+◌, List, [], ◌∷◌, ◌++◌, ◌≡◌, ◌∙◌, refl, sym, ap, subst, append_assoc, append-nil, length, take, arith, Option, None, Some, Result, Ok, Err, OnErr}
-use Rattle.std.proofs.lemmas.List.{take_at}
+use Rattle.std.proofs.Common.{ℕ, Bool, ◌+◌, List, [], ◌∷◌, ◌++◌, ◌≡◌, ◌∙◌, refl, sym, ap, subst, append_assoc, append-nil, take, arith, Option, None, Some, Result, Ok, Err, OnErr}
 use Rattle.bt_script.specs.Commands.{Answer, commands}
 use Rattle.std.specs.Io.KnownBytes.{Keeps}
 use Rattle.bt_script.specs.Streams.{Took, TookPrefix, count_of, source_of}
 use Rattle.bt_script.specs.declared.counted.Counted.{Counted}
 use Rattle.bt_script.proofs.offered.Streams.{prefix-all, prefix-done, prefix-more, Took-kept, Took-nil, Took-trans}
 use Rattle.bt_shell.specs.inside.Turns.{IsTurn, first_kind}
-use Rattle.bt_shell.specs.Runs.{IsScriptOf, TookReplies, WritesPrefix, WritesReplies, WritesRun, after_commands, one_where, refused_count, replies, run}
+use Rattle.bt_shell.specs.Runs.{IsScriptOf, WritesPrefix, WritesReplies, WritesRun, after_commands, one_where, refused_count, replies, run}
 use Rattle.bt_shell.specs.declared.log.ReplyKind.{ReplyKind}
 use Rattle.bt_shell.specs.Logs.{end_of, has_refusal, kind_of, logged}
 use Rattle.bt_shell.specs.Steps.{State, turn}
@@ -44,11 +43,6 @@ pub record HasRun {W : Type 0} (contents : W → Option (List ℕ)) (old new : C
   pub took : Took contents old new (replies begin done)
 
 module _ {W : Type 0} (contents : W → Option (List ℕ)) (old : Counted W) (begin : State) where
-  -- before the first command
-  pub run_begins : (all : List Answer) → Took contents old old [] → HasRun contents old old begin begin all all
-  unfolding replies after_commands
-  run_begins all nothing = record { done = []; split = refl; left = refl; took = nothing }
-
   -- all replies, in terms of what was done
   whole : (new : Counted W) (table : State) (all others : List Answer) (so_far : HasRun contents old new begin table all others) → replies begin all ≡ replies begin so_far.done ++ replies table others
   whole new table all others so_far =
@@ -56,13 +50,6 @@ module _ {W : Type 0} (contents : W → Option (List ℕ)) (old : Counted W) (be
 
   pub run_prefix : (new : Counted W) (table : State) (all others : List Answer) → HasRun contents old new begin table all others → TookPrefix contents old new (replies begin all)
   run_prefix new table all others so_far = prefix-done contents old new (replies begin all) (replies begin so_far.done) (replies table others) so_far.took (whole new table all others so_far)
-
-  -- the whole replies to the commands so far
-  pub run_replies : (new : Counted W) (table : State) (script : List ℕ) (others : List Answer) → HasRun contents old new begin table (commands script) others
-      → TookReplies contents begin old new script
-  run_replies new table script others so_far =
-      let first : take (length so_far.done) (commands script) ≡ so_far.done = ap (take (length so_far.done)) so_far.split ∙ take_at so_far.done others (length so_far.done) refl in
-      (length so_far.done, subst (λ (answers : List Answer). Took contents old new (replies begin answers)) (sym first) so_far.took)
 
   -- a prefix of the reply to the next one
   pub run_breaks : (mid new : Counted W) (table after : State) (all others more : List Answer) (text : List ℕ) {refused : Bool}
@@ -90,7 +77,7 @@ module _ {W : Type 0} (contents : W → Option (List ℕ)) (old : Counted W) (be
         ∙ sym (after_commands-append begin so_far.done (next.answer ∷ []) ∙ after-one (after_commands begin so_far.done) next.answer)
 
   -- the reply to the next one
-  pub run_goes_on : (mid new : Counted W) (table after : State) (all others more : List Answer) (text : List ℕ) {refused : Bool}
+  abbrev pub run_goes_on : (mid new : Counted W) (table after : State) (all others more : List Answer) (text : List ℕ) {refused : Bool}
       → HasRun contents old mid begin table all others → IsTurn table after others more text refused
       → Took contents mid new text → HasRun contents old new begin after all more
   run_goes_on mid new table after all others more text so_far next took = record {
@@ -148,22 +135,57 @@ module _ {L : Type 0} (added : L → ℕ → ReplyKind → L) where
   unfolding logged
   logged-none log at state = refl
 
-  pub log_goes_on : (whole log after_log : L) (at after_at : ℕ) (table after : State) (others more : List Answer) (text : List ℕ) {refused : Bool} (kind : ReplyKind)
-      → IsTurn table after others more text refused → kind ≡ first_kind table others → after_at ≡ end_of at text → after_log ≡ added log after_at kind
-      → whole ≡ logged added log at table others → whole ≡ logged added after_log after_at after more
-  log_goes_on whole log after_log at after_at table after others more text kind next is ends adds so_far =
+  -- the first of these commands is added
+  logged-next : {table after : State} {others more : List Answer} {text : List ℕ} {refused : Bool} (next : IsTurn table after others more text refused) (log new : L) (at end : ℕ) (kind : ReplyKind)
+      (rest : List Answer) → kind ≡ first_kind table others → end ≡ end_of at text → new ≡ added log end kind
+      → logged added log at table (next.answer ∷ rest) ≡ logged added new end after rest
+  logged-next {table = table} {after = after} next log new at end kind rest is ends adds =
       let answer = next.answer in
       let own : kind ≡ kind_of table answer = is ∙ ap (first_kind table) next.first in
-      let end : after_at ≡ end_of at (turn table answer).1 = ends ∙ ap (end_of at) next.said in
-      let told : after_log ≡ added log (end_of at (turn table answer).1) (kind_of table answer) =
-      adds ∙ ap (λ (e : ℕ). added log e kind) end ∙ ap (added log (end_of at (turn table answer).1)) own in
-      so_far ∙ ap (logged added log at table) next.first ∙ logged-one log at table answer more
-      ∙ sym (ap (λ (l : L). logged added l after_at after more) told
-      ∙ ap (λ (e : ℕ). logged added (added log (end_of at (turn table answer).1) (kind_of table answer)) e after more) end
-      ∙ ap (λ (state : State). logged added (added log (end_of at (turn table answer).1) (kind_of table answer)) (end_of at (turn table answer).1) state more) next.left)
+      let place : end ≡ end_of at (turn table answer).1 = ends ∙ ap (end_of at) next.said in
+      let told : new ≡ added log (end_of at (turn table answer).1) (kind_of table answer) =
+      adds ∙ ap (λ (e : ℕ). added log e kind) place ∙ ap (added log (end_of at (turn table answer).1)) own in
+      logged-one log at table answer rest
+      ∙ sym (ap (λ (l : L). logged added l end after rest) told
+      ∙ ap (λ (e : ℕ). logged added (added log (end_of at (turn table answer).1) (kind_of table answer)) e after rest) place
+      ∙ ap (λ (state : State). logged added (added log (end_of at (turn table answer).1) (kind_of table answer)) (end_of at (turn table answer).1) state rest) next.left)
 
-  pub log_ends : (whole log : L) (at : ℕ) (table : State) (others : List Answer) → whole ≡ logged added log at table others → others ≡ [] → log ≡ whole
-  log_ends whole log at table others so_far none = sym (so_far ∙ ap (logged added log at table) none ∙ logged-none log at table)
+-- What a run has done, and its log: of the commands that are done, and of any that may follow.
+pub record HasLogged {W L : Type 0} (contents : W → Option (List ℕ)) (added : L → ℕ → ReplyKind → L) (old new : Counted W) (old_log new_log : L) (begin table : State)
+    (all others : List Answer) : Type 0 where
+  pub so_far : HasRun contents old new begin table all others
+  pub log : (more : List Answer) → logged added old_log (count_of old) begin (so_far.done ++ more) ≡ logged added new_log (count_of new) table more
+
+module _ {W L : Type 0} (contents : W → Option (List ℕ)) (added : L → ℕ → ReplyKind → L) (old : Counted W) (old_log : L) (begin : State) where
+  -- before the first command
+  pub log_begins : (all : List Answer) → Took contents old old [] → HasLogged contents added old old old_log old_log begin begin all all
+  unfolding replies after_commands
+  log_begins all nothing = record { so_far = record { done = []; split = refl; left = refl; took = nothing }; log = λ more. refl }
+
+  -- one more command is carried out, its reply written, and it is added
+
+  pub log_goes_on : {mid new : Counted W} {log new_log : L} {table after : State} {all others more : List Answer} {text : List ℕ} {refused : Bool} (kind : ReplyKind)
+      (logs : HasLogged contents added old mid old_log log begin table all others) (next : IsTurn table after others more text refused) (took : Took contents mid new text)
+      → kind ≡ first_kind table others → new_log ≡ added log (count_of new) kind → HasLogged contents added old new old_log new_log begin after all more
+  log_goes_on {mid = mid} {new = new} {log = log} {new_log = new_log} {table = table} {after = after} {all = all} {others = others} {more = more} {text = text} kind logs next took is adds = record {
+    so_far = run_goes_on contents old begin mid new table after all others more text logs.so_far next took;
+    log = λ rest.
+        ap (logged added old_log (count_of old) begin) (append_assoc logs.so_far.done (next.answer ∷ []) rest)
+        ∙ logs.log (next.answer ∷ rest)
+        ∙ logged-next added next log new_log (count_of mid) (count_of new) kind rest is took.1 adds;
+  }
+
+  -- the log is that of what is done
+  pub log_so_far : {new : Counted W} {log : L} {table : State} {all others : List Answer} (logs : HasLogged contents added old new old_log log begin table all others)
+      → log ≡ logged added old_log (count_of old) begin logs.so_far.done
+  log_so_far {new = new} {log = log} {table = table} logs =
+      sym (ap (logged added old_log (count_of old) begin) (sym (append-nil logs.so_far.done)) ∙ logs.log [] ∙ logged-none added log (count_of new) table)
+
+  -- no command is left
+  pub log_ends : {new : Counted W} {log : L} {table : State} {all others : List Answer} → HasLogged contents added old new old_log log begin table all others → others ≡ []
+      → log ≡ logged added old_log (count_of old) begin all
+  log_ends logs none =
+      log_so_far logs ∙ ap (logged added old_log (count_of old) begin) (sym (logs.so_far.split ∙ ap (λ (l : List Answer). logs.so_far.done ++ l) none ∙ append-nil logs.so_far.done))
 
 -- a script that the reader may have had
 pub some_script : (known : Option (List ℕ)) → (script : List ℕ) × IsScriptOf known script

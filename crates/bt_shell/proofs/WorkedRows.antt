@@ -10,11 +10,11 @@ use Rattle.bt_value.specs.declared.value.Value.TheVariants as value
 use Rattle.bt_value.proofs.offered.OnLiterals.{values_on_literals}
 use Rattle.bt_messages.specs.declared.message.Message.TheVariants as message
 use Rattle.bt_script.specs.declared.command.Capacity.TheVariants.{Messages}
-use Rattle.bt_script.specs.Lines.{behind_words}
+use Rattle.bt_script.specs.Lines.{after_words}
 use Rattle.bt_script.specs.Commands.{bounds_of, closing_of, column_of, command_of, commands, commands_from, index_command, item_of_line, items_of, line_step}
 use Rattle.bt_script.specs.Commands.{names_of, sums_command, table_command, table_from}
 use Rattle.bt_keycode.specs.Codes.{eight_bytes}
-use Rattle.bt_node.specs.Trees.{inner, leaf, node, none}
+use Rattle.bt_form.specs.Trees.{inner, leaf, node, none}
 use Rattle.bt_view.specs.Images.{change_text, entry_image, entry_text, leaf_row_line, message_line, row_text}
 use Rattle.bt_shell.specs.Logs.{logged}
 use Rattle.bt_shell.specs.Runs.{replies, run}
@@ -212,7 +212,7 @@ refusals_of_ranges = refl
 -- a range whose bounds are in the wrong order is empty, and an index has neither rows nor sums to show
 pub empty_ranges : run (codes "table 4 3 2 1 id:int qty:int\nbatch\nput 1,10\nput 2,20\nput 3,30\nput 4,40\nend\nscan primary\nfrom 4\nto 2\ngo\nindex q on qty\nscan q\nfrom 1,2,3\ngo\nscan q\nfrom 1,2\ngo\nsums q 9 nope\ngo\n")
     ≡ codes "table 2\nbatch 4\nrows 0\nindex q\nrefused 7 BadLength 1\nrefused 11 Building\nrefused 11 Building\n"
-unfolding replies commands_from line_step closing_of command_of bounds_of sums_command index_command names_of behind_words items_of item_of_line column_of table_command eight_bytes values_on_literals
+unfolding replies commands_from line_step closing_of command_of bounds_of sums_command index_command names_of after_words items_of item_of_line column_of table_command eight_bytes values_on_literals
 empty_ranges = refl
 
 -- ---- logs

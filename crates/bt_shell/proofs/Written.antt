@@ -1,5 +1,5 @@
 -- Pieces of a text that are written one after the other. Serves the loop over them.
-use Rattle.std.proofs.Common.{ℕ, ◌+◌, ◌<◌, List, [], ◌∷◌, ◌++◌, ◌≡◌, ◌∙◌, refl, sym, ap, subst, append_assoc, append-nil, drop, get_or, length, Global, Option, Vec}
+use Rattle.std.proofs.Common.{ℕ, ◌+◌, ◌<◌, List, [], ◌∷◌, ◌++◌, ◌≡◌, ◌∙◌, refl, sym, ap, append_assoc, drop, get_or, length, Global, Option, Vec}
 use Rattle.std.proofs.lemmas.List.{at_drop_more}
 use Rattle.std.proofs.lemmas.List.Concat.{flat_map-cons}
 use Rattle.bt_script.specs.Streams.{Took, TookPrefix}
@@ -32,12 +32,6 @@ module _ {W : Type 0} (contents : W → Option (List ℕ)) (old : Counted W) whe
       → TookPrefix contents mid new piece → TookPrefix contents old new all
   writing_breaks mid new all rest piece more so_far next prefix =
       prefix-more contents old mid new all so_far.done piece more so_far.took (so_far.split ∙ ap (λ (l : List ℕ). so_far.done ++ l) next) prefix
-
-  -- no piece is left
-  pub writing_ends : (new : Counted W) (all rest : List ℕ) → HasWritten contents old new all rest → rest ≡ [] → Took contents old new all
-  writing_ends new all rest so_far none =
-      let all_done : all ≡ so_far.done = so_far.split ∙ ap (λ (l : List ℕ). so_far.done ++ l) none ∙ append-nil so_far.done in
-      subst (λ (text : List ℕ). Took contents old new text) (sym all_done) so_far.took
 
 -- what is left of pieces begins with the next one
 pub piece_next : (pieces : List (Vec ℕ Global)) (i : ℕ) (piece : Vec ℕ Global) → i < length pieces → piece ≡ get_or pieces i piece

@@ -1,7 +1,7 @@
 -- The contents of a table without its trees: they alone decide every reply except that to an image, and except whether a load is accepted.
 use Rattle.std.specs.Prelude.{ℕ, ◌≡◌, true, List, [], ◌∷◌, ◌++◌, map, Option, Some, None, Ok, Err}
 use Rattle.bt_value.specs.Lists.{concatenation}
-use Rattle.bt_value.specs.Refusals.{least}
+use Rattle.bt_value.specs.Refusals.{lowest}
 use Rattle.bt_row.specs.Schemas.{Schema}
 use Rattle.bt_rowtype.specs.declared.item.Item.{Item}
 use Rattle.bt_value.specs.declared.value.Value.{Value}
@@ -86,7 +86,7 @@ BatchesAreFolded =
 -- batches that a table of these columns accepts: no refusal applies to any of them
 abbrev pub AreAllTaken : Schema → List (List Item) → Type 0
 AreAllTaken schema [] = Unit {0}
-AreAllTaken schema (items ∷ more) = (least (batch_refusals schema items) ≡ None) × AreAllTaken schema more
+AreAllTaken schema (items ∷ more) = (lowest (batch_refusals schema items) ≡ None) × AreAllTaken schema more
 
 -- batches as commands
 abbrev pub batch_commands : List (List Item) → List Answer

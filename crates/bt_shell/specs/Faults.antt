@@ -4,6 +4,8 @@ use Rattle.bt_value.specs.declared.refusal.Refusal.TheVariants.{Failed, TableExi
 use Rattle.bt_script.specs.Commands.{Answer, commands}
 use Rattle.bt_script.specs.declared.command.Command.TheVariants.{Table}
 use Rattle.bt_table.specs.Tables.{Lost}
+use Rattle.bt_shell.specs.declared.log.ReplyKind.{ReplyKind}
+use Rattle.bt_shell.specs.Logs.{logged}
 use Rattle.bt_shell.specs.Replies.{refused_text}
 use Rattle.bt_shell.specs.Runs.{after_commands, replies}
 use Rattle.bt_shell.specs.Steps.{State}
@@ -23,6 +25,14 @@ module _ (AreWritten : List ℕ → Type 0) where
   abbrev pub StopsWithinReply : State → State → List ℕ → Type 0
   StopsWithinReply begin left script =
       (n : ℕ) × (left ≡ after_commands begin (take (n + 1) (commands script)))
+      × ((k : ℕ) × (length (replies begin (take n (commands script))) ≤ k) × AreWritten (take k (replies begin (take (n + 1) (commands script)))))
+
+-- After a fault, a log has the first n commands of a script: the whole replies to them are written, and the first bytes of the reply to the next command, perhaps
+-- all of them.
+module _ {L : Type 0} (added : L → ℕ → ReplyKind → L) (AreWritten : List ℕ → Type 0) where
+  abbrev pub LogsWholeReplies : L → L → ℕ → State → List ℕ → Type 0
+  LogsWholeReplies old new at begin script =
+      (n : ℕ) × (new ≡ logged added old at begin (take n (commands script)))
       × ((k : ℕ) × (length (replies begin (take n (commands script))) ≤ k) × AreWritten (take k (replies begin (take (n + 1) (commands script)))))
 
 -- the reply of a lost table: each command except `table` is refused as Failed, and a wrong line is refused as always

@@ -1,6 +1,6 @@
 -- What a log of a run is told of each command: where its reply ends, and what it did.
 use Rattle.std.specs.Io.Iter.{u64_saturate}
-use Rattle.std.specs.Prelude.{ℕ, ◌+◌, Bool, false, true, List, [], ◌∷◌, length, Result, Ok, Err}
+use Rattle.std.specs.Prelude.{ℕ, ◌≡◌, ◌≢◌, ◌+◌, Bool, false, true, List, [], ◌∷◌, length, Result, Ok, Err}
 use Rattle.bt_value.specs.declared.refusal.Refusal.{Refusal}
 use Rattle.bt_value.specs.Results.{map_ok}
 use Rattle.bt_script.specs.Commands.{Answer}
@@ -27,6 +27,10 @@ kind_after command (Err refusal) = Refused
 abbrev pub kind_of : State → Answer → ReplyKind
 kind_of state (Err refusal) = Refused
 kind_of state (Ok command) = kind_after command (outcome state command)
+
+-- a command that does not change a table, because it reads or is refused, leaves the same one
+abbrev pub ReadsChangeNothing : Type 0
+ReadsChangeNothing = (state : State) (answer : Answer) → kind_of state answer ≢ Changed → (turn state answer).0 ≡ state
 
 abbrev pub is_refusal : ReplyKind → Bool
 is_refusal Refused = true

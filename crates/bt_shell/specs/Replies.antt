@@ -9,7 +9,7 @@ use Rattle.bt_value.specs.declared.value.Value.{Value}
 use Rattle.bt_table.specs.declared.reply.Reply.{Reply}
 use Rattle.bt_table.specs.declared.reply.Reply.TheVariants.{Batch, Built, Created, Drained, Dropped, Loaded, Rebuilt, Row}
 use Rattle.bt_table.specs.declared.reply.SentCount.{SentCount}
-use Rattle.bt_view.specs.declared.groups.Sum.{Sum}
+use Rattle.bt_show.specs.declared.groups.Sum.{Sum}
 
 -- a word, a number and a line end
 abbrev pub count_line : List ℕ → ℕ → List ℕ

@@ -41,13 +41,13 @@ ends_with_line (b ∷ []) = b == 10
 ends_with_line (b ∷ c ∷ more) = ends_with_line (c ∷ more)
 
 -- where the line after some lines is: outside of blocks, or in one
-unfoldable pub place_behind : Place → List (List ℕ) → Place
-place_behind place [] = place
-place_behind place (line ∷ more) = place_behind (line_step place line).0 more
+unfoldable pub place_following : Place → List (List ℕ) → Place
+place_following place [] = place
+place_following place (line ∷ more) = place_following (line_step place line).0 more
 
 -- a script that ends between two commands: with a whole line, after which no block is open
 abbrev pub EndsBetweenCommands : List ℕ → Type 0
-EndsBetweenCommands script = (ends_with_line script ≡ true) × (place_behind Outside (lines script) ≡ Outside)
+EndsBetweenCommands script = (ends_with_line script ≡ true) × (place_following Outside (lines script) ≡ Outside)
 
 -- two scripts one after the other, from a table on, have the same replies as the script of both, and leave the same table
 abbrev pub AreOneRun : State → List ℕ → List ℕ → Type 0

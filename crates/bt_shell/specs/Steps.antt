@@ -1,12 +1,12 @@
 -- How a command changes the table, its reply, and why it is refused.
 use Rattle.std.specs.Prelude.{ℕ, not, Bool, List, ◌++◌, length, Option, Some, None, is_some, Result, Ok, Err, codes}
-use Rattle.bt_value.specs.Refusals.{least}
+use Rattle.bt_value.specs.Refusals.{lowest}
 use Rattle.bt_row.specs.Schemas.{is_schema}
 use Rattle.bt_value.specs.declared.refusal.Refusal.{Refusal}
 use Rattle.bt_value.specs.declared.refusal.Refusal.TheVariants.{BadSchema, BadShape, Failed, NoTable, TableExists}
 use Rattle.bt_messages.specs.declared.measure.Measure.TheVariants as measure
-use Rattle.bt_node.specs.Shapes.{is_shape}
-use Rattle.bt_node.specs.Trees.{Shape}
+use Rattle.bt_form.specs.Shapes.{is_shape}
+use Rattle.bt_form.specs.Trees.{Shape}
 use Rattle.bt_script.specs.Commands.{Answer}
 use Rattle.bt_script.specs.declared.command.Capacity.{Capacity}
 use Rattle.bt_script.specs.declared.command.Capacity.TheVariants.{Bytes, Messages}
@@ -62,13 +62,13 @@ abbrev pub read_outcome : TableState → Result (List ℕ) Refusal → Result Do
 read_outcome state text = map_ok (λ text. (Some state, text)) text
 
 -- a definition, or the smallest refusal of it and of its name
-abbrev pub definition_or_least : Result Definition Refusal → Option Refusal → Result Definition Refusal
-definition_or_least def refusal = map_ok (λ both. both.1) (both_read {S = Unit {0}} (unless refusal tt) def)
+abbrev pub definition_or_lowest : Result Definition Refusal → Option Refusal → Result Definition Refusal
+definition_or_lowest def refusal = map_ok (λ both. both.1) (both_read {S = Unit {0}} (unless refusal tt) def)
 
 -- the definition of a new index of a table, or the smallest refusal of its name and of its parts
 abbrev pub definition_of : TableState → IndexForm → Result Definition Refusal
 definition_of Lost form = Err Failed
-definition_of (Intact table) form = definition_or_least (definition_as table.schema form.on form.include form.filter) (least (name_refusals table form.name))
+definition_of (Intact table) form = definition_or_lowest (definition_as table.schema form.on form.include form.filter) (lowest (name_refusals table form.name))
 
 -- a new index of this definition
 abbrev pub creation_outcome : TableState → List ℕ → Result Definition Refusal → Result Done Refusal

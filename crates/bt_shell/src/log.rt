@@ -1,5 +1,5 @@
 //! What is kept of the commands of a run besides their replies.
-ghost use Rattle.std.specs.Prelude.{◌≡◌, ℕ, OnOk};
+ghost use Rattle.std.specs.Prelude.{◌≡◌, ℕ, OnErr, OnOk};
 ghost use Rattle.bt_shell.specs.declared.log.ReplyKind.{ReplyKind as reply_kind};
 ghost use Rattle.bt_shell.specs.Logs.{is_refusal};
 
@@ -33,9 +33,10 @@ pub trait CommandLog {
     /// The log after a command: where its reply ends, and what it did.
     ghost added: { Self → ℕ → reply_kind → Self };
 
-    /// Adds a command. Its reply ends after this number of bytes that were written. The number stops at the largest `u64`.
+    /// Adds a command. Its reply ends after this number of bytes that were written. The number stops at the largest `u64`. An `Err` adds nothing.
     fn add(&mut self, end: u64, kind: ReplyKind) -> Result<(), AllocError>
-        ensures { OnOk result (self.new ≡ added self.old end kind) };
+        ensures adds { OnOk result (self.new ≡ added self.old end kind) }
+        ensures unchanged { OnErr result (self.new ≡ self.old) };
 }
 
 /// A log that keeps nothing.

@@ -4,7 +4,7 @@ ghost use Rattle.bt_script.specs.Options.{AreWithinLimits, AsksHelp, IsFaulty, I
 ghost use Rattle.bt_script.specs.Streams.{FailsToGive, GaveAtMost, GivesWithin, Took, count_of, has_failed, has_unflushed, script_limit, source_of};
 ghost use Rattle.bt_shell.specs.Programs.{AnswersPrefix, AnswersReplies, AnswersScript, AreHealthy, HasCause, IsToRun, LeavesInput};
 ghost use Rattle.bt_shell.specs.Runs.{IsWholeRun, WritesPrefix, WritesReplies, WritesRun, state_after_commands};
-ghost use Rattle.bt_shell.specs.Statuses.{TookLine, status_of, words_of};
+ghost use Rattle.bt_shell.specs.Statuses.{TookLine, status_of, text_of};
 ghost use Rattle.bt_shell.specs.declared.program_run.ProgramFault.{ProgramFault};
 ghost use Rattle.bt_table.specs.Standing.{CompleteIndexesHold, IsSound};
 ghost use Rattle.std.specs.declared.option.Option.TheVariants.{None};
@@ -25,7 +25,7 @@ use std::{fs, mem};
 #[derive(Debug, Drop)]
 pub enum ProgramFault {
     /// The command line has a fault, so nothing runs.
-    Words,
+    Arguments,
     /// The run ended early.
     Run(RunFault),
 }
@@ -54,12 +54,12 @@ impl From<AllocError> for ProgramFault {
 }
 
 impl ProgramFault {
-    // The fault in words.
+    // The text of the fault.
     fn text(&self) -> &'static str
-        ensures { result.now ≡ words_of self.now }
+        ensures { result.now ≡ text_of self.now }
     {
         match self {
-            ProgramFault::Words => "faulty command line",
+            ProgramFault::Arguments => "faulty command line",
             ProgramFault::Run(fault) => fault.text(),
         }
     }
@@ -72,7 +72,7 @@ impl ProgramFault {
     {
         let _ = write_error(errors, self.text());
         match self {
-            ProgramFault::Words => 2,
+            ProgramFault::Arguments => 2,
             ProgramFault::Run(_) => 1,
         }
     }
@@ -104,59 +104,59 @@ fn run_file<R: Files + AllocGlobal + Threads + Wait + Sync, W: Write>(
     memory.run(&context, &mut Counted::new(file), output)
 }
 
-// The crew of the sizes that the words give.
-fn crew_of(words: &Words) -> Crew<NoGate>
-    requires { AreWithinLimits words.now.workers words.now.cut words.now.grain }
-    ensures sizes { (result.workers ≡ words.now.workers) × (result.cut ≡ words.now.cut) × (result.grain ≡ words.now.grain) }
+// The crew of the sizes in the settings.
+fn crew_of(settings: &Words) -> Crew<NoGate>
+    requires { AreWithinLimits settings.now.workers settings.now.cut settings.now.grain }
+    ensures sizes { (result.workers ≡ settings.now.workers) × (result.cut ≡ settings.now.cut) × (result.grain ≡ settings.now.grain) }
 {
-    match Crew::new(words.workers, words.cut, words.grain, NoGate) {
+    match Crew::new(settings.workers, settings.cut, settings.grain, NoGate) {
         Ok(crew) => crew,
         Err(_) => unreachable!(),
     }
 }
 
-// Runs what the words ask for. After a fault, what was written is not flushed.
-fn run_words<R: Files + AllocGlobal + Threads + Wait + Sync, I: Read, W: Write>(
+// Runs what the arguments ask for. After a fault, what was written is not flushed.
+fn run_arguments<R: Files + AllocGlobal + Threads + Wait + Sync, I: Read, W: Write>(
     rt: &R,
-    words: &Texts,
+    arguments: &Texts,
     memory: &mut RunMemory,
     input: &mut Counted<I>,
     output: &mut Counted<W>,
 ) -> Result<(), ProgramFault>
     requires reads { has_failed input.old ≡ false }
     requires writes { has_failed output.old ≡ false }
-    ensures ok { OnOk result (AnswersScript I.remaining W.contents words.now input.old output.old output.new) }
-    ensures input { OnOk result (IsToReadInput words.now → IsWholeRun I.remaining W.contents input.old input.new output.old output.new) }
-    ensures err { OnErr result (AnswersPrefix I.remaining W.contents words.now input.old output.old output.new) }
+    ensures ok { OnOk result (AnswersScript I.remaining W.contents arguments.now input.old output.old output.new) }
+    ensures input { OnOk result (IsToReadInput arguments.now → IsWholeRun I.remaining W.contents input.old input.new output.old output.new) }
+    ensures err { OnErr result (AnswersPrefix I.remaining W.contents arguments.now input.old output.old output.new) }
     ensures healthy { OnOk result (AreHealthy input.new output.new) }
-    ensures words { OnOk result (IsToRun words.now ⊎ AsksHelp words.now) }
+    ensures arguments { OnOk result (IsToRun arguments.now ⊎ AsksHelp arguments.now) }
     ensures short { OnOk result (GaveAtMost I.remaining input.old input.new script_limit) }
 
     // The fault, and what it leaves.
-    ensures faulty { IsErrOf result ProgramFault.Words → IsFaulty words.now }
-    ensures refused { MustBeRefused words.now → IsErrOf result ProgramFault.Words ⊎ IsErrOf result (ProgramFault.Run RunFault.OutOfMemory) }
-    ensures unwritten { MustBeRefused words.now → output.new ≡ output.old }
-    ensures asked { IsErrOf result (ProgramFault.Run RunFault.Read) → IsToRun words.now }
-    ensures read { IsErrOf result (ProgramFault.Run RunFault.Read) → IsToReadInput words.now → FailsToGive I.remaining input.old input.new script_limit }
+    ensures faulty { IsErrOf result ProgramFault.Arguments → IsFaulty arguments.now }
+    ensures refused { MustBeRefused arguments.now → IsErrOf result ProgramFault.Arguments ⊎ IsErrOf result (ProgramFault.Run RunFault.OutOfMemory) }
+    ensures unwritten { MustBeRefused arguments.now → output.new ≡ output.old }
+    ensures script { IsErrOf result (ProgramFault.Run RunFault.Read) → IsToRun arguments.now }
+    ensures read { IsErrOf result (ProgramFault.Run RunFault.Read) → IsToReadInput arguments.now → FailsToGive I.remaining input.old input.new script_limit }
     ensures unread { IsErrOf result (ProgramFault.Run RunFault.Read) → output.new ≡ output.old }
     ensures write { IsErrOf result (ProgramFault.Run RunFault.Write) → has_failed output.new ≡ true }
     ensures given { IsErrOf result (ProgramFault.Run RunFault.Write) → GivesWithin I.remaining input.old input.new script_limit }
     ensures memory { IsErrOf result (ProgramFault.Run RunFault.OutOfMemory) → AreHealthy input.new output.new }
     ensures within { IsErrOf result (ProgramFault.Run RunFault.OutOfMemory) → GaveAtMost I.remaining input.old input.new script_limit }
-    ensures replies { IsErrOf result (ProgramFault.Run RunFault.OutOfMemory) → AnswersReplies I.remaining W.contents words.now input.old output.old output.new }
+    ensures replies { IsErrOf result (ProgramFault.Run RunFault.OutOfMemory) → AnswersReplies I.remaining W.contents arguments.now input.old output.old output.new }
 
     // What is read of the input.
-    ensures untouched { LeavesInput words.now input.old input.new }
+    ensures untouched { LeavesInput arguments.now input.old input.new }
     ensures at_most { GaveAtMost I.remaining input.old input.new (script_limit + 1) }
 {
-    let said = match read_words(rt.alloc(), words) {
-        Ok(said) => said,
-        Err(WordsError::Faulty) => return Err(ProgramFault::Words),
+    let settings = match read_words(rt.alloc(), arguments) {
+        Ok(settings) => settings,
+        Err(WordsError::Faulty) => return Err(ProgramFault::Arguments),
         Err(WordsError::Help(text)) => return Ok(write_text(output, text.as_bytes())?),
         Err(WordsError::OutOfMemory) => return Err(ProgramFault::Run(RunFault::OutOfMemory)),
     };
-    let crew = crew_of(&said);
-    match &said.script {
+    let crew = crew_of(&settings);
+    match &settings.script {
         None => {
             let alloc = rt.alloc();
             let context = Context {
@@ -170,54 +170,54 @@ fn run_words<R: Files + AllocGlobal + Threads + Wait + Sync, I: Read, W: Write>(
     }
 }
 
-// Runs what the words ask for, and flushes what was written, also after a fault.
+// Runs what the arguments ask for, and flushes what was written, also after a fault.
 fn run_and_flush<R: Files + AllocGlobal + Threads + Wait + Sync, I: Read, W: Write>(
     rt: &R,
-    words: &Texts,
+    arguments: &Texts,
     memory: &mut RunMemory,
     input: &mut Counted<I>,
     output: &mut Counted<W>,
 ) -> Result<(), ProgramFault>
     requires reads { has_failed input.old ≡ false }
     requires writes { has_failed output.old ≡ false }
-    ensures ok { OnOk result (AnswersScript I.remaining W.contents words.now input.old output.old output.new) }
-    ensures input { OnOk result (IsToReadInput words.now → IsWholeRun I.remaining W.contents input.old input.new output.old output.new) }
-    ensures err { OnErr result (AnswersPrefix I.remaining W.contents words.now input.old output.old output.new) }
+    ensures ok { OnOk result (AnswersScript I.remaining W.contents arguments.now input.old output.old output.new) }
+    ensures input { OnOk result (IsToReadInput arguments.now → IsWholeRun I.remaining W.contents input.old input.new output.old output.new) }
+    ensures err { OnErr result (AnswersPrefix I.remaining W.contents arguments.now input.old output.old output.new) }
     ensures healthy { OnOk result (AreHealthy input.new output.new) }
     ensures flushed { OnOk result (has_unflushed output.new ≡ false) }
-    ensures words { OnOk result (IsToRun words.now ⊎ AsksHelp words.now) }
+    ensures arguments { OnOk result (IsToRun arguments.now ⊎ AsksHelp arguments.now) }
     ensures short { OnOk result (GaveAtMost I.remaining input.old input.new script_limit) }
 
     // The fault, and what it leaves.
-    ensures faulty { IsErrOf result ProgramFault.Words → IsFaulty words.now }
-    ensures refused { MustBeRefused words.now → IsErrOf result ProgramFault.Words ⊎ IsErrOf result (ProgramFault.Run RunFault.OutOfMemory) }
-    ensures unwritten { MustBeRefused words.now → Took W.contents output.old output.new [] }
-    ensures asked { IsErrOf result (ProgramFault.Run RunFault.Read) → IsToRun words.now }
-    ensures read { IsErrOf result (ProgramFault.Run RunFault.Read) → IsToReadInput words.now → FailsToGive I.remaining input.old input.new script_limit }
+    ensures faulty { IsErrOf result ProgramFault.Arguments → IsFaulty arguments.now }
+    ensures refused { MustBeRefused arguments.now → IsErrOf result ProgramFault.Arguments ⊎ IsErrOf result (ProgramFault.Run RunFault.OutOfMemory) }
+    ensures unwritten { MustBeRefused arguments.now → Took W.contents output.old output.new [] }
+    ensures script { IsErrOf result (ProgramFault.Run RunFault.Read) → IsToRun arguments.now }
+    ensures read { IsErrOf result (ProgramFault.Run RunFault.Read) → IsToReadInput arguments.now → FailsToGive I.remaining input.old input.new script_limit }
     ensures unread { IsErrOf result (ProgramFault.Run RunFault.Read) → Took W.contents output.old output.new [] }
     ensures write { IsErrOf result (ProgramFault.Run RunFault.Write) → has_failed output.new ≡ true }
     ensures given { IsErrOf result (ProgramFault.Run RunFault.Write) → GivesWithin I.remaining input.old input.new script_limit }
     ensures memory { IsErrOf result (ProgramFault.Run RunFault.OutOfMemory) → GivesWithin I.remaining input.old input.new script_limit }
-    ensures replies { IsErrOf result (ProgramFault.Run RunFault.OutOfMemory) → AnswersReplies I.remaining W.contents words.now input.old output.old output.new }
+    ensures replies { IsErrOf result (ProgramFault.Run RunFault.OutOfMemory) → AnswersReplies I.remaining W.contents arguments.now input.old output.old output.new }
 
     // What is read of the input.
-    ensures untouched { LeavesInput words.now input.old input.new }
+    ensures untouched { LeavesInput arguments.now input.old input.new }
     ensures at_most { GaveAtMost I.remaining input.old input.new (script_limit + 1) }
 {
-    let ended = run_words(rt, words, memory, input, output);
+    let ended = run_arguments(rt, arguments, memory, input, output);
     let flushed = flush_output(output);
     ended?;
     Ok(flushed?)
 }
 
-/// Runs the program with its words and three streams, and returns its exit status. The first word is the program's name. 0: the script ran, or the help text
+/// Runs the program with its arguments and three streams, and returns its exit status. The first word is the program's name. 0: the script ran, or the help text
 /// was printed. 1: `read failed`, `write failed` or `out of memory`. 2: `faulty command line`. If the status is not 0, one line with that text, after `betable:
 /// `, is written to the error stream.
 ///
-/// If the words name no file, the input is the script. With status 0 all of its replies are written to the output, and with any other status a prefix of them.
+/// If the arguments name no file, the input is the script. With status 0 all of its replies are written to the output, and with any other status a prefix of them.
 pub fn program<R: Files + AllocGlobal + Threads + Wait + Sync, I: Read, W: Write, E: Write>(
     rt: &R,
-    words: &Texts,
+    arguments: &Texts,
     input: &mut Counted<I>,
     output: &mut Counted<W>,
     errors: &mut Counted<E>,
@@ -226,33 +226,33 @@ pub fn program<R: Files + AllocGlobal + Threads + Wait + Sync, I: Read, W: Write
     requires writes { has_failed output.old ≡ false }
     ensures status { result ≤ 2 }
 
-    // The script is the one that the words name: the input, or a file, whose bytes no contract knows.
-    ensures ok { result ≡ 0 → AnswersScript I.remaining W.contents words.now input.old output.old output.new }
-    ensures input { result ≡ 0 → IsToReadInput words.now → IsWholeRun I.remaining W.contents input.old input.new output.old output.new }
-    ensures prefix { AnswersPrefix I.remaining W.contents words.now input.old output.old output.new }
+    // The script is the one that the arguments name: the input, or a file, whose bytes no contract knows.
+    ensures ok { result ≡ 0 → AnswersScript I.remaining W.contents arguments.now input.old output.old output.new }
+    ensures input { result ≡ 0 → IsToReadInput arguments.now → IsWholeRun I.remaining W.contents input.old input.new output.old output.new }
+    ensures prefix { AnswersPrefix I.remaining W.contents arguments.now input.old output.old output.new }
 
     // What each status means.
-    ensures words { result ≡ 0 → IsToRun words.now ⊎ AsksHelp words.now }
+    ensures arguments { result ≡ 0 → IsToRun arguments.now ⊎ AsksHelp arguments.now }
     ensures healthy { result ≡ 0 → AreHealthy input.new output.new }
     ensures short { result ≡ 0 → GaveAtMost I.remaining input.old input.new script_limit }
     ensures flushed { result ≡ 0 → has_unflushed output.new ≡ false }
     ensures quiet { result ≡ 0 → errors.new ≡ errors.old }
-    ensures told { result ≢ 0 → (fault : ProgramFault) × (result ≡ status_of fault) × HasCause I.remaining W.contents words.now input.old input.new output.old output.new fault
+    ensures cause { result ≢ 0 → (fault : ProgramFault) × (result ≡ status_of fault) × HasCause I.remaining W.contents arguments.now input.old input.new output.old output.new fault
         × TookLine E.contents errors.old errors.new fault }
-    ensures faulty { result ≡ 2 → IsFaulty words.now }
-    ensures refused { MustBeRefused words.now → (result ≡ 2) ⊎ (result ≡ 1) }
-    ensures unwritten { MustBeRefused words.now → Took W.contents output.old output.new [] }
+    ensures faulty { result ≡ 2 → IsFaulty arguments.now }
+    ensures refused { MustBeRefused arguments.now → (result ≡ 2) ⊎ (result ≡ 1) }
+    ensures unwritten { MustBeRefused arguments.now → Took W.contents output.old output.new [] }
 
     // Between any two commands of any script the table, if there is one, is sound.
     ensures sound { (script : List ℕ) (n : ℕ) → IfSome (state_after_commands script n) IsSound }
     ensures complete { (script : List ℕ) (n : ℕ) → IfSome (state_after_commands script n) CompleteIndexesHold }
 
     // What is read of the input.
-    ensures untouched { LeavesInput words.now input.old input.new }
+    ensures untouched { LeavesInput arguments.now input.old input.new }
     ensures at_most { GaveAtMost I.remaining input.old input.new (script_limit + 1) }
 {
     let mut memory = RunMemory::new(rt.alloc());
-    let ended = run_and_flush(rt, words, &mut memory, input, output);
+    let ended = run_and_flush(rt, arguments, &mut memory, input, output);
     // The process ends here, which frees all its memory at once; the nodes of the table are not visited to free them.
     mem::forget(memory);
     match ended {

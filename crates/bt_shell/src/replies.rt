@@ -281,19 +281,19 @@ impl ForkVisitor<Row> for Lines {
         Lines::in_room(alloc, Vec::new(alloc))
     }
 
-    fn join(&mut self, _alloc: Global, behind: Self) -> Result<(), AllocError> {
+    fn join(&mut self, _alloc: Global, following: Self) -> Result<(), AllocError> {
         let Lines {
             mut pieces,
             text,
             count,
-        } = behind;
+        } = following;
         self.pieces.push(mem::replace(&mut self.text, text))?;
         self.pieces.append(&mut pieces)?;
         self.count = add_count(self.count, count)?;
         Ok(())
     }
 
-    ghost as_one = { λ lines rows behind. lines_as_one (λ row. spec.row_line row.1) lines rows behind };
+    ghost as_one = { λ lines rows following. lines_as_one (λ row. spec.row_line row.1) lines rows following };
 }
 
 // Appends a space and the item of a refusal, if it has one.

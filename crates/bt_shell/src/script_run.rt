@@ -4,8 +4,8 @@ ghost use Rattle.std.specs.Io.KnownBytes.{Keeps};
 ghost use Rattle.bt_script.specs.Commands.{commands};
 ghost use Rattle.bt_script.specs.Streams.{FailsToGive, GaveAtMost, GivesWithin, Took, TookPrefix, count_of, has_failed, has_unflushed, script_limit, source_of};
 ghost use Rattle.bt_shell.specs.Contents.{BatchesAreFolded, CutsDoNotShow, NoTreeShows, ShapeIsNoContent, UpkeepKeepsContents};
-ghost use Rattle.bt_shell.specs.Faults.{StopsBetweenReplies, StopsWithinReply, lost_reply};
-ghost use Rattle.bt_shell.specs.Logs.{logged};
+ghost use Rattle.bt_shell.specs.Faults.{LogsWholeReplies, StopsBetweenReplies, StopsWithinReply, lost_reply};
+ghost use Rattle.bt_shell.specs.Logs.{ReadsChangeNothing, logged};
 ghost use Rattle.bt_shell.specs.Runs.{AreOneRun, EndsBetweenCommands, IsWholeRun, WritesPrefix, WritesReplies, after_commands, one_where, refused_count, replies, run, state_after_commands};
 ghost use Rattle.bt_shell.specs.Steps.{State};
 ghost use Rattle.bt_table.specs.Standing.{CompleteIndexesHold, IsSound, IsSoundUnlessLost};
@@ -53,6 +53,7 @@ fn soundness(table: &Option<Table>)
 
 // What is true of all states and commands, and of those of a script. It does nothing.
 fn laws(_script: &[u8])
+    ensures reads { ReadsChangeNothing }
     ensures one_run { (first : List ℕ) (before : State) → EndsBetweenCommands first → AreOneRun before first _script.now }
     ensures no_tree { NoTreeShows }
     ensures upkeep { UpkeepKeepsContents }
@@ -68,8 +69,8 @@ fn laws(_script: &[u8])
 /// So the runs of two scripts, one after the other, are the run of both as one script, if the first ends between two commands. `Write`: the writer failed.
 /// `OutOfMemory`: an allocation failed, and each reply of which a byte is written is whole.
 ///
-/// After a fault the table is the one after the commands with whole replies, the one after one more command, or lost. A lost table stays lost, and each command
-/// on it except `table` is refused as `Failed`.
+/// After a fault the table is the one after the commands with whole replies, the one after one more command, or lost, and the log has commands with whole
+/// replies: all of them, or all but the last. A lost table stays lost, and each command on it except `table` is refused as `Failed`.
 pub fn run_commands<W: Write, L: CommandLog, T, C: ScriptWorkforce<T>>(
     rt: &T,
     alloc: Global,
@@ -93,6 +94,9 @@ pub fn run_commands<W: Write, L: CommandLog, T, C: ScriptWorkforce<T>>(
     ensures write { IsErrOf result RunFault.Write → (has_failed writer.new ≡ true) × StopsWithinReply (Took W.contents writer.old writer.new) table.old table.new script.now }
     ensures memory { IsErrOf result RunFault.OutOfMemory → (has_failed writer.new ≡ has_failed writer.old) × StopsBetweenReplies (Took W.contents writer.old writer.new) table.old table.new script.now }
 
+    // The log has the first commands, and the whole replies to them are written.
+    ensures log_after_fault { OnErr result (LogsWholeReplies L.added (Took W.contents writer.old writer.new) log.old log.new (count_of writer.old) table.old script.now) }
+
     // A lost table stays lost, and each command on it except `table` is refused as Failed.
     ensures lost { table.old ≡ Some Lost → (table.new ≡ Some Lost) × (replies table.old (commands script.now) ≡ flat_map lost_reply (commands script.now)) }
 
@@ -102,6 +106,9 @@ pub fn run_commands<W: Write, L: CommandLog, T, C: ScriptWorkforce<T>>(
 
     // A run that ends Ok loses no table.
     ensures kept { IfSome table.old IsSound → OnOk result (IfSome table.new IsSound) }
+
+    // A command that reads or is refused leaves the same table.
+    ensures reads { ReadsChangeNothing }
 
     // This script, after any script that ends between two commands, is the rest of one script.
     ensures one_run { (first : List ℕ) (before : State) → EndsBetweenCommands first → AreOneRun before first script.now }

@@ -12,10 +12,10 @@ use Rattle.bt_keycode.specs.Keys.{Key, key_cmp}
 use Rattle.bt_messages.specs.Effects.{Rows, rows_after}
 use Rattle.bt_messages.specs.Messages.{Messages, sorted_batch}
 use Rattle.bt_messages.proofs.offered.Rows.{rows_after-sorted_batch}
-use Rattle.bt_node.specs.Drains.{packed}
-use Rattle.bt_node.specs.Fits.{HasShape}
-use Rattle.bt_node.specs.Flushes.{holds, sunk}
-use Rattle.bt_node.specs.Trees.{Shape}
+use Rattle.bt_flush.specs.Drains.{packed}
+use Rattle.bt_form.specs.Fits.{HasShape}
+use Rattle.bt_form.specs.Flushes.{holds, sunk}
+use Rattle.bt_form.specs.Trees.{Shape}
 use Rattle.bt_node.proofs.offered.PackedTrees.{packed-has_shape, packed-holds}
 use Rattle.bt_node.proofs.offered.ShapedTrees.{sunk-has_shape, sunk-holds}
 use Rattle.bt_fanout.specs.Covers.{cover_after, is_covered, wider}

@@ -4,10 +4,10 @@ use Rattle.std.proofs.Common.{◌≡◌, ◌∙◌, List, [], ◌∷◌, ap, ref
 use Rattle.std.specs.List.{zip}
 use Rattle.bt_messages.specs.Messages.{Messages, sorted_batch}
 use Rattle.bt_messages.proofs.offered.Rows.{rows_after-sorted_batch}
-use Rattle.bt_node.specs.Fits.{HasShape}
-use Rattle.bt_node.specs.Flushes.{holds, sunk}
-use Rattle.bt_node.specs.Messages.{rows_after}
-use Rattle.bt_node.specs.Trees.{Shape}
+use Rattle.bt_form.specs.Fits.{HasShape}
+use Rattle.bt_form.specs.Flushes.{holds, sunk}
+use Rattle.bt_form.specs.Messages.{rows_after}
+use Rattle.bt_form.specs.Trees.{Shape}
 use Rattle.bt_node.proofs.offered.ShapedTrees.{holds-sorted, sunk-has_shape, sunk-holds}
 use Rattle.bt_row.specs.Schemas.{Schema}
 use Rattle.bt_batch.specs.Batches.{RowMessages}

@@ -3,14 +3,14 @@ use Rattle.std.proofs.Common.{ℕ, arith, ◌+◌, ◌≡◌, ◌∙◌, ◌++�
 use Rattle.std.specs.FinMap.{is_sorted}
 use Rattle.std.specs.List.{list_all}
 use Rattle.bt_row.specs.Schemas.{Schema}
-use Rattle.bt_value.specs.Refusals.{least}
+use Rattle.bt_value.specs.Refusals.{lowest}
 use Rattle.bt_value.specs.declared.refusal.Refusal.TheVariants.{Building, NotEmpty}
 use Rattle.bt_value.specs.declared.value.Value.{Value}
 use Rattle.bt_keycode.specs.Keys.{key_cmp}
-use Rattle.bt_node.specs.Fits.{HasShape}
-use Rattle.bt_node.specs.Flushes.{holds}
-use Rattle.bt_node.specs.Messages.{Meaning, Rows, rows_after}
-use Rattle.bt_node.specs.Trees.{Shape, Tree}
+use Rattle.bt_form.specs.Fits.{HasShape}
+use Rattle.bt_form.specs.Flushes.{holds}
+use Rattle.bt_form.specs.Messages.{Meaning, Rows, rows_after}
+use Rattle.bt_form.specs.Trees.{Shape, Tree}
 use Rattle.bt_node.proofs.offered.PackedTrees.{drained-has_shape, drained-holds, packed-has_shape, packed-holds, rebuilt-has_shape, rebuilt-holds}
 use Rattle.bt_node.proofs.offered.ShapedTrees.{holds-sorted}
 use Rattle.bt_fanout.specs.Effects.{entry_effect, entry_meaning, row_effect, row_meaning}
@@ -74,7 +74,7 @@ without_index-sound table place sound = record {
 
 -- ---- rows that are loaded, and trees that are renewed
 
-pub none_building : (complete bare : Bool) → least (one_if (not complete) Building ++ one_if (not bare) NotEmpty) ≡ None → complete ≡ true
+pub none_building : (complete bare : Bool) → lowest (one_if (not complete) Building ++ one_if (not bare) NotEmpty) ≡ None → complete ≡ true
 none_building true bare allowed = refl
 none_building false true allowed = absurd cc
 none_building false false allowed = absurd cc

@@ -8,7 +8,7 @@ use Rattle.bt_row.specs.Schemas.{Schema}
 use Rattle.bt_value.specs.declared.value.Value.{Value}
 use Rattle.bt_keycode.specs.Keys.{Key, key_cmp}
 use Rattle.bt_keycode.proofs.offered.Order.{same_key}
-use Rattle.bt_node.specs.Messages.{Rows, rows_after, with_value}
+use Rattle.bt_form.specs.Messages.{Rows, rows_after, with_value}
 use Rattle.bt_batch.specs.Batches.{RowMessages}
 use Rattle.bt_table.specs.Standing.{AllStand, AreOfSchema, Stands}
 use Rattle.bt_fanout.specs.Effects.{row_effect}

@@ -6,7 +6,7 @@ use Rattle.std.proofs.lemmas.List.{length-map, length_push}
 use Rattle.std.specs.Prelude.{IsSome}
 use Rattle.std.specs.FinMap.{find, is_sorted}
 use Rattle.std.specs.List.{All, list_all, remove}
-use Rattle.bt_value.specs.Refusals.{least}
+use Rattle.bt_value.specs.Refusals.{lowest}
 use Rattle.bt_row.specs.Schemas.{Schema}
 use Rattle.bt_value.specs.Results.{or_refused, unless, and_then, map_ok, one_if}
 use Rattle.bt_value.specs.declared.refusal.Refusal.TheVariants.{AlreadyComplete, NameTaken, NoSuchTree, TooMany}
@@ -21,9 +21,9 @@ use Rattle.bt_messages.specs.Effects.{Rows, rows_after}
 use Rattle.bt_messages.specs.Messages.{Messages, sorted_batch}
 use Rattle.bt_messages.proofs.offered.Pieces.{sorted-sorted_batch, sorted_batch-sorted}
 use Rattle.bt_messages.proofs.offered.Rows.{rows_after-sorted_batch}
-use Rattle.bt_node.specs.Drains.{packed}
-use Rattle.bt_node.specs.Flushes.{sunk}
-use Rattle.bt_node.specs.Trees.{Shape, leaf}
+use Rattle.bt_flush.specs.Drains.{packed}
+use Rattle.bt_form.specs.Flushes.{sunk}
+use Rattle.bt_form.specs.Trees.{Shape, leaf}
 use Rattle.bt_node.proofs.offered.PackedTrees.{packed-holds}
 use Rattle.bt_fanout.specs.Covers.{cover_after, next_rows}
 use Rattle.bt_fanout.specs.Effects.{EntryMessage, SuitsEffect, effects_of, entry_meaning, row_effect, row_meaning}
@@ -77,10 +77,10 @@ same : {A : Type 0} {found : Option A} {stood taken : A} → found ≡ Some stoo
 same is took = cc
 
 -- if a name is not refused, there may be one more index
-below_most : (taken : Bool) (count : ℕ) → least (one_if taken NameTaken ++ one_if (nat_le most_indexes count) TooMany) ≡ None → count < most_indexes
+below_most : (taken : Bool) (count : ℕ) → lowest (one_if taken NameTaken ++ one_if (nat_le most_indexes count) TooMany) ≡ None → count < most_indexes
 below_most taken count free = go taken (nat_le most_indexes count) refl free
   where
-    go : (taken full : Bool) → nat_le most_indexes count ≡ full → least (one_if taken NameTaken ++ one_if full TooMany) ≡ None → count < most_indexes
+    go : (taken full : Bool) → nat_le most_indexes count ≡ full → lowest (one_if taken NameTaken ++ one_if full TooMany) ≡ None → count < most_indexes
     go false false is free = leb-false most_indexes count is
     go false true is free = absurd cc
     go true false is free = absurd cc
@@ -93,7 +93,7 @@ length-remove-le zero (x ∷ xs) = omega arith
 length-remove-le (suc place) (x ∷ xs) = let h = length-remove-le place xs in omega arith
 
 -- a table is not lost if an index can be created
-pub has_trees : (schema : Schema) (heads : List IndexHead) (kept : Option Trees) (name : List ℕ) → least (index_refusals (state_of schema heads kept) name) ≡ None → IsSome kept
+pub has_trees : (schema : Schema) (heads : List IndexHead) (kept : Option Trees) (name : List ℕ) → lowest (index_refusals (state_of schema heads kept) name) ≡ None → IsSome kept
 has_trees schema heads None name free = absurd cc
 has_trees schema heads (Some trees) name free = refl
 
@@ -121,7 +121,7 @@ after-sorted table sound batch fit =
     )
 
 -- a batch that is not refused does what its messages do
-text_is : (table : PlainTable) (items : List Item) → least (batch_refusals table.schema items) ≡ None
+text_is : (table : PlainTable) (items : List Item) → lowest (batch_refusals table.schema items) ≡ None
     → step (Intact table) (Apply items) ≡ Ok (after_messages table (messages_of table.schema items))
 text_is table items allowed =
     let batch = messages_of table.schema items in
@@ -249,7 +249,7 @@ module _ (schema : Schema) (heads : List IndexHead) (kept : Option Trees) (trees
         (subst (AreOfSchema schema) (sym packet_is) (sorted_of_schema schema (messages_of schema items) (batch_of_schema schema items)))
 
     -- to apply the packet is to apply the batch
-    pub packet_is_text : least (batch_refusals schema items) ≡ None → step state (ApplyMessages packet) ≡ step state (Apply items)
+    pub packet_is_text : lowest (batch_refusals schema items) ≡ None → step state (ApplyMessages packet) ≡ step state (Apply items)
     packet_is_text allowed =
         ap (λ s. step s (ApplyMessages packet)) here
         ∙ ap (λ (p : RowMessages). step (Intact before) (ApplyMessages p)) packet_is
@@ -265,10 +265,10 @@ module _ (schema : Schema) (heads : List IndexHead) (kept : Option Trees) (trees
 
     -- a name that is free is refused by the number of indexes alone
     pub refused_by_number : (name : List ℕ) → is_primary name ≡ false → is_some (index_named name indexes) ≡ false
-        → least (index_refusals state name) ≡ least (one_if (nat_le most_indexes (length heads)) TooMany)
+        → lowest (index_refusals state name) ≡ lowest (one_if (nat_le most_indexes (length heads)) TooMany)
     refused_by_number name other free =
-        ap (λ s. least (index_refusals s name)) state_is
-        ∙ (λ i. least (one_if (other i || free i) NameTaken ++ one_if (nat_le most_indexes (length-indexes_of heads trees.entries.items each_has_tree i)) TooMany))
+        ap (λ s. lowest (index_refusals s name)) state_is
+        ∙ (λ i. lowest (one_if (other i || free i) NameTaken ++ one_if (nat_le most_indexes (length-indexes_of heads trees.entries.items each_has_tree i)) TooMany))
 
     module _ (taken : Trees) (took : kept ≡ Some taken) (others : List IndexHead) (new : Trees) (after : Option Trees) (put : after ≡ Some new) (rows_are : new.rows ≡ taken.rows) where
       others_to : (entries : List (Shape × EntryTree)) → new.entries.items ≡ entries
@@ -291,14 +291,14 @@ module _ (schema : Schema) (heads : List IndexHead) (kept : Option Trees) (trees
         not_added_to heads_are entries_are =
             others_to trees.entries.items (entries_are ∙ ap (λ (t : Trees). t.entries.items) (same is took)) ∙ ap (λ hs. held_by schema trees.rows (indexes_of hs trees.entries.items)) heads_are
 
-        one_more : least (index_refusals state name) ≡ None → others ≡ heads ++ empty_head name def ∷ [] → length others ≤ most_indexes
+        one_more : lowest (index_refusals state name) ≡ None → others ≡ heads ++ empty_head name def ∷ [] → length others ≤ most_indexes
         one_more free heads_are =
             let number : length others ≡ length heads + 1 = ap length heads_are ∙ length_push heads _ in
             let indexes_number = length-indexes_of heads trees.entries.items each_has_tree in
-            let fewer = below_most (is_primary name || is_some (index_named name indexes)) (length indexes) (sym (ap (λ s. least (index_refusals s name)) state_is) ∙ free) in
+            let fewer = below_most (is_primary name || is_some (index_named name indexes)) (length indexes) (sym (ap (λ s. lowest (index_refusals s name)) state_is) ∙ free) in
             omega arith
 
-        pub added_is_sound : Suits state def → least (index_refusals state name) ≡ None → (added : Bool) → others ≡ (if added then heads ++ empty_head name def ∷ [] else heads)
+        pub added_is_sound : Suits state def → lowest (index_refusals state name) ≡ None → (added : Bool) → others ≡ (if added then heads ++ empty_head name def ∷ [] else heads)
             → new.entries.items ≡ (if added then taken.entries.items ++ (taken.rows.0, leaf []) ∷ [] else taken.entries.items) → AreSoundParts schema others after
         added_is_sound suits free true heads_are entries_are =
             put_is_sound schema others after new put
@@ -315,10 +315,10 @@ module _ (schema : Schema) (heads : List IndexHead) (kept : Option Trees) (trees
         not_added_is heads_are entries_are = state_is_put schema others after new put before (not_added_to heads_are entries_are) ∙ sym state_is
 
         pub create_is_step : (own : List ℕ) → own ≡ name → others ≡ heads ++ empty_head name def ∷ [] → new.entries.items ≡ taken.entries.items ++ (taken.rows.0, leaf []) ∷ []
-            → least (index_refusals state name) ≡ None → IsStep state (state_of schema others after) (CreateIndex name def) (Created own)
+            → lowest (index_refusals state name) ≡ None → IsStep state (state_of schema others after) (CreateIndex name def) (Created own)
         create_is_step own named heads_are entries_are free =
             ap (λ s. step s (CreateIndex name def)) state_is
-            ∙ ap (λ o. unless o (Intact (with_index before name def), Created name)) (sym (ap (λ s. least (index_refusals s name)) state_is) ∙ free)
+            ∙ ap (λ o. unless o (Intact (with_index before name def), Created name)) (sym (ap (λ s. lowest (index_refusals s name)) state_is) ∙ free)
             ∙ (λ i. Ok (sym (state_is_put schema others after new put (with_index before name def) (added_to heads_are entries_are)) i, Created (sym named i)))
 
       module _ (place : ℕ) (heads_are : others ≡ remove heads place) (entries_are : new.entries.items ≡ remove taken.entries.items place) where
@@ -358,7 +358,7 @@ module _ (schema : Schema) (heads : List IndexHead) (kept : Option Trees) (trees
       abbrev new_entries : List (Shape × EntryTree)
       new_entries = map (λ head. entry_tree trees.rows.0 map_is head.def) heads
 
-      module _ (allowed : least (load_refusals indexes trees.rows.1) ≡ None) (new : Trees) (after : Option Trees) (put : after ≡ Some new) (rows_are
+      module _ (allowed : lowest (load_refusals indexes trees.rows.1) ≡ None) (new : Trees) (after : Option Trees) (put : after ≡ Some new) (rows_are
           : new.rows ≡ (trees.rows.0, packed trees.rows.0 map_is))
           (entries_are : new.entries.items ≡ new_entries) where
         loaded_to : held_by schema new.rows (indexes_of heads new.entries.items) ≡ with_rows before map_is

@@ -63,9 +63,9 @@ new_key = refl
 abbrev faulty : Call
 faulty = Apply (Put (codes "1" ∷ []) ∷ Put (codes "5" ∷ codes "50" ∷ []) ∷ Put (codes "7" ∷ codes "x" ∷ []) ∷ Put (codes "y" ∷ codes "1" ∷ []) ∷ [])
 
-pub least_refusal : reply_of empty faulty ≡ Err (BadField 3)
+pub lowest_refusal : reply_of empty faulty ≡ Err (BadField 3)
 unfolding eight_bytes values_on_literals
-least_refusal = refl
+lowest_refusal = refl
 
 pub refused_changes_nothing : reply_of (after empty (batch ∷ faulty ∷ [])) (Get (codes "5" ∷ [])) ≡ Ok (Row None)
 unfolding eight_bytes values_on_literals

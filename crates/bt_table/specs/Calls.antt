@@ -4,7 +4,7 @@ use Rattle.std.specs.Prelude.{set, Option, Some, None, option_map, Result, Ok, E
 use Rattle.std.specs.Cmp.Lexicographic.{pointwise}
 use Rattle.std.specs.FinMap.{find}
 use Rattle.std.specs.List.{list_all, remove}
-use Rattle.bt_value.specs.Refusals.{least}
+use Rattle.bt_value.specs.Refusals.{lowest}
 use Rattle.bt_row.specs.Schemas.{Schema}
 use Rattle.bt_value.specs.declared.refusal.Refusal.{Refusal}
 use Rattle.bt_value.specs.Results.{or_refused, unless, and_then, map_ok, one_if}
@@ -12,11 +12,11 @@ use Rattle.bt_value.specs.declared.refusal.Refusal.TheVariants.{AlreadyComplete,
 use Rattle.bt_value.specs.declared.value.Value.{Value}
 use Rattle.bt_keycode.specs.Codes.{code_of}
 use Rattle.bt_keycode.specs.Keys.{Key, key_cmp}
-use Rattle.bt_node.specs.Drains.{drained, packed, rebuilt}
-use Rattle.bt_node.specs.Flushes.{holds}
-use Rattle.bt_node.specs.Messages.{Meaning, Rows}
-use Rattle.bt_node.specs.Trees.{Shape, Tree}
-use Rattle.bt_node.specs.Walks.{is_leaf, rows_of}
+use Rattle.bt_flush.specs.Drains.{drained, packed, rebuilt}
+use Rattle.bt_form.specs.Flushes.{holds}
+use Rattle.bt_form.specs.Messages.{Meaning, Rows}
+use Rattle.bt_form.specs.Trees.{Shape, Tree}
+use Rattle.bt_form.specs.Walks.{is_leaf, rows_of}
 use Rattle.bt_load.specs.Loads.{text_rows}
 use Rattle.bt_load.specs.Maps.{map_of}
 use Rattle.bt_rowtype.specs.declared.item.Item.{Item}
@@ -60,7 +60,7 @@ pub data Call : Type 0 where
 
 -- a value, or the smallest of the refusals if some apply
 abbrev pub unless_any : {A : Type 0} → List Refusal → A → Result A Refusal
-unless_any refusals value = unless (least refusals) value
+unless_any refusals value = unless (lowest refusals) value
 
 -- whether a name is that of the tree of rows
 abbrev pub is_primary : List ℕ → Bool
@@ -189,7 +189,7 @@ permitted state call = map_ok (λ _. tt) (step state call)
 abbrev pub IsTextOfMessages : TableState → List Item → Type 0
 IsTextOfMessages Lost items = Unit {0}
 IsTextOfMessages (Intact table) items =
-    least (batch_refusals table.schema items) ≡ None → step (Intact table) (Apply items) ≡ step (Intact table) (ApplyMessages (messages_of table.schema items))
+    lowest (batch_refusals table.schema items) ≡ None → step (Intact table) (Apply items) ≡ step (Intact table) (ApplyMessages (messages_of table.schema items))
 
 -- this call changes one table to the other and gives this reply
 abbrev pub IsStep : TableState → TableState → Call → Reply → Type 0

@@ -4,9 +4,9 @@ use Rattle.std.specs.Cmp.Lexicographic.{pointwise}
 use Rattle.bt_value.specs.declared.value.Value.{Value}
 use Rattle.bt_messages.specs.Effects.{Rows}
 use Rattle.bt_messages.specs.Messages.{Messages, sorted_batch}
-use Rattle.bt_node.specs.Drains.{packed}
-use Rattle.bt_node.specs.Flushes.{sunk}
-use Rattle.bt_node.specs.Trees.{Shape, Tree, leaf}
+use Rattle.bt_flush.specs.Drains.{packed}
+use Rattle.bt_form.specs.Flushes.{sunk}
+use Rattle.bt_form.specs.Trees.{Shape, Tree, leaf}
 use Rattle.bt_fanout.specs.Covers.{cover_after, is_covered, is_whole, next_rows, puts_of}
 use Rattle.bt_fanout.specs.Effects.{EntryMessage, RowMessage, entry_meaning, row_effect}
 use Rattle.bt_fanout.specs.Entries.{Definition, entry_of, same_values}

@@ -5,10 +5,10 @@ use Rattle.std.specs.List.{All}
 use Rattle.bt_row.specs.Schemas.{Schema}
 use Rattle.bt_value.specs.Values.{values_cmp}
 use Rattle.bt_value.specs.declared.value.Value.{Value}
-use Rattle.bt_node.specs.Fits.{HasShape}
-use Rattle.bt_node.specs.Flushes.{holds}
-use Rattle.bt_node.specs.Messages.{Rows}
-use Rattle.bt_node.specs.Trees.{Shape}
+use Rattle.bt_form.specs.Fits.{HasShape}
+use Rattle.bt_form.specs.Flushes.{holds}
+use Rattle.bt_form.specs.Messages.{Rows}
+use Rattle.bt_form.specs.Trees.{Shape}
 use Rattle.bt_fanout.specs.Definitions.{kinds_of}
 use Rattle.bt_fanout.specs.Effects.{entry_effect, entry_meaning, row_effect, row_meaning}
 use Rattle.bt_fanout.specs.Entries.{Definition, SuitsKinds, entry_of}

@@ -5,9 +5,9 @@ use Rattle.bt_row.specs.Schemas.{Schema}
 use Rattle.bt_value.specs.declared.value.Value.{Value}
 use Rattle.bt_messages.specs.Messages.{sorted_batch}
 use Rattle.bt_messages.specs.declared.message.Message.{Message}
-use Rattle.bt_node.specs.Flushes.{holds, sunk}
-use Rattle.bt_node.specs.Messages.{Rows, rows_after}
-use Rattle.bt_node.specs.Trees.{Shape, Tree, leaf}
+use Rattle.bt_form.specs.Flushes.{holds, sunk}
+use Rattle.bt_form.specs.Messages.{Rows, rows_after}
+use Rattle.bt_form.specs.Trees.{Shape, Tree, leaf}
 use Rattle.bt_batch.specs.Batches.{RowMessages}
 use Rattle.bt_table.specs.Indexes.{Index, indexes_after, indexes_of}
 use Rattle.bt_table.specs.declared.index.IndexHead.{IndexHead}

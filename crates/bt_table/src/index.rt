@@ -1,8 +1,8 @@
 //! The indexes of a table: the head of each index, and beside it the tree of its entries.
 ghost use Rattle.std.specs.Prelude.{◌≡◌, ◌<◌, ◌++◌, ◌∷◌, [], IfOk, IfSome, List, Some, if◌then◌else◌, is_ok, length, map, option_map, set, slice_get};
 ghost use Rattle.std.specs.List.{All, list_all};
-ghost use Rattle.bt_node.specs.Flushes.{holds};
-ghost use Rattle.bt_node.specs.Trees.{leaf};
+ghost use Rattle.bt_form.specs.Flushes.{holds};
+ghost use Rattle.bt_form.specs.Trees.{leaf};
 ghost use Rattle.bt_fanout.specs.Effects.{SuitsEffect, effects_of, row_effect};
 ghost use Rattle.bt_fanout.specs.declared.effect.Effect.{Effect};
 ghost use Rattle.bt_fanout.specs.Covers.{is_whole};

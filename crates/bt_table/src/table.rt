@@ -2,7 +2,7 @@
 #![tactic(auto, using(crate::proofs::offered::Steps::unless_lost_hold))]
 
 ghost use Rattle.std.specs.Prelude.{◌≡◌, Err, IfErr, IfOk, IsErrOf, None, OnErr, OnOk, Some};
-ghost use Rattle.bt_value.specs.Refusals.{least};
+ghost use Rattle.bt_value.specs.Refusals.{lowest};
 ghost use Rattle.bt_table.specs.Calls as spec;
 ghost use Rattle.bt_table.specs.Calls.{Apply, ApplyMessages, CreateIndex, DropIndex, Get, GetAt, IsCertain, IsRefused, IsStep, IsTextOfMessages, Shows, StaysOrIsLost, index_refusals, is_primary, step, tree_named};
 ghost use Rattle.bt_table.specs.Standing.{CompleteIndexesHold, HasSchema, IsSoundUnlessLost, SuitMessages, Suits};
@@ -46,7 +46,7 @@ impl Model for Table {
     ghost use Rattle.bt_table.specs.Tables.{TableState, state_of};
     ghost use Rattle.bt_table.specs.inside.Parts.{AreSoundParts};
     ghost use Rattle.std.specs.Coded.{codes};
-    ghost use Rattle.bt_node.specs.Stored.{message_code, tree_code};
+    ghost use Rattle.bt_form.specs.Stored.{message_code, tree_code};
 
     ghost Value = { TableState };
 
@@ -191,8 +191,8 @@ impl Table {
     /// Whether an index of this name can be created: `NameTaken` if the tree of rows or an index has this name, `TooMany` if the table already has as many
     /// indexes as it can have. Allocates nothing.
     pub fn check_index(&self, name: &Text) -> Result<(), Refusal>
-        ensures free { OnOk result (least (index_refusals self.now name.now) ≡ None) }
-        ensures refused { IfErr result (λ refusal. least (index_refusals self.now name.now) ≡ Some refusal) }
+        ensures free { OnOk result (lowest (index_refusals self.now name.now) ≡ None) }
+        ensures refused { IfErr result (λ refusal. lowest (index_refusals self.now name.now) ≡ Some refusal) }
         ensures complete { CompleteIndexesHold self.now }
         ensures sound { IsSoundUnlessLost self.now }
     {

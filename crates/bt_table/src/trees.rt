@@ -1,7 +1,7 @@
 //! The trees of a table: how they leave it and come back, and how packets change them.
 ghost use Rattle.std.specs.Prelude.{◌≡◌, ◌≤◌, [], IfOk, IsSome, None, Some, length, vec_capacity};
 ghost use Rattle.std.specs.List.{zip};
-ghost use Rattle.bt_node.specs.Flushes.{sunk};
+ghost use Rattle.bt_form.specs.Flushes.{sunk};
 ghost use Rattle.bt_fanout.specs.Effects.{row_meaning};
 ghost use Rattle.bt_table.specs.Calls.{most_indexes};
 ghost use Rattle.bt_table.specs.inside.IndexTrees.{sunk_tree, sunk_trees};

@@ -2,15 +2,15 @@
 ghost use Rattle.std.specs.Prelude.{◌≡◌, ◌≢◌, ◌≤◌, ◌+◌, ◌++◌, IfErr, IfOk, IsErrOf, None, OnErr, OnOk, Some, length, map};
 ghost use Rattle.std.specs.List.{All};
 ghost use Rattle.bt_messages.specs.Messages.{sorted_batch};
-ghost use Rattle.bt_node.specs.Drains.{drained, rebuilt};
-ghost use Rattle.bt_node.specs.Flushes.{holds};
+ghost use Rattle.bt_flush.specs.Drains.{drained, rebuilt};
+ghost use Rattle.bt_form.specs.Flushes.{holds};
 ghost use Rattle.bt_batch.specs.Batches.{batch_refusals, messages_of};
 ghost use Rattle.bt_fanout.specs.Effects.{effects_within, entry_effect, entry_meaning, row_effect, row_meaning};
 ghost use Rattle.bt_fanout.specs.Entries.{IsWithin};
 ghost use Rattle.bt_fanout.specs.Promises.{IsBuildStep};
 ghost use Rattle.bt_fanout.specs.Targets.{SuitAll, packet_of};
 ghost use Rattle.bt_gather.specs.Rounds.{all_sunk};
-ghost use Rattle.bt_value.specs.Refusals.{least};
+ghost use Rattle.bt_value.specs.Refusals.{lowest};
 ghost use Rattle.bt_value.specs.declared.refusal.Refusal.TheVariants as refusal;
 ghost use Rattle.bt_table.specs.Calls.{IsRefused, IsStep, Load};
 ghost use Rattle.bt_table.specs.Standing.{CompleteIndexesHold, IsSoundUnlessLost};
@@ -23,10 +23,11 @@ use bt_fanout::{
     BuildStep, Cover, IndexDef, IndexTarget, build_step, build_step_alone, index_packets,
 };
 use bt_gang::{Crew, Gate, NoGate};
-use bt_gather::{MOST_TREES, drain, rebuild, sink};
+use bt_gather::{MOST_TREES, drain, sink};
 use bt_load::{InThreads, InTurn};
 use bt_messages::{Entry, Packet};
 use bt_node::Tree;
+use bt_portions::rebuild;
 use bt_row::{Row, Schema};
 use bt_rowtype::Item;
 use bt_value::Refusal;
@@ -53,8 +54,8 @@ pub trait Workforce<T> {
     ) -> Result<Packet<Row>, Refusal>
         requires ready { accepts self.now }
         ensures packet { IfOk result (λ packet. packet ≡ sorted_batch (messages_of schema.now items.now)) }
-        ensures allowed { OnOk result (least (batch_refusals schema.now items.now) ≡ None) }
-        ensures refused { IfErr result (λ r. r ≢ refusal.OutOfMemory → least (batch_refusals schema.now items.now) ≡ Some r) };
+        ensures allowed { OnOk result (lowest (batch_refusals schema.now items.now) ≡ None) }
+        ensures refused { IfErr result (λ r. r ≢ refusal.OutOfMemory → lowest (batch_refusals schema.now items.now) ≡ Some r) };
 
     /// The packets of indexes for a packet of rows, which the tree does not have yet. Keys that the cover does not cover are not looked up.
     fn index_packets(

@@ -59,19 +59,19 @@ item_of (DuplicateKey item) = Some item
 item_of other = None
 
 -- whether this number is smaller than the other or, if the numbers are equal, this item
-abbrev pub is_lesser : Refusal → Refusal → Bool
-is_lesser a b = if number_of a == number_of b then nat_lt (unwrap_or (item_of a) 0) (unwrap_or (item_of b) 0) else nat_lt (number_of a) (number_of b)
+abbrev pub is_lower : Refusal → Refusal → Bool
+is_lower a b = if number_of a == number_of b then nat_lt (unwrap_or (item_of a) 0) (unwrap_or (item_of b) 0) else nat_lt (number_of a) (number_of b)
 
 -- which of two refusals is returned: the smaller, or the first if they are equal
-abbrev pub lesser : Refusal → Refusal → Refusal
-lesser a b = if is_lesser b a then b else a
+abbrev pub lower : Refusal → Refusal → Refusal
+lower a b = if is_lower b a then b else a
 
 -- the least of a refusal found before, if there was one, and of others
-abbrev pub least_from : Option Refusal → List Refusal → Option Refusal
-least_from found [] = found
-least_from None (refusal ∷ others) = least_from (Some refusal) others
-least_from (Some found) (refusal ∷ others) = least_from (Some (lesser found refusal)) others
+abbrev pub lowest_from : Option Refusal → List Refusal → Option Refusal
+lowest_from found [] = found
+lowest_from None (refusal ∷ others) = lowest_from (Some refusal) others
+lowest_from (Some found) (refusal ∷ others) = lowest_from (Some (lower found refusal)) others
 
 -- which of the refusals that apply is returned, if any: the one with the smallest number and, of equal numbers, the smallest item
-abbrev pub least : List Refusal → Option Refusal
-least refusals = least_from None refusals
+abbrev pub lowest : List Refusal → Option Refusal
+lowest refusals = lowest_from None refusals

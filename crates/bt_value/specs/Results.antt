@@ -2,7 +2,7 @@
 use Rattle.std.specs.Prelude.{Bool, List, [], ◌∷◌, Option, Some, None, Result, Ok, Err, if◌then◌else◌}
 use Rattle.std.specs.List.{filter_map}
 use Rattle.std.specs.Result.{result_err, result_ok}
-use Rattle.bt_value.specs.Refusals.{least, lesser}
+use Rattle.bt_value.specs.Refusals.{lowest, lower}
 use Rattle.bt_value.specs.declared.refusal.Refusal.{Refusal}
 
 -- the result of a function on the value, if there is one
@@ -31,11 +31,11 @@ unless (Some refusal) value = Err refusal
 
 -- all that were read, or the least of their refusals
 abbrev pub all_read : {T : Type 0} → List (Result T Refusal) → Result (List T) Refusal
-all_read results = unless (least (filter_map result_err results)) (filter_map result_ok results)
+all_read results = unless (lowest (filter_map result_err results)) (filter_map result_ok results)
 
 -- two that were read, or the smaller of their refusals
 abbrev pub both_read : {S T : Type 0} → Result S Refusal → Result T Refusal → Result (S × T) Refusal
 both_read (Ok first) (Ok second) = Ok (first, second)
 both_read (Ok first) (Err refusal) = Err refusal
 both_read (Err refusal) (Ok second) = Err refusal
-both_read (Err refusal) (Err other) = Err (lesser refusal other)
+both_read (Err refusal) (Err other) = Err (lower refusal other)

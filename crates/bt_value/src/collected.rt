@@ -3,9 +3,9 @@ ghost use Rattle.std.specs.Prelude.{◌≡◌, ◌≢◌, ◌++◌, [], Err, IfO
 ghost use Rattle.std.specs.Option.{option_to_list};
 ghost use Rattle.std.specs.Result.{result_err, result_ok};
 ghost use Rattle.bt_value.specs.Results.{unless};
-ghost use Rattle.bt_value.specs.Refusals.{least_from};
+ghost use Rattle.bt_value.specs.Refusals.{lowest_from};
 
-use crate::refusal::{Refusal, least_with};
+use crate::refusal::{Refusal, lowest_with};
 use crate::sequence::Sequence;
 use std::alloc::{AllocError, Global};
 
@@ -46,14 +46,14 @@ impl<T: Drop> Collected<T> {
     /// Adds the result of one more reading. If it ran out of memory, the error is passed on.
     pub fn add(&mut self, read: Result<T, Refusal>) -> Result<(), AllocError>
         ensures values { OnOk result (self.new.values ≡ self.old.values ++ option_to_list (result_ok read)) }
-        ensures refusal { OnOk result (self.new.refusal ≡ least_from self.old.refusal (option_to_list (result_err read))) }
+        ensures refusal { OnOk result (self.new.refusal ≡ lowest_from self.old.refusal (option_to_list (result_err read))) }
         ensures memory { OnOk result (read ≢ Err Refusal.OutOfMemory) }
     {
         match read {
             Ok(value) => self.values.push(value),
             Err(Refusal::OutOfMemory) => Err(AllocError),
             Err(other) => {
-                self.refusal = Some(least_with(self.refusal, other));
+                self.refusal = Some(lowest_with(self.refusal, other));
                 Ok(())
             }
         }

@@ -43,7 +43,7 @@ pub use hex::write_hex;
 pub use int::read_int;
 pub use number::write_number;
 pub use plain_fields::{is_special, plain_group};
-pub use refusal::{Refusal, least_with};
+pub use refusal::{Refusal, lowest_with};
 pub use sequence::Sequence;
 pub use slices::{front, tail};
 pub use text::{MOST_VALUE_BYTES, Text, Texts};

@@ -129,10 +129,10 @@ pub fn plain_group(text: &[u8], at: usize) -> Option<(&[u8], &[u8], &[u8])>
     ensures fields { IfSome result (λ read. fields_from at text.now ≡ read.0.now ∷ read.1.now ∷ read.2.now ∷ []) }
     ensures plain { IfSome result (λ _. list_any is_quote_or_line_end (drop at text.now) ≡ false) }
 {
-    let (first, behind_first) = plain_field(text, at)?;
-    let (second, behind_second) = plain_field(text, behind_first)?;
-    let (third, behind_third) = plain_field(text, behind_second)?;
-    if behind_third <= text.len() {
+    let (first, following_first) = plain_field(text, at)?;
+    let (second, after_second) = plain_field(text, following_first)?;
+    let (third, after_third) = plain_field(text, after_second)?;
+    if after_third <= text.len() {
         return None;
     }
     Some((first, second, third))

@@ -1,6 +1,6 @@
 //! Why a call is refused.
 ghost use Rattle.std.specs.Prelude.{◌≡◌, ◌∷◌, [], Some};
-ghost use Rattle.bt_value.specs.Refusals.{least_from};
+ghost use Rattle.bt_value.specs.Refusals.{lowest_from};
 
 use std::alloc::{AllocError, AllocFailed};
 
@@ -124,11 +124,11 @@ impl Refusal {
 }
 
 impl Refusal {
-    ghost use Rattle.bt_value.specs.Refusals.{is_lesser, lesser};
+    ghost use Rattle.bt_value.specs.Refusals.{is_lower, lower};
 
     // Whether this number is smaller than the other or, if the numbers are equal, this item.
     fn is_before(&self, other: &Refusal) -> bool
-        ensures { result ≡ is_lesser self.now other.now }
+        ensures { result ≡ is_lower self.now other.now }
     {
         let (number, other_number) = (self.number(), other.number());
         if number != other_number {
@@ -138,19 +138,19 @@ impl Refusal {
     }
 
     /// The refusal that is returned if both apply: the one with the smaller number or, of equal numbers, with the smaller item.
-    pub fn lesser(self, other: Refusal) -> Refusal
-        ensures { result ≡ lesser self other }
+    pub fn lower(self, other: Refusal) -> Refusal
+        ensures { result ≡ lower self other }
     {
         if other.is_before(&self) { other } else { self }
     }
 }
 
 /// The smaller of a refusal found before, if there was one, and one more.
-pub fn least_with(found: Option<Refusal>, refusal: Refusal) -> Refusal
-    ensures { least_from found (refusal ∷ []) ≡ Some result }
+pub fn lowest_with(found: Option<Refusal>, refusal: Refusal) -> Refusal
+    ensures { lowest_from found (refusal ∷ []) ≡ Some result }
 {
     match found {
-        Some(found) => found.lesser(refusal),
+        Some(found) => found.lower(refusal),
         None => refusal,
     }
 }

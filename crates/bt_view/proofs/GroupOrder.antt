@@ -16,12 +16,12 @@ use Rattle.bt_keycode.specs.Codes.{code_of, kind_of}
 use Rattle.bt_keycode.specs.Keys.{Key, is_before, key_cmp}
 use Rattle.bt_keycode.proofs.offered.Codes.{same_code}
 use Rattle.bt_keycode.proofs.offered.Order.{before_chain, is_less, neither_before, sides, total_keys}
-use Rattle.bt_node.specs.Messages.{Rows}
+use Rattle.bt_form.specs.Messages.{Rows}
 use Rattle.bt_view.specs.Groups.{groups_of, most_rows, number_in}
-use Rattle.bt_view.specs.inside.Neighbours.{Ascend, Groups, NoneBefore, group_of, grouped, groups_then}
-use Rattle.bt_view.specs.declared.groups.Sum.{Sum}
+use Rattle.bt_show.specs.inside.Neighbours.{Ascend, Groups, NoneBefore, group_of, grouped, groups_then}
+use Rattle.bt_show.specs.declared.groups.Sum.{Sum}
 use Rattle.bt_view.proofs.GroupRows.{added_to, and_row, groups_by_rows}
-use Rattle.bt_view.proofs.LastGroup.{last_then}
+use Rattle.bt_show.proofs.LastGroup.{last_then}
 
 -- a group at the end of a list
 abbrev listed : List Sum → Sum → List Sum
@@ -50,24 +50,24 @@ before-later j k [] later before = tt
 before-later j k (s ∷ sums) later before = (before_chain (code_of s.group) j k before.0 later, before-later j k sums later before.1)
 
 -- a key after another one
-behind : (j k : Key) → is_before j k ≡ true → key_cmp k j ≡ Greater
-behind j k before = total_keys.antisymm k j ∙ ap ordering_reverse (is_less (key_cmp j k) before)
+following : (j k : Key) → is_before j k ≡ true → key_cmp k j ≡ Greater
+following j k before = total_keys.antisymm k j ∙ ap ordering_reverse (is_less (key_cmp j k) before)
 
 find_none : (k : Key) (sums : List Sum) → AreBefore k sums → find key_cmp k (entries sums) ≡ None
 find_none k [] before = refl
-find_none k (s ∷ sums) before = ap (λ o. cond (is_eq o) (Some s) (find key_cmp k (entries sums))) (behind (code_of s.group) k before.0) ∙ find_none k sums before.1
+find_none k (s ∷ sums) before = ap (λ o. cond (is_eq o) (Some s) (find key_cmp k (entries sums))) (following (code_of s.group) k before.0) ∙ find_none k sums before.1
 
-put_behind : (k : Key) (new : Sum) (sums : List Sum) → AreBefore k sums → put key_cmp k new (entries sums) ≡ entries sums ++ (k, new) ∷ []
-put_behind k new [] before = refl
-put_behind k new (s ∷ sums) before =
+put_after : (k : Key) (new : Sum) (sums : List Sum) → AreBefore k sums → put key_cmp k new (entries sums) ≡ entries sums ++ (k, new) ∷ []
+put_after k new [] before = refl
+put_after k new (s ∷ sums) before =
     ap (λ o. by_order o ((k, new) ∷ (code_of s.group, s) ∷ entries sums) ((code_of s.group, new) ∷ entries sums)
-    ((code_of s.group, s) ∷ put key_cmp k new (entries sums))) (behind (code_of s.group) k before.0)
-    ∙ ap (λ es. (code_of s.group, s) ∷ es) (put_behind k new sums before.1)
+    ((code_of s.group, s) ∷ put key_cmp k new (entries sums))) (following (code_of s.group) k before.0)
+    ∙ ap (λ es. (code_of s.group, s) ∷ es) (put_after k new sums before.1)
 
 find_last : (s : Sum) (sums : List Sum) → AreBefore (code_of s.group) sums → find key_cmp (code_of s.group) (entries (listed sums s)) ≡ Some s
 find_last s [] before = ap (λ o. cond (is_eq o) (Some s) None) (tied_itself total_keys (code_of s.group))
 find_last s (t ∷ sums) before =
-    ap (λ o. cond (is_eq o) (Some t) (find key_cmp (code_of s.group) (entries (listed sums s)))) (behind (code_of t.group) (code_of s.group) before.0) ∙ find_last s sums before.1
+    ap (λ o. cond (is_eq o) (Some t) (find key_cmp (code_of s.group) (entries (listed sums s)))) (following (code_of t.group) (code_of s.group) before.0) ∙ find_last s sums before.1
 
 put_last : (s new : Sum) (sums : List Sum) → AreBefore (code_of s.group) sums → new.group ≡ s.group → put key_cmp (code_of s.group) new (entries (listed sums s)) ≡ entries (listed sums new)
 put_last s new [] before same =
@@ -77,7 +77,7 @@ put_last s new [] before same =
 put_last s new (t ∷ sums) before same =
     ap (λ o. by_order o ((code_of s.group, new) ∷ (code_of t.group, t) ∷ entries (listed sums s)) ((code_of t.group, new) ∷ entries (listed sums s))
     ((code_of t.group, t) ∷ put key_cmp (code_of s.group) new (entries (listed sums s))))
-    (behind (code_of t.group) (code_of s.group) before.0)
+    (following (code_of t.group) (code_of s.group) before.0)
     ∙ ap (λ es. (code_of t.group, t) ∷ es) (put_last s new sums before.1 same)
 
 -- ---- groups that come one after the other
@@ -152,7 +152,7 @@ module _ (columns place : ℕ) (kinds : List Kind) where
           let after = before-more key sums sum (before-later (code_of sum.group) key sums (apart is) before) (apart is) in
           ap (λ o. fold (and_row columns place) (added_to columns place (entries (listed sums sum)) row o) rows) (find_none key (listed sums sum) after)
           ∙ ap (λ es. fold (and_row columns place) (Some es) rows)
-          (put_behind key (group_of columns place row) (listed sums sum) after ∙ sym (entries-append (listed sums sum) (group_of columns place row ∷ [])))
+          (put_after key (group_of columns place row) (listed sums sum) after ∙ sym (entries-append (listed sums sum) (group_of columns place row ∷ [])))
           ∙ others (listed sums sum) (group_of columns place row) (ascend.0.of_kinds, ascend.0.in_range) after ascend.1
           ∙ ap (λ sums. option_map entries (fold (grouped columns place) (Some sums) rows)) (append_assoc sums (sum ∷ []) (group_of columns place row ∷ []))
           ∙ sym (ap (λ same. option_map entries (fold (grouped columns place) (option_map (λ groups. sums ++ groups) (last_with same)) rows)) is)

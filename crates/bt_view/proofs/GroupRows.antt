@@ -17,10 +17,10 @@ use Rattle.bt_value.specs.declared.value.Value.{Value}
 use Rattle.bt_keycode.specs.Codes.{code_of}
 use Rattle.bt_keycode.specs.Keys.{Key, key_cmp}
 use Rattle.bt_keycode.proofs.offered.Order.{same_key, total_keys}
-use Rattle.bt_node.specs.Messages.{Rows}
+use Rattle.bt_form.specs.Messages.{Rows}
 use Rattle.bt_view.specs.Groups.{first_values, groups_of, most_rows, number_in, rows_in_group, sum_of, total_of}
-use Rattle.bt_view.specs.inside.Neighbours.{group_of, with_more}
-use Rattle.bt_view.specs.declared.groups.Sum.{Sum}
+use Rattle.bt_show.specs.inside.Neighbours.{group_of, with_more}
+use Rattle.bt_show.specs.declared.groups.Sum.{Sum}
 
 -- whether two keys are equal
 abbrev is_key : Key → Key → Bool

@@ -8,8 +8,8 @@ use Rattle.bt_value.specs.Results.{or_refused, and_then, map_ok}
 use Rattle.bt_value.specs.declared.refusal.Refusal.TheVariants.{Building, OutOfMemory, TooMany}
 use Rattle.bt_row.specs.declared.schema.Column.{Column}
 use Rattle.bt_value.specs.declared.value.Value.{Value}
-use Rattle.bt_node.specs.Flushes.{holds}
-use Rattle.bt_node.specs.Messages.{Rows, between}
+use Rattle.bt_form.specs.Flushes.{holds}
+use Rattle.bt_form.specs.Messages.{Rows, between}
 use Rattle.bt_fanout.specs.Covers.{is_whole}
 use Rattle.bt_fanout.specs.Definitions.{kinds_of}
 use Rattle.bt_fanout.specs.Effects.{entry_effect}
@@ -19,13 +19,13 @@ use Rattle.bt_table.specs.Calls.{Secondary, ShowsIndex}
 use Rattle.bt_table.specs.Tables.{PlainTable}
 use Rattle.bt_table.specs.Indexes.{Index}
 use Rattle.bt_table.proofs.offered.KeyOrder.{keys_rise}
-use Rattle.bt_view.specs.inside.Entries.{index_kinds, rows_of_entries}
+use Rattle.bt_show.specs.inside.Entries.{index_kinds, rows_of_entries}
 use Rattle.bt_view.specs.Groups.{groups_of, summed_place, sums_of, sums_within}
-use Rattle.bt_view.specs.inside.Neighbours.{after_row}
+use Rattle.bt_show.specs.inside.Neighbours.{after_row}
 use Rattle.bt_view.specs.Ranges.{index_row, index_schema, page_of, range_as, rows_within, scan_with_keys_of, when_whole}
-use Rattle.bt_view.specs.declared.groups.Sum.{Sum}
-use Rattle.bt_view.specs.declared.range.KeyRange.{KeyRange}
-use Rattle.bt_view.proofs.EntryRows.{shown-between, shown-rows, shown-take}
+use Rattle.bt_show.specs.declared.groups.Sum.{Sum}
+use Rattle.bt_show.specs.declared.range.KeyRange.{KeyRange}
+use Rattle.bt_show.proofs.SelectedRows.{shown-between, shown-rows, shown-take}
 use Rattle.bt_view.proofs.IndexRows.{all_rise, all_shown, all_stand}
 use Rattle.bt_view.proofs.RowOrder.{ascend}
 use Rattle.bt_view.proofs.Summing.{of_rows}

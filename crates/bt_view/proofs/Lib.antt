@@ -1,15 +1,9 @@
-pub mod Drawings
-pub mod EntryRows
-pub mod Fronts
 pub mod GroupOrder
 pub mod GroupRows
-pub mod IndexColumns
 pub mod IndexRows
 pub mod IndexViews
-pub mod LastGroup
-pub mod NextPages
 pub mod offered
 pub mod RowOrder
+pub mod ShownRows
 pub mod Summing
-pub mod Totals
 pub mod WorkedRows

@@ -13,13 +13,13 @@ use Rattle.bt_keycode.specs.Keys.{Key, is_before, is_between}
 use Rattle.bt_keycode.proofs.offered.Codes.{codes_ordered}
 use Rattle.bt_keycode.proofs.offered.Order.{not_after, not_before_itself, same_key}
 use Rattle.bt_keycode.proofs.offered.Ranges.{take_in_range}
-use Rattle.bt_node.specs.Messages.{Rows, between}
+use Rattle.bt_form.specs.Messages.{Rows, between}
 use Rattle.bt_keycode.proofs.offered.Truths.{t_first, t_second}
 use Rattle.bt_table.specs.Standing.{AllStand, KeysRise, Stands}
 use Rattle.bt_table.proofs.offered.Kinds.{key_kinds}
-use Rattle.bt_view.specs.inside.Neighbours.{Ascend, IsOfKinds, NoneBefore}
+use Rattle.bt_show.specs.inside.Neighbours.{Ascend, IsOfKinds, NoneBefore}
 use Rattle.bt_view.specs.Ranges.{rows_within}
-use Rattle.bt_view.specs.declared.range.KeyRange.{KeyRange}
+use Rattle.bt_show.specs.declared.range.KeyRange.{KeyRange}
 
 -- ---- the order of first values
 

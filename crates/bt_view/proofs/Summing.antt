@@ -7,18 +7,18 @@ use Rattle.bt_value.specs.declared.refusal.Refusal.{Refusal}
 use Rattle.bt_value.specs.declared.refusal.Refusal.TheVariants.{TooMany}
 use Rattle.bt_value.specs.declared.value.Kind.{Kind}
 use Rattle.bt_value.specs.declared.value.Value.{Value}
-use Rattle.bt_node.specs.Flushes.{holds}
-use Rattle.bt_node.specs.Messages.{Rows, between}
-use Rattle.bt_node.specs.Trees.{Shape}
+use Rattle.bt_form.specs.Flushes.{holds}
+use Rattle.bt_form.specs.Messages.{Rows, between}
+use Rattle.bt_form.specs.Trees.{Shape}
 use Rattle.bt_fanout.specs.Effects.{row_effect}
 use Rattle.bt_table.specs.Calls.{Primary, ShowsRows, tree_named}
 use Rattle.bt_table.specs.Tables.{PlainTable, RowTree, TableState}
 use Rattle.bt_view.specs.Groups.{groups_of, summed_place, sums, sums_of, sums_within}
-use Rattle.bt_view.specs.inside.GroupParts.{columns_stay}
-use Rattle.bt_view.specs.inside.Neighbours.{Ascend, Groups, grouped, after_row}
+use Rattle.bt_show.specs.inside.GroupParts.{columns_stay}
+use Rattle.bt_show.specs.inside.Neighbours.{Ascend, Groups, grouped, after_row}
 use Rattle.bt_view.specs.Ranges.{range_as, rows_within}
-use Rattle.bt_view.specs.declared.groups.Sum.{Sum}
-use Rattle.bt_view.specs.declared.range.KeyRange.{KeyRange}
+use Rattle.bt_show.specs.declared.groups.Sum.{Sum}
+use Rattle.bt_show.specs.declared.range.KeyRange.{KeyRange}
 use Rattle.bt_view.proofs.GroupOrder.{by_neighbours}
 use Rattle.bt_view.proofs.RowOrder.{ascend}
 

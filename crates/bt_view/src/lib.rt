@@ -17,24 +17,12 @@
 //! `Usage` how much a tree holds, and `Images` its text.
 #![tactic(auto)]
 
-mod columns;
-mod drawing;
-mod entry_groups;
-mod entry_rows;
-mod groups;
 mod pages;
-mod range;
 mod range_sums;
 mod shown;
 mod shown_columns;
-mod tree_image;
-mod tree_usage;
 mod view;
-mod visitors;
 
-pub use groups::Sum;
-pub use range::KeyRange;
+pub use bt_show::{KeyRange, RecordText, RowList, Sum, TreeUsage};
 pub use shown_columns::{TreeColumns, tree_columns};
-pub use tree_usage::TreeUsage;
 pub use view::{check_scan, image, page, scan, scan_alone, sums, sums_alone, sums_between, usage};
-pub use visitors::{RecordText, RowList};

@@ -3,21 +3,19 @@ ghost use Rattle.std.specs.Prelude.{◌≡◌, IfErr, IfOk, IsErrOf, fold, take}
 ghost use Rattle.bt_value.specs.Answers.{Answers};
 ghost use Rattle.bt_value.specs.Results.{map_ok};
 ghost use Rattle.bt_fanout.specs.Effects.{entry_effect, row_effect};
-ghost use Rattle.bt_node.specs.Flushes.{holds};
-ghost use Rattle.bt_node.specs.Messages.{between};
+ghost use Rattle.bt_form.specs.Flushes.{holds};
+ghost use Rattle.bt_form.specs.Messages.{between};
 ghost use Rattle.bt_table.specs.Calls.{Secondary, ShowsIndex};
 ghost use Rattle.bt_table.specs.Indexes.{index_of_ref};
 ghost use Rattle.bt_table.specs.Tables.{PlainTable};
 ghost use Rattle.bt_view.specs.Ranges as spec;
-ghost use Rattle.bt_view.specs.inside.Entries.{rows_of_entries};
+ghost use Rattle.bt_show.specs.inside.Entries.{rows_of_entries};
 
-use crate::columns::index_kinds;
-use crate::entry_rows::EntryRows;
-use crate::range::KeyRange;
 use bt_fanout::Cover;
 use bt_messages::Entry;
 use bt_node::{Tree, Visitor};
 use bt_row::{Row, Schema};
+use bt_show::{EntryRows, KeyRange, index_kinds};
 use bt_table::IndexRef;
 use bt_value::{Kind, Refusal};
 use std::alloc::{AllocError, Global};

@@ -3,31 +3,30 @@ ghost use Rattle.std.specs.Prelude.{◌≡◌, ◌≢◌, ◌≤◌, IfErr, IfOk
 ghost use Rattle.std.specs.Option.{option_copied};
 ghost use Rattle.bt_value.specs.Answers.{Answers};
 ghost use Rattle.bt_fanout.specs.Effects.{entry_effect, row_effect};
-ghost use Rattle.bt_node.specs.Flushes.{holds};
-ghost use Rattle.bt_node.specs.Messages.{between};
+ghost use Rattle.bt_form.specs.Flushes.{holds};
+ghost use Rattle.bt_form.specs.Messages.{between};
 ghost use Rattle.bt_value.specs.Results.{and_then};
 ghost use Rattle.bt_table.specs.Calls.{Secondary, ShowsIndex, tree_named};
 ghost use Rattle.bt_table.specs.Indexes.{index_of_ref};
 ghost use Rattle.bt_table.specs.Tables.{PlainTable};
 ghost use Rattle.bt_view.specs.Groups as groups;
 ghost use Rattle.bt_view.specs.Ranges as spec;
-ghost use Rattle.bt_view.specs.inside.Entries.{index_kinds, rows_of_entries};
-ghost use Rattle.bt_view.specs.inside.Neighbours.{after_row};
+ghost use Rattle.bt_show.specs.inside.Entries.{index_kinds, rows_of_entries};
+ghost use Rattle.bt_show.specs.inside.Neighbours.{after_row};
 ghost use Rattle.bt_view.specs.inside.Shown.{AnswersRows, AnswersSums, rows_shown};
 
-use crate::columns::{find_index_column, index_columns, index_kinds, key_columns, key_count};
-use crate::entry_groups::EntryGroups;
-use crate::entry_rows::EntryRows;
-use crate::groups::{Grouping, summed_place};
-use crate::range::{KeyRange, read_range};
 use crate::range_sums::group_entries;
 use bt_fanout::{Cover, IndexDef};
 use bt_gang::{Crew, Gate};
-use bt_gather::read;
 use bt_messages::Entry;
 use bt_node::{ForkVisitor, Tree, Visitor};
+use bt_portions::read;
 use bt_record::RecordLine;
 use bt_row::{Row, Schema, find_column};
+use bt_show::{
+    EntryGroups, EntryRows, Grouping, KeyRange, find_index_column, index_columns, index_kinds,
+    key_columns, key_count, read_range, summed_place,
+};
 use bt_table::{IndexRef, Table, TreeRef};
 use bt_value::{Kind, Refusal, Text};
 use std::alloc::{AllocError, Global};

@@ -1,10 +1,11 @@
 //! The columns of the rows of a tree.
-ghost use Rattle.std.specs.Prelude.{◌≡◌, IfOk, take};
+ghost use Rattle.std.specs.Prelude.{◌≡◌, IfErr, IfOk, IsErrOf, take};
 ghost use Rattle.bt_value.specs.Answers.{Answers};
+ghost use Rattle.bt_table.specs.Calls.{tree_named};
 ghost use Rattle.bt_view.specs.Ranges as spec;
 
-use crate::columns::{add_all, index_columns, key_count};
 use bt_row::{Column, Columns, Schema};
+use bt_show::{add_all, index_columns, key_count};
 use bt_table::{Table, TreeRef};
 use bt_value::{Refusal, Text};
 use std::alloc::{AllocError, Global};
@@ -65,7 +66,8 @@ fn columns_of_rows(alloc: Global, schema: &Schema) -> Result<TreeColumns, AllocE
 
 /// The columns of the rows of the tree of this name. `Failed` and `NoSuchTree` come before anything is allocated.
 pub fn tree_columns(alloc: Global, table: &Table, name: &Text) -> Result<TreeColumns, Refusal>
-    ensures { Answers (spec.tree_columns table.now name.now) result }
+    ensures answer { Answers (spec.tree_columns table.now name.now) result }
+    ensures certain { IfErr (tree_named table.now name.now) (IsErrOf result) }
 {
     match table.tree(name)? {
         TreeRef::Rows { schema, .. } => Ok(columns_of_rows(alloc, schema)?),

@@ -4,7 +4,7 @@
 ghost use Rattle.std.specs.Prelude.{◌≡◌, ◌++◌, ◌∷◌, [], IfOk};
 ghost use Rattle.std.specs.List.{All};
 ghost use Rattle.bt_messages.specs.Effects.{rows_after};
-ghost use Rattle.bt_node.specs.Flushes.{holds};
+ghost use Rattle.bt_form.specs.Flushes.{holds};
 ghost use Rattle.bt_fanout.specs.Definitions.{kinds_of};
 ghost use Rattle.bt_fanout.specs.Effects.{SuitsEffect, row_effect};
 ghost use Rattle.bt_fanout.specs.Entries.{Definition, SuitsKinds};

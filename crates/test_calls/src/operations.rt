@@ -1,8 +1,8 @@
 //! The operations of upserts.
 use crate::samples::{fields, is_text, refusal_text, row_text, shops};
 use bt_rowtype::{
-    Change, Op, Ops, RecordLine, RecordReader, Refusal, Row, Schema, Upsert, Value, apply_ops,
-    check_ops, copy_change, copy_row, default_row, read_ops, read_upsert, write_record,
+    Change, Op, Ops, RecordLine, RecordReader, Refusal, Row, Value, apply_ops, check_ops,
+    copy_change, copy_row, read_ops, write_record, write_row,
 };
 use std::alloc::{AllocError, Global};
 use std::slice;
@@ -62,73 +62,48 @@ fn operations_are_read(rt: HostRuntime) {
     }
 }
 
-// The key and the operations of an upsert, or why there are none.
-fn upsert_text(alloc: Global, read: Result<Upsert, Refusal>) -> Result<Vec<u8>, AllocError> {
-    match read {
-        Ok(upsert) => {
-            let mut out = row_text(alloc, Ok(upsert.key))?;
-            out.extend_from_slice(b": ")?;
-            let ops = ops_text(alloc, upsert.ops.as_slice())?;
-            out.extend_from_slice(ops.as_slice())?;
-            Ok(out)
-        }
+// The change of the upsert in a line of the shops, the fourth message of a batch.
+fn change_of(alloc: Global, line: &str) -> Result<Change, Refusal> {
+    let schema = shops(alloc)?;
+    let mut reader = RecordReader::new(alloc);
+    match RecordLine::new(line.as_bytes()) {
+        Some(line) => reader.read_change(alloc, &schema, 4, &line),
+        None => Err(Refusal::BadLength(4)),
+    }
+}
+
+// The row to begin with and the operations of a change.
+fn change_text(alloc: Global, change: &Change) -> Result<Vec<u8>, AllocError> {
+    let mut out = Vec::new(alloc);
+    write_row(&mut out, change.base())?;
+    out.extend_from_slice(b": ")?;
+    let ops = change.ops(alloc)?;
+    let ops = ops_text(alloc, ops.as_slice())?;
+    out.extend_from_slice(ops.as_slice())?;
+    Ok(out)
+}
+
+// The change of the upsert in a line, or why there is none.
+fn change_of_line(alloc: Global, line: &str) -> Result<Vec<u8>, AllocError> {
+    match change_of(alloc, line) {
+        Ok(change) => change_text(alloc, &change),
         Err(refusal) => refusal_text(alloc, refusal),
     }
 }
 
-// The upsert of a line of the shops, the fourth message of a batch.
-fn upsert_of(alloc: Global, line: &str) -> Result<Vec<u8>, Refusal> {
-    let schema = shops(alloc)?;
-    let fields = fields(alloc, line)?;
-    Ok(upsert_text(alloc, read_upsert(alloc, &schema, 4, &fields))?)
-}
-
-// The same, read from the line by a reader.
-fn upsert_of_line(alloc: Global, line: &str) -> Result<Vec<u8>, Refusal> {
-    let schema = shops(alloc)?;
-    let mut reader = RecordReader::new(alloc);
-    match RecordLine::new(line.as_bytes()) {
-        Some(line) => Ok(upsert_text(alloc, reader.read_upsert(alloc, &schema, 4, &line))?),
-        None => Ok(Vec::new(alloc)),
-    }
-}
-
 #[test]
-fn upserts_are_read(rt: HostRuntime) {
+fn changes_are_read(rt: HostRuntime) {
     for (line, expected) in [
-        ("9,add,qty,-2", "9: add 1 -2|"),
+        ("9,add,qty,-2", "9,0,,false: add 1 -2|"),
+        ("9,set,city,Bonn", "9,0,,false: set 2 Bonn|"),
+        (
+            "9,set,city,Bonn,max,qty,7",
+            "9,0,,false: set 2 Bonn|max 1 7|",
+        ),
         ("x,add,nope,1", "BadField 4"),
     ] {
-        assert!(rt; is_text(upsert_of(rt.alloc(), line), expected));
-        assert!(rt; is_text(upsert_of_line(rt.alloc(), line), expected));
+        assert!(rt; is_text(change_of_line(rt.alloc(), line), expected));
     }
-}
-
-// The change of an upsert for the row of its key, which does not exist.
-fn change(alloc: Global, schema: &Schema, upsert: Upsert) -> Result<Change, AllocError> {
-    let Upsert { key, ops } = upsert;
-    match default_row(alloc, schema, key) {
-        Ok(base) => Change::new(alloc, base, ops),
-        Err(error) => {
-            drop(ops);
-            Err(error)
-        }
-    }
-}
-
-// The change of the upsert in a line of these columns.
-fn change_in(alloc: Global, schema: &Schema, line: &str) -> Result<Change, Refusal> {
-    let fields = fields(alloc, line)?;
-    let upsert = read_upsert(alloc, schema, 1, &fields)?;
-    Ok(change(alloc, schema, upsert)?)
-}
-
-// The change of the upsert in a line of the shops.
-fn change_of(alloc: Global, line: &str) -> Result<Change, Refusal> {
-    let schema = shops(alloc)?;
-    let change = change_in(alloc, &schema, line);
-    drop(schema);
-    change
 }
 
 // The row that a change gives to a key without a row.
@@ -171,24 +146,10 @@ fn copied(alloc: Global, line: &str) -> Result<Change, Refusal> {
     Ok(copy?)
 }
 
-// An upsert of the row that a change creates, with its operations.
-fn upsert_like(alloc: Global, change: &Change) -> Result<Upsert, AllocError> {
-    let key = copy_row(alloc, change.base())?;
-    match change.ops(alloc) {
-        Ok(ops) => Ok(Upsert { key, ops }),
-        Err(error) => {
-            drop(key);
-            Err(error)
-        }
-    }
-}
-
-// The base and the operations of such a copy.
+// The row to begin with and the operations of such a copy.
 fn copy_of(alloc: Global, line: &str) -> Result<Vec<u8>, Refusal> {
     let copy = copied(alloc, line)?;
-    let upsert = upsert_like(alloc, &copy);
-    drop(copy);
-    Ok(upsert_text(alloc, Ok(upsert?))?)
+    Ok(change_text(alloc, &copy)?)
 }
 
 #[test]
@@ -203,38 +164,6 @@ fn changes_are_copied(rt: HostRuntime) {
             "9,0,,false: add 1 -2|set 2 a text of more than 22 bytes|"
         )
     );
-}
-
-// The default row and the operations of the upsert of a line, read at once by a reader, or why there are none.
-fn change_of_line(alloc: Global, line: &str) -> Result<Vec<u8>, Refusal> {
-    let schema = shops(alloc)?;
-    let mut reader = RecordReader::new(alloc);
-    let Some(line) = RecordLine::new(line.as_bytes()) else {
-        return Ok(Vec::new(alloc));
-    };
-    match reader.read_change(alloc, &schema, 4, &line) {
-        Ok(change) => {
-            let upsert = upsert_like(alloc, &change);
-            drop(change);
-            Ok(upsert_text(alloc, Ok(upsert?))?)
-        }
-        Err(refusal) => Ok(refusal_text(alloc, refusal)?),
-    }
-}
-
-#[test]
-fn changes_are_read(rt: HostRuntime) {
-    for (line, expected) in [
-        ("9,add,qty,-2", "9,0,,false: add 1 -2|"),
-        ("9,set,city,Bonn", "9,0,,false: set 2 Bonn|"),
-        (
-            "9,set,city,Bonn,max,qty,7",
-            "9,0,,false: set 2 Bonn|max 1 7|",
-        ),
-        ("x,add,nope,1", "BadField 4"),
-    ] {
-        assert!(rt; is_text(change_of_line(rt.alloc(), line), expected));
-    }
 }
 
 // The result of checking an addition to a column.

@@ -2,8 +2,8 @@
 use bt_keycode::Key;
 use bt_messages::{Buffer, Entry, Merge, Message, Messages, Packet};
 use bt_rowtype::{
-    Change, Column, Columns, Fields, Kind, MOST_VALUE_BYTES, Op, Ops, Refusal, Row, Schema, Text,
-    ValueRef, read_record, write_row,
+    Change, Column, Columns, Fields, Kind, MOST_VALUE_BYTES, Op, Ops, RecordLine, Refusal, Row,
+    Schema, Text, ValueRef, write_row,
 };
 use std::alloc::{AllocError, Global};
 
@@ -40,8 +40,8 @@ pub(crate) fn shops(alloc: Global) -> Result<Schema, Refusal> {
 
 /// The fields of a line, and none if the line is not a record.
 pub(crate) fn fields(alloc: Global, line: &str) -> Result<Fields, AllocError> {
-    match read_record(alloc, line.as_bytes())? {
-        Some(fields) => Ok(fields),
+    match RecordLine::new(line.as_bytes()) {
+        Some(line) => line.fields(alloc),
         None => Ok(Fields::new(alloc)),
     }
 }

@@ -1,7 +1,7 @@
 //! Fields, records and rows.
 use crate::samples::{fields, is_text, refusal_text, row_text, shops, short_text};
 use bt_rowtype::{
-    Kind, Refusal, Row, Value, clone_all, copy_row, read_field, read_key, read_record, read_row,
+    Kind, RecordLine, Refusal, Row, Value, clone_all, copy_row, read_field, read_key, read_row,
     write_record,
 };
 use std::alloc::{AllocError, Global};
@@ -115,7 +115,8 @@ fn rows_of_other_schemas(rt: HostRuntime) {
 // The fields of a line between bars, or nothing if it is not a record.
 fn record_text(alloc: Global, line: &[u8]) -> Result<Vec<u8>, AllocError> {
     let mut out = Vec::new(alloc);
-    if let Some(fields) = read_record(alloc, line)? {
+    if let Some(line) = RecordLine::new(line) {
+        let fields = line.fields(alloc)?;
         for place in 0..fields.len() {
             out.extend_from_slice(b"|")?;
             out.extend_from_slice(fields.get(place))?;

@@ -1,5 +1,5 @@
 -- The results of the jobs of a cut are at their places, in any order in which the jobs are run.
-use Rattle.std.proofs.Common.{◌≡◌, ℕ, append-nil, append_assoc, T, Bool, true, false, List, [], ◌∷◌, ◌++◌, map, reverse, inl, inr, refl, ap, subst, sym, ◌∙◌}
+use Rattle.std.proofs.Common.{◌≡◌, ℕ, append_assoc, T, Bool, true, false, List, [], ◌∷◌, ◌++◌, map, reverse, inl, inr, refl, ap, subst, sym, ◌∙◌}
 use Rattle.std.proofs.lemmas.Bool.{and_parts, cond-false, cond-true}
 use Rattle.std.proofs.lemmas.List.{map-append, reverse-append}
 use Rattle.std.proofs.lemmas.List.Elements.{All-from_recursion}
@@ -13,10 +13,10 @@ use Rattle.std.specs.declared.cmp.Ordering.TheVariants.{Less, Equal}
 use Rattle.std.specs.declared.option.Option.TheVariants.{None, Some}
 use Rattle.bt_keycode.proofs.offered.Order.{is_less}
 use Rattle.bt_messages.specs.declared.message.Message.{Message}
-use Rattle.bt_node.specs.Fits.{IsInOrder, IsRoomy}
-use Rattle.bt_node.specs.Messages.{Meaning, Messages}
-use Rattle.bt_node.specs.Trees.{Shape, Siblings, Tree}
-use Rattle.bt_node.specs.declared.form.mode.Mode.{Mode}
+use Rattle.bt_form.specs.Fits.{IsInOrder, IsRoomy}
+use Rattle.bt_form.specs.Messages.{Meaning, Messages}
+use Rattle.bt_form.specs.Trees.{Shape, Siblings, Tree}
+use Rattle.bt_form.specs.declared.mode.Mode.{Mode}
 use Rattle.bt_keycode.proofs.offered.Order.{is_equal}
 use Rattle.bt_keycode.proofs.offered.Truths.{t_true, true_t}
 use Rattle.bt_plan.proofs.offered.Cuts.{Answers, jobs-in_order}
@@ -187,9 +187,6 @@ module _ {V D : Type 0} (meaning : Meaning V (Message V D)) (shape : Shape) wher
         subst (λ left. AreRunBefore meaning shape jobs coming (pieces_of items) left)
         (sym (ap (map node_place) grew ∙ map-append node_place places (place ∷ []) ∙ ap (λ p. map node_place places ++ p ∷ []) is))
         (u.0 ++ job ∷ [], u.1 ∙ sym (append_assoc u.0 (job ∷ []) coming), left-next u.0 job (pieces_of items) (map node_place places) u.2)
-
-  pub run-all : (jobs : List (code.Job V D)) (pieces : Pieces V (Message V D)) (left : List Place) → AreRunBefore meaning shape jobs [] pieces left → AreRun meaning shape jobs pieces left
-  run-all jobs pieces left u = subst (λ js. AreRun meaning shape js pieces left) (sym (u.1 ∙ append-nil u.0)) u.2
 
   -- if there is no piece at the places that are left
   pub run-odd : (jobs : List (code.Job V D)) (pieces : Pieces V (Message V D)) (left : List Place) → AreRun meaning shape jobs pieces left

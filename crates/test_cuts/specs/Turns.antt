@@ -3,9 +3,9 @@ use Rattle.std.specs.Prelude.{◌≡◌, ◌⊎◌, List, [], ◌∷◌, ◌++�
 use Rattle.std.specs.FinMap.{find}
 use Rattle.std.specs.List.{AllByRecursion as Each}
 use Rattle.bt_messages.specs.declared.message.Message.{Message}
-use Rattle.bt_node.specs.Fits.{IsInOrder}
-use Rattle.bt_node.specs.Messages.{Meaning}
-use Rattle.bt_node.specs.Trees.{Shape, Siblings}
+use Rattle.bt_form.specs.Fits.{IsInOrder}
+use Rattle.bt_form.specs.Messages.{Meaning}
+use Rattle.bt_form.specs.Trees.{Shape, Siblings}
 use Rattle.bt_plan.specs.Cuts.{outcome}
 use Rattle.bt_plan.specs.Pieces.{Pieces, Place, node_place_cmp}
 use Rattle.bt_plan.specs.Views.{job_of, node_place}

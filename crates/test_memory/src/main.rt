@@ -57,9 +57,9 @@ fn run_by<R: Print + AllocGlobal + Threads + Wait + Sync>(
 
 fn run<R: Env + Files + Print + AllocGlobal + Threads + Wait + Sync>(rt: &R) -> Result<()> {
     let script = fs::read(rt, "script").context("reading the script")?;
-    let mut words = env::args(rt).context("reading the words")?;
-    let _program = words.next();
-    for word in words {
+    let mut arguments = env::args(rt).context("reading the arguments")?;
+    let _program = arguments.next();
+    for word in arguments {
         match word.as_str() {
             "1" => run_by(rt, script.as_slice(), 1)?,
             "2" => run_by(rt, script.as_slice(), 2)?,

@@ -9,19 +9,19 @@ use std::sync::Wait;
 use std::test::Fail;
 use std::thread::Threads;
 
-// The program's name and the words of a line.
-fn words_of(alloc: Global, line: &str) -> Result<Texts, AllocError> {
-    let mut words = Texts::new(alloc);
-    words.push("betable")?;
+// The program's name and the arguments of a line.
+fn arguments_of(alloc: Global, line: &str) -> Result<Texts, AllocError> {
+    let mut arguments = Texts::new(alloc);
+    arguments.push("betable")?;
     for word in line.split_whitespace() {
-        words.push(word)?;
+        arguments.push(word)?;
     }
-    Ok(words)
+    Ok(arguments)
 }
 
 // The settings of a command line: its script, workers, cut and grain, or `faulty`, or `help` if the text names the options.
 fn said(alloc: Global, line: &str) -> Result<String, AllocError> {
-    match read_words(alloc, &words_of(alloc, line)?) {
+    match read_words(alloc, &arguments_of(alloc, line)?) {
         Ok(
             Words {
                 script,
@@ -103,7 +103,7 @@ fn command_lines(rt: HostRuntime) -> Result<(), Fail> {
 // The status of the program, followed by what it writes to its errors and the start of what it writes to its output. The input contains `run`.
 fn answer<R: Files + AllocGlobal + Threads + Wait + Sync>(
     rt: &R,
-    words: &Texts,
+    arguments: &Texts,
     calls: u32,
     room: usize,
 ) -> Result<String, AllocError> {
@@ -119,7 +119,7 @@ fn answer<R: Files + AllocGlobal + Threads + Wait + Sync>(
     });
     let mut lines = Vec::new(alloc);
     let mut errors = Counted::new(&mut lines);
-    let status = program(rt, words, &mut input, &mut output, &mut errors);
+    let status = program(rt, arguments, &mut input, &mut output, &mut errors);
     let start = &taken[..taken.len().min(16)];
     lines.extend_from_slice(start)?;
     let text = String::from_utf8_lossy(alloc, lines.as_slice())?;
@@ -136,8 +136,8 @@ fn statuses(rt: HostRuntime) -> Result<(), Fail> {
         ("--help", 0, 4096, "0 Runs a script of"),
         ("--help", 0, 5, "1 betable: write failed\nRuns "),
     ] {
-        let words = words_of(rt.alloc(), line)?;
-        let text = answer(&rt, &words, calls, room)?;
+        let arguments = arguments_of(rt.alloc(), line)?;
+        let text = answer(&rt, &arguments, calls, room)?;
         assert_eq!(rt; text.as_str(), expected);
     }
     Ok(())
@@ -152,9 +152,9 @@ fn scripts_in_files(rt: HostRuntime) -> Result<(), Fail> {
         (" script", "0 table 1\n"),
         ("missing", "1 betable: read failed\n"),
     ] {
-        let mut words = words_of(rt.alloc(), "--script")?;
-        words.push(file)?;
-        let text = answer(&rt, &words, 9, 4096)?;
+        let mut arguments = arguments_of(rt.alloc(), "--script")?;
+        arguments.push(file)?;
+        let text = answer(&rt, &arguments, 9, 4096)?;
         assert_eq!(rt; text.as_str(), expected);
     }
     fs::remove_file(&rt, "script")?;

@@ -235,7 +235,7 @@ fn each_read_fails(rt: HostRuntime) -> Result<(), Fail> {
     for calls in 0..408u32 {
         assert!(rt;
             fails_to_read(&rt, script.as_slice(), calls),
-            "behind {calls}"
+            "following {calls}"
         );
     }
     // The last call of a successful run finds that nothing is left.
@@ -261,7 +261,7 @@ fn each_write_fails(rt: HostRuntime) -> Result<(), Fail> {
     for room in 0..1249usize {
         assert!(rt;
             fails_to_write(&rt, script.as_slice(), replies.as_slice(), room),
-            "behind {room}"
+            "following {room}"
         );
     }
     let (result, text, counts) = run_over(&rt, script.as_slice(), 408, 1249);

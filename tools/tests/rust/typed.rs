@@ -352,7 +352,11 @@ fn check_pages() -> Result<(), Fault> {
 }
 
 fn refused(number: u32, name: &str, item: Option<u64>) -> Fault {
-    Fault::Refused { refusal: Refusal { number, name: name.to_string(), item }, column: None }
+    refused_at(number, name, item, None)
+}
+
+fn refused_at(number: u32, name: &str, item: Option<u64>, column: Option<u64>) -> Fault {
+    Fault::Refused { refusal: Refusal { number, name: name.to_string(), item }, column }
 }
 
 fn wrong_kind(item: u64, column: u64, name: &str, wanted: Kind, found: Kind) -> Fault {
@@ -411,7 +415,7 @@ fn wrong_changes() -> Vec<(Call, Fault)> {
         (|it| upsert(it, &[Op::Max("ok", 1)]), wrong_kind(1, 4, "ok", Kind::Flag, Kind::Int)),
         (|it| upsert(it, &[Op::Set("hash", Value::Bytes(&[0; 256]))]), too_long(1, 5, "hash", 256)),
         (|it| upsert(it, &[Op::Min("id ", 1)]), Fault::NoSuchColumn { item: 1, name: "id ".to_string() }),
-        (|it| upsert(it, &[Op::Add("id", 1)]), refused(15, "NoSuchColumn", Some(1))),
+        (|it| upsert(it, &[Op::Add("id", 1)]), refused_at(15, "NoSuchColumn", Some(1), Some(1))),
         (|it| upsert(it, &[]), refused(7, "BadLength", Some(1))),
         (|it| upsert(it, &[Op::Add("qty", 1); 17]), refused(7, "BadLength", Some(1))),
         (|it| upsert(it, &[Op::Add("qty", 1); 257]), refused(7, "BadLength", Some(1))),

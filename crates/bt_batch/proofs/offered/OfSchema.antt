@@ -3,7 +3,7 @@ use Rattle.std.proofs.Common.{ℕ, suc, arith, ◌+◌, ◌≡◌, ◌∙◌, �
 use Rattle.std.proofs.Common.{ap, length, nat_le, take, ◌&&◌, Option, Some, None, IfOk, Result, Ok, Err, if◌then◌else◌}
 use Rattle.std.specs.List.{cons_option, filter_map}
 use Rattle.std.specs.Result.{result_err, result_ok}
-use Rattle.bt_value.specs.Refusals.{least}
+use Rattle.bt_value.specs.Refusals.{lowest}
 use Rattle.bt_value.specs.Results.{map_ok, unless}
 use Rattle.bt_value.specs.Values.{AreInRange, fits_kind}
 use Rattle.bt_value.specs.declared.refusal.Refusal.{Refusal}
@@ -33,9 +33,6 @@ use Rattle.bt_batch.proofs.Batches.{none_at_all}
 
 pub put_of_schema : (schema : Schema) (row : List Value) → fit_columns schema.columns row ≡ true → AreInRange row → IsOfSchema schema (put_of schema.keys row)
 put_of_schema schema row fits range = λ old stands. record { placed = refl; fits = fits; in_range = range }
-
-pub del_of_schema : (schema : Schema) (key : List Value) → IsOfSchema schema (del_of key)
-del_of_schema schema key = λ old stands. tt
 
 -- a row of a key after operations of the schema
 changed : (schema : Schema) (key row : List Value) (ops : List Op) → OpsFit schema ops → OpsInRange ops → Stands schema (code_of key) row
@@ -137,7 +134,7 @@ length-read schema item (line ∷ lines) none = by_read (read_message schema ite
     by_read (Err refusal) others here = absurd cc
 
 -- a batch that is not refused has a message for each of its records
-pub length-batch : (schema : Schema) (items : List Item) → least (batch_refusals schema items) ≡ None → length (messages_of schema items) ≡ length items
+pub length-batch : (schema : Schema) (items : List Item) → lowest (batch_refusals schema items) ≡ None → length (messages_of schema items) ≡ length items
 length-batch schema items none =
     length-read schema 1 items (no_first (filter_map result_err (read_batch schema 1 items)) _ (none_at_all (batch_refusals schema items) none))
 
@@ -182,9 +179,9 @@ faultless schema item (op ∷ ops) none = by_fault (fault_of schema item op) (fa
 
 -- operations that are not refused fit
 pub checked_ops_fit : (schema : Schema) (item : ℕ) (ops : List Op) → checked_ops schema item ops ≡ Ok tt → OpsFit schema ops
-checked_ops_fit schema item ops is = by_count (nat_le 1 (length ops) && nat_le (length ops) most_ops) (least (filter_map (fault_of schema item) ops)) refl is
+checked_ops_fit schema item ops is = by_count (nat_le 1 (length ops) && nat_le (length ops) most_ops) (lowest (filter_map (fault_of schema item) ops)) refl is
   where
-    by_count : (few : Bool) (fault : Option Refusal) → least (filter_map (fault_of schema item) ops) ≡ fault
+    by_count : (few : Bool) (fault : Option Refusal) → lowest (filter_map (fault_of schema item) ops) ≡ fault
         → ◌≡◌ {A = Result (Unit {0}) Refusal} (if few then unless fault tt else Err (BadLength item)) (Ok tt) → OpsFit schema ops
     by_count true None none here = faultless schema item ops (none_at_all (filter_map (fault_of schema item) ops) none)
     by_count true (Some fault) none here = absurd cc

@@ -6,7 +6,7 @@ use Rattle.std.proofs.lemmas.List.{length-drop}
 use Rattle.std.specs.Cmp.Lexicographic.{as_long}
 use Rattle.std.specs.List.{cons_option, filter_map}
 use Rattle.std.specs.Result.{result_err, result_ok}
-use Rattle.bt_value.specs.Refusals.{least}
+use Rattle.bt_value.specs.Refusals.{lowest}
 use Rattle.bt_value.specs.Results.{all_read, and_then, both_read, map_ok, unless}
 use Rattle.bt_value.specs.Values.{fits_kind}
 use Rattle.bt_value.specs.declared.refusal.Refusal.{Refusal}
@@ -91,9 +91,9 @@ op_count : (schema : Schema) (item : ℕ) (fields : List (List ℕ)) (ops : List
 op_count schema item fields ops long is =
     let rest = drop schema.keys fields in
     let reads = ops_of schema item rest in
-    let none = none_at_all (filter_map result_err reads) (unrefused (least (filter_map result_err reads)) (filter_map result_ok reads) ops is) in
+    let none = none_at_all (filter_map result_err reads) (unrefused (lowest (filter_map result_err reads)) (filter_map result_ok reads) ops is) in
     let count : length ops ≡ length reads =
-    sym (ap length (unless_ok (least (filter_map result_err reads)) (filter_map result_ok reads) ops is)) ∙ each_read reads none in
+    sym (ap length (unless_ok (lowest (filter_map result_err reads)) (filter_map result_ok reads) ops is)) ∙ each_read reads none in
     let groups = group_count schema item rest in
     let few = groups.0 in
     let many = groups.1 in
@@ -127,8 +127,8 @@ upsert_ops schema item fields key ops is = by_length (is_upsert schema.keys (len
 ops_pass : (schema : Schema) (item : ℕ) (ops : List Op) → (nat_le 1 (length ops) && nat_le (length ops) most_ops) ≡ true → OpsFit schema ops
     → checked_ops schema item ops ≡ Ok tt
 ops_pass schema item ops count fit =
-    ap (λ b. if b then unless (least (filter_map (fault_of schema item) ops)) tt else Err (BadLength item)) count
-    ∙ ap (λ faults. unless (least faults) tt) (no_faults schema item ops fit)
+    ap (λ b. if b then unless (lowest (filter_map (fault_of schema item) ops)) tt else Err (BadLength item)) count
+    ∙ ap (λ faults. unless (lowest faults) tt) (no_faults schema item ops fit)
 
 pub ups_as_values : (schema : Schema) (item : ℕ) (fields : List (List ℕ)) → read_message schema item (Ups fields)
     ≡ and_then (λ (upsert : List Value × List Op). checked_ups schema item upsert.0 upsert.1) (upsert_as schema item fields)

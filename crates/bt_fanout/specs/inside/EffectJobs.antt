@@ -2,8 +2,8 @@
 use Rattle.std.specs.Prelude.{ℕ, suc, ◌+◌, ◌≡◌, List, [], ◌∷◌, Option, drop, length, map}
 use Rattle.bt_value.specs.declared.value.Value.{Value}
 use Rattle.bt_messages.specs.Messages.{Messages}
-use Rattle.bt_node.specs.Parts.{AreRising}
-use Rattle.bt_node.specs.Portions.{value_in}
+use Rattle.bt_form.specs.Parts.{AreRising}
+use Rattle.bt_form.specs.Portions.{value_in}
 use Rattle.bt_fanout.specs.Effects.{RowMessage, row_effect}
 use Rattle.bt_fanout.specs.declared.effect.Effect.{Effect}
 use Rattle.bt_fanout.specs.declared.effect_jobs.EffectJob.{EffectJob}

@@ -11,9 +11,9 @@ use Rattle.bt_fanout.specs.declared.cover.Cover.{Cover}
 use Rattle.bt_fanout.specs.declared.effect.Effect.{Effect}
 
 -- the messages after the first ones, as far as these are to one key
-abbrev pub behind_group : {M : Type 0} → Key → Messages M → Messages M
-behind_group k [] = []
-behind_group k (m ∷ ms) = if eq_by_cmp key_cmp k m.0 then behind_group k ms else m ∷ ms
+abbrev pub after_group : {M : Type 0} → Key → Messages M → Messages M
+after_group k [] = []
+after_group k (m ∷ ms) = if eq_by_cmp key_cmp k m.0 then after_group k ms else m ∷ ms
 
 -- how many those first messages are
 abbrev pub group_count : {M : Type 0} → Key → Messages M → ℕ

@@ -5,9 +5,9 @@ use Rattle.std.specs.FinMap.{is_sorted}
 use Rattle.std.specs.FinMap.Entries.{below_all}
 use Rattle.std.specs.List.{All}
 use Rattle.std.specs.Ordering.{is_lt}
-use Rattle.bt_node.specs.Fits.{IsRoomy}
-use Rattle.bt_node.specs.Messages.{Meaning}
-use Rattle.bt_node.specs.Trees.{Shape}
+use Rattle.bt_form.specs.Fits.{IsRoomy}
+use Rattle.bt_form.specs.Messages.{Meaning}
+use Rattle.bt_form.specs.Trees.{Shape}
 use Rattle.bt_plan.specs.Cuts.{Job, Pieced, hole_of}
 use Rattle.bt_plan.specs.Laws.{PlacesRise, StandInHoles}
 use Rattle.bt_plan.specs.Pieces.{Holed, HoledNodes, Pieces, Place, child, childless, hole, holes, holes_below, node_place_cmp, opened, whole, with_holes, with_holes_below}

@@ -2,9 +2,9 @@
 use Rattle.std.specs.Prelude.{List, map}
 use Rattle.std.specs.List.{All}
 use Rattle.bt_messages.specs.declared.message.Message.{Message}
-use Rattle.bt_node.specs.Fits.{IsInOrder}
-use Rattle.bt_node.specs.Messages.{Meaning}
-use Rattle.bt_node.specs.Trees.{Shape, Siblings}
+use Rattle.bt_form.specs.Fits.{IsInOrder}
+use Rattle.bt_form.specs.Messages.{Meaning}
+use Rattle.bt_form.specs.Trees.{Shape, Siblings}
 use Rattle.bt_plan.specs.declared.job.Job as code_job
 use Rattle.bt_plan.specs.declared.job.Place as code_place
 use Rattle.bt_plan.specs.Cuts.{outcome}

@@ -4,9 +4,9 @@ use Rattle.std.specs.Global.{Global}
 use Rattle.std.specs.declared.option.Option.TheVariants.{None}
 use Rattle.bt_keycode.specs.Keys.{Key}
 use Rattle.bt_messages.specs.declared.message.Message.{Message}
-use Rattle.bt_node.specs.Flushes.{crown}
-use Rattle.bt_node.specs.Messages.{Meaning}
-use Rattle.bt_node.specs.Trees.{Shape, Siblings, Tree}
+use Rattle.bt_form.specs.Flushes.{crown}
+use Rattle.bt_form.specs.Messages.{Meaning}
+use Rattle.bt_form.specs.Trees.{Shape, Siblings, Tree}
 use Rattle.bt_plan.specs.declared.job.Place as code_place
 use Rattle.bt_plan.specs.Pieces.{Holed, Pieces, Place, filled}
 use Rattle.bt_gather.specs.declared.flush_work.ShapedJob.{ShapedJob}

@@ -111,10 +111,6 @@ module _ {X : Type 0} where
   all_within-from k [] h = tt
   all_within-from k (x ∷ xs) h = (record { from = h.0; below = refl }, all_within-from k xs h.1)
 
-  pub all_from-within : (k : Key) (xs : List (Key × X)) → AllWithin (Some k) None xs → AllFrom k xs
-  all_from-within k [] h = tt
-  all_from-within k (x ∷ xs) h = (h.0.from, all_from-within k xs h.1)
-
   -- keys at or after one key are at or after an earlier key
   pub from_earlier : (a b : Key) (xs : List (Key × X)) → is_before b a ≡ false → AllFrom b xs → AllFrom a xs
   from_earlier a b [] p h = tt

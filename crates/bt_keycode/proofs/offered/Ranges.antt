@@ -14,7 +14,7 @@ use Rattle.bt_row.specs.Ops.{making_of, making_of_kind, number_op_of, op_of, ope
 use Rattle.bt_value.specs.Results.{all_read, both_read, unless, or_refused}
 use Rattle.bt_value.specs.Values.{AreInRange, IsInRange, default_of, value_of}
 use Rattle.bt_row.specs.Schemas.{read_as, values_of, with_first, Schema}
-use Rattle.bt_value.specs.Refusals.{least}
+use Rattle.bt_value.specs.Refusals.{lowest}
 use Rattle.bt_row.specs.declared.op.Arithmetic.{Arithmetic}
 use Rattle.bt_row.specs.declared.op.Op.{Op}
 use Rattle.bt_row.specs.declared.op.Op.TheVariants.{Set}
@@ -129,7 +129,7 @@ upsert_in_range schema item fields = by_length (is_upsert schema.keys (length fi
     ops_by : (long : Bool) → IfOk (if long then all_read (ops_of schema item (drop schema.keys fields)) else Err (BadLength item)) OpsInRange
     ops_by true =
         let read = ops_of schema item (drop schema.keys fields) in
-        unless_holds (least (filter_map result_err read)) (filter_map result_ok read) OpsInRange (groups_in_range schema item (drop schema.keys fields))
+        unless_holds (lowest (filter_map result_err read)) (filter_map result_ok read) OpsInRange (groups_in_range schema item (drop schema.keys fields))
     ops_by false = tt
 
     by_length : (long : Bool) → IfOk (if long then both_read (key_as schema item fields) (ops_as schema item fields) else Err (BadLength item)) (λ upsert. AreInRange upsert.0 × OpsInRange upsert.1)

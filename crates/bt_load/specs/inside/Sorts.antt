@@ -51,6 +51,6 @@ IsFirstRepeat placed most found = MatchOption found ((n : ℕ) → n < most → 
     (λ place. ((n : ℕ) × Repeats placed n × ((at placed n).place ≡ place)) × ((n : ℕ) → n < most → Repeats placed n → place ≤ (at placed n).place))
 
 -- the smaller of a place that was found, if one was, and another place
-abbrev pub lesser_of : Option ℕ → ℕ → ℕ
-lesser_of None place = place
-lesser_of (Some found) place = min found place
+abbrev pub lower_of : Option ℕ → ℕ → ℕ
+lower_of None place = place
+lower_of (Some found) place = min found place

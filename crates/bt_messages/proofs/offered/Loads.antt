@@ -1,8 +1,7 @@
 -- The load of messages that are put together or divided, for any weights and either measure.
-use Rattle.std.proofs.Common.{◌≡◌, ℕ, ◌<◌, ◌≤◌, ◌+◌, ◌*◌, true, false, if◌then◌else◌, List, [], ◌∷◌, ◌++◌, drop, length, map, refl, arith}
+use Rattle.std.proofs.Common.{◌≡◌, ℕ, ◌<◌, ◌≤◌, ◌+◌, ◌*◌, true, false, if◌then◌else◌, List, [], ◌∷◌, ◌++◌, drop, length, refl, arith}
 use Rattle.std.proofs.lemmas.List.{length-append, length-drop}
 use Rattle.bt_keycode.specs.Keys.{Key, is_before}
-use Rattle.bt_value.specs.Lists.{concatenation}
 use Rattle.bt_messages.specs.Messages.{Messages, with_message, with_messages}
 use Rattle.bt_messages.specs.Parts.{total}
 use Rattle.bt_messages.specs.Shares.{AreShares, counts}
@@ -33,11 +32,6 @@ module _ {X : Type 0} (weigh : X → ℕ) where
 
   pub load-more : (measure : Measure) (x : X) (xs : List X) → load weigh measure (x ∷ xs) ≡ load weigh measure (x ∷ []) + load weigh measure xs
   load-more measure x xs = load-append measure (x ∷ []) xs
-
-  -- bins one after the other
-  pub load-concatenation : (measure : Measure) (bs : List (List X)) → load weigh measure (concatenation bs) ≡ total (map (load weigh measure) bs)
-  load-concatenation measure [] = load-none measure
-  load-concatenation measure (b ∷ bs) = omega (arith, load-append measure b (concatenation bs), load-concatenation measure bs)
 
   -- shares of messages are no more than the messages
   pub shares-within : (ms : List X) (ss : List Share) → AreShares weigh ms ss → total (counts ss) ≤ length ms

@@ -1,12 +1,12 @@
 -- Messages divided at pivots, and bins that lie between them.
-use Rattle.std.proofs.Common.{◌≡◌, ℕ, Bool, true, false, not, cond, List, [], ◌∷◌, ◌++◌, ◌+◌, zero, suc, set, length, map, arith, refl, sym, ap, subst, ◌∙◌, if◌then◌else◌}
+use Rattle.std.proofs.Common.{◌≡◌, ℕ, Bool, true, false, not, cond, List, [], ◌∷◌, ◌++◌, ◌+◌, suc, length, map, arith, refl, sym, ap, subst, ◌∙◌, if◌then◌else◌}
 use Rattle.std.proofs.lemmas.List.{length-append}
 use Rattle.std.specs.List.{filter}
 use Rattle.bt_keycode.specs.Keys.{AllFrom, IsSorted, is_before}
 use Rattle.bt_messages.specs.Messages.{Messages, messages_before, messages_from, with_message, with_messages}
 use Rattle.bt_keycode.proofs.offered.Order.{before_later, from_earlier, not_after, not_before_itself}
 use Rattle.bt_messages.proofs.offered.Placed.{sorted-with_messages}
-use Rattle.bt_messages.proofs.Cuts.{behind, filter_sorted}
+use Rattle.bt_messages.proofs.Cuts.{following, filter_sorted}
 use Rattle.bt_value.specs.Lists.{concatenation}
 use Rattle.bt_messages.specs.Bins.{AllBefore, LieBetween, added, each_with, parts}
 use Rattle.bt_messages.specs.Parts.{total}
@@ -82,7 +82,7 @@ module _ {M : Type 0} where
       append-none (x ∷ xs) = ap (λ ys. x ∷ ys) (append-none xs)
   concatenation-parts (k ∷ ks) b h =
       ap (λ zs. messages_before k b ++ zs) (concatenation-parts ks (messages_from k b) (filter_sorted (λ (m : List ℕ × M). not (is_before m.0 k)) b h))
-      ∙ behind k [] b tt h
+      ∙ following k [] b tt h
 
   -- ---- bins between pivots
 
@@ -185,24 +185,6 @@ module _ {M : Type 0} where
   from_both : (k : List ℕ) (b c d : Messages M) → AllFrom k (b ++ c) → AllFrom k d → AllFrom k (b ++ d)
   from_both k [] c d h f = f
   from_both k (m ∷ ms) c d h f = (h.0, from_both k ms c d h.1 f)
-
-  emptied_from : (k : List ℕ) (bs : List (Messages M)) (i : ℕ) → AllFrom k (concatenation bs) → AllFrom k (concatenation (set bs i []))
-  emptied_from k [] i h = tt
-  emptied_from k (b ∷ bs) zero h = from_right k b (concatenation bs) h
-  emptied_from k (b ∷ bs) (suc i) h = from_both k b (concatenation bs) (concatenation (set bs i [])) h (emptied_from k bs i (from_right k b (concatenation bs) h))
-
-  -- a bin may be emptied
-  pub emptied_lie : (ks : List (List ℕ)) (bs : List (Messages M)) (i : ℕ) → LieBetween ks bs → LieBetween ks (set bs i [])
-  emptied_lie ks [] i h = absurd h
-  emptied_lie [] (b ∷ []) zero h = tt
-  emptied_lie [] (b ∷ []) (suc i) h = h
-  emptied_lie [] (b ∷ c ∷ bs) i h = absurd h
-  emptied_lie (k ∷ ks) (b ∷ bs) zero h = (tt, tt, h.2, h.3)
-  emptied_lie (k ∷ ks) (b ∷ bs) (suc i) h = (h.0, h.1, emptied_from k bs i h.2, emptied_lie ks bs i h.3)
-
-  -- an empty bin may become two, with a pivot between them, if nothing after it is before that pivot
-  pub spread_lie : (k : List ℕ) (ks : List (List ℕ)) (bs : List (Messages M)) → AllFrom k (concatenation bs) → LieBetween ks ([] ∷ bs) → LieBetween (k ∷ ks) ([] ∷ [] ∷ bs)
-  spread_lie k ks bs f h = (tt, tt, f, h)
 
   -- ---- the number of messages
 

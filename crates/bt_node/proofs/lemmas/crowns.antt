@@ -1,4 +1,3 @@
 -- One node above siblings.
 pub mod CrownedRows
-pub mod Levels
 pub mod ShapedTrees

@@ -8,7 +8,7 @@ use Rattle.bt_messages.specs.declared.measure.Measure.TheVariants as measures
 use Rattle.bt_messages.specs.declared.message.Message.{Message}
 use Rattle.bt_messages.specs.declared.message.Message.TheVariants.{Put, Del, Ups}
 use Rattle.bt_keycode.specs.Keys.{Key}
-use Rattle.bt_node.specs.Trees.{Shape, Tree, leaf, inner, Nodes, none, node}
+use Rattle.bt_form.specs.Trees.{Shape, Tree, leaf, inner, Nodes, none, node}
 
 -- an upsert adds to the value, or to none
 abbrev pub merged : Option ℤ → ℤ → ℤ

@@ -1,18 +1,18 @@
 -- Trees that fit a shape with room: they stay so after a packet, and their rows are in rising order.
 use Rattle.std.proofs.Common.{◌≡◌, ◌∙◌, ◌≤◌, T, refl, subst, length, None, ℕ}
 use Rattle.std.specs.FinMap.{is_sorted}
-use Rattle.bt_node.specs.Fits.{AreFit, HasShape, IsInOrder, IsSized, SiblingsFit}
-use Rattle.bt_node.specs.Flushes.{absorb, holds, sunk}
+use Rattle.bt_form.specs.Fits.{AreFit, HasShape, IsInOrder, IsSized, SiblingsFit}
+use Rattle.bt_form.specs.Flushes.{absorb, holds, sunk}
 use Rattle.bt_keycode.specs.Keys.{Key, key_cmp}
-use Rattle.bt_node.specs.Messages.{Meaning, Messages, load, rows_after}
-use Rattle.bt_node.specs.Laws.{FitThere}
-use Rattle.bt_node.specs.Trees.{Shape, Tree, Siblings, inner, nodes}
-use Rattle.bt_node.specs.declared.form.mode.Mode.TheVariants.{Absorb}
+use Rattle.bt_form.specs.Messages.{Meaning, Messages, load, rows_after}
+use Rattle.bt_flush.specs.Laws.{FitThere}
+use Rattle.bt_form.specs.Trees.{Shape, Tree, Siblings, inner, nodes}
+use Rattle.bt_form.specs.declared.mode.Mode.TheVariants.{Absorb}
 use Rattle.bt_node.proofs.lemmas.crowns.CrownedRows.{crown-fits, crown-holds}
-use Rattle.bt_node.proofs.lemmas.flushes.Groups.{children-nodes}
-use Rattle.bt_node.proofs.lemmas.flushes.Laws.{anywhere, fit_there, hold_rows_after}
-use Rattle.bt_node.proofs.lemmas.flushes.RowsKept.{holds-lie}
-use Rattle.bt_node.proofs.lemmas.rows.RowsAfter.{rows-sorted}
+use Rattle.bt_form.proofs.lemmas.flushes.Groups.{children-nodes}
+use Rattle.bt_flush.proofs.lemmas.flushes.Laws.{anywhere, fit_there, hold_rows_after}
+use Rattle.bt_form.proofs.lemmas.flushes.RowsKept.{holds-lie}
+use Rattle.bt_form.proofs.lemmas.rows.RowsAfter.{rows-sorted}
 
 module _ {V M : Type 0} (weigh : Key × M → ℕ) (shape : Shape) (t : Tree V M) (has : HasShape weigh shape t) where
   -- its keys are in order

@@ -6,18 +6,17 @@ use Rattle.std.specs.List.{All, AllByRecursion as Each}
 use Rattle.std.specs.declared.option.Option.{Option}
 use Rattle.std.specs.declared.option.Option.TheVariants.{None, Some}
 use Rattle.bt_keycode.specs.Keys.{Key}
-use Rattle.bt_node.specs.Fits.{HasShape, IsInOrder, IsRoomy, SiblingsFit}
-use Rattle.bt_node.specs.Flushes.{flush_in}
-use Rattle.bt_node.specs.Messages.{Meaning, Messages}
-use Rattle.bt_node.specs.Trees.{Shape, Siblings, Tree}
-use Rattle.bt_node.specs.declared.form.mode.Mode.{Mode}
+use Rattle.bt_form.specs.Fits.{HasShape, IsInOrder, IsRoomy, SiblingsFit}
+use Rattle.bt_form.specs.Messages.{Meaning, Messages}
+use Rattle.bt_form.specs.Trees.{Shape, Siblings, Tree}
+use Rattle.bt_form.specs.declared.mode.Mode.{Mode}
 use Rattle.bt_node.proofs.offered.FlushSteps.{anywhere, fit_there}
-use Rattle.bt_plan.specs.Cuts.{Job, Pieced, cut, cut_out, hole_of, outcome, outcomes, root_place}
+use Rattle.bt_plan.specs.Cuts.{Job, Pieced, cut, cut_out, hole_of, outcome, root_place}
 use Rattle.bt_plan.specs.Laws.{FillsUp, JobFits, PlacesRise, StandInHoles}
 use Rattle.bt_plan.specs.Pieces.{FitsHole, HoledFits, Pieces, filled, holes, node_place_cmp}
 use Rattle.bt_plan.proofs.Filling.{cut-filled}
 use Rattle.bt_plan.proofs.Fits.{cut-fits}
-use Rattle.bt_plan.proofs.Found.{all-stand, filled-standing}
+use Rattle.bt_plan.proofs.Found.{filled-standing}
 use Rattle.bt_plan.proofs.Holes.{Somewhere, each-asked, with_holes-fits}
 use Rattle.bt_plan.proofs.Places.{cut-rises}
 -- children side by side, with their pending messages
@@ -52,11 +51,6 @@ module _ {V M : Type 0} (meaning : Meaning V M) (number : ℕ) (shape : Shape) (
       filled-standing meaning shape pieces (cut_out meaning.weigh depth mode shape (root_place number) root packet) all
       ∙ cut-filled meaning shape (omega (arith, has.roomy.leaf)) (omega (arith, has.roomy.fanout)) mode depth has.levels (root_place number) None None root packet
       has.fits.lies has.fits.sized (anywhere packet)
-
-  -- running each job and filling the holes gives the result for the tree
-  pub cut-outcome : filled shape (cut meaning.weigh number shape root packet depth mode).holed
-      (outcomes meaning shape (cut meaning.weigh number shape root packet depth mode).jobs) ≡ flush_in meaning mode shape root packet
-  cut-outcome = cut-fills_up _ (all-stand meaning shape _ cut-places_rise)
 
 -- any piece at the place of a job is its result
 abbrev pub Answers : {V M : Type 0} → Meaning V M → Shape → Pieces V M → Job V M → Type 0

@@ -6,8 +6,8 @@ use Rattle.bt_messages.specs.Parts.{parted}
 use Rattle.bt_messages.specs.Shares.{counts}
 use Rattle.bt_messages.specs.declared.message.Message.{Message}
 use Rattle.bt_messages.specs.declared.share.Share.{Share}
-use Rattle.bt_node.specs.Messages.{Messages}
-use Rattle.bt_node.specs.Trees.{Tree}
+use Rattle.bt_form.specs.Messages.{Messages}
+use Rattle.bt_form.specs.Trees.{Tree}
 use Rattle.bt_plan.specs.Cuts.{Job, cut_out}
 use Rattle.bt_plan.specs.Pieces.{Holed}
 use Rattle.bt_plan.specs.Views.{node_place}

@@ -1,10 +1,10 @@
 -- The children of an opened node, cut one by one.
 use Rattle.std.specs.Prelude.{ℕ, ◌+◌, Bool, cond, List, [], ◌∷◌}
 use Rattle.bt_keycode.specs.Keys.{Key}
-use Rattle.bt_node.specs.Fits.{IsSized}
-use Rattle.bt_node.specs.Messages.{Messages, with_messages}
-use Rattle.bt_node.specs.Trees.{Shape, Tree}
-use Rattle.bt_node.specs.declared.form.mode.Mode.{Mode}
+use Rattle.bt_form.specs.Fits.{IsSized}
+use Rattle.bt_form.specs.Messages.{Messages, with_messages}
+use Rattle.bt_form.specs.Trees.{Shape, Tree}
+use Rattle.bt_form.specs.declared.mode.Mode.{Mode}
 use Rattle.bt_plan.specs.Cuts.{Job, child_place, cut_out}
 use Rattle.bt_plan.specs.Pieces.{Holed, Place, whole}
 

@@ -6,9 +6,9 @@ use Rattle.std.specs.declared.option.Option.TheVariants.{None, Some}
 use Rattle.std.proofs.Common.{ap, ◌∙◌, inl, inr}
 use Rattle.bt_keycode.specs.Keys.{Key}
 use Rattle.bt_messages.specs.declared.message.Message.{Message}
-use Rattle.bt_node.specs.Messages.{Messages}
-use Rattle.bt_node.specs.Trees.{Shape, Tree}
-use Rattle.bt_node.specs.Stored.{message_code, shape_code, tree_code}
+use Rattle.bt_form.specs.Messages.{Messages}
+use Rattle.bt_form.specs.Trees.{Shape, Tree}
+use Rattle.bt_form.specs.Stored.{message_code, shape_code, tree_code}
 use Rattle.bt_plan.specs.Pieces.{Holed, HoledNodes, Place, whole, hole, opened, childless, child}
 
 -- a node of a tree in pieces with its pivot, given by the tree that stays, by what a hole says or by what is left of a buffer, or nothing: the end of nodes

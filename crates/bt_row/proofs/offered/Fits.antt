@@ -6,7 +6,7 @@ use Rattle.std.specs.Result.{result_err, result_ok}
 use Rattle.bt_row.specs.Ops.{after_op, after_ops, default_row, key_as, ops_as, ops_of, is_upsert, upsert_as}
 use Rattle.bt_value.specs.Results.{all_read, both_read, or_refused}
 use Rattle.bt_row.specs.Fits.{OpsFit}
-use Rattle.bt_value.specs.Refusals.{least}
+use Rattle.bt_value.specs.Refusals.{lowest}
 use Rattle.bt_row.specs.Schemas.{Schema, fit_columns, read_as, values_of}
 use Rattle.bt_value.specs.Values.{fits_kind, default_of, value_of}
 use Rattle.bt_row.specs.declared.op.Op.{Op}
@@ -54,7 +54,7 @@ ops_fit schema item fields ops is = by_length (is_upsert schema.keys (length fie
     by_length false is = absurd cc
     by_length true is =
         let read = ops_of schema item (drop schema.keys fields) in
-        subst (OpsFit schema) (unless_ok (least (filter_map result_err read)) (filter_map result_ok read) ops is) (groups_fit schema item (drop schema.keys fields))
+        subst (OpsFit schema) (unless_ok (lowest (filter_map result_err read)) (filter_map result_ok read) ops is) (groups_fit schema item (drop schema.keys fields))
 
 -- the key and the operations of an upsert
 pub upsert_fits : (schema : Schema) (item : ℕ) (fields : List (List ℕ)) (key : List Value) (ops : List Op) → upsert_as schema item fields ≡ Ok (key, ops)
@@ -89,17 +89,17 @@ pub default_row_fits : (schema : Schema) (key : List Value) → fit_columns (tak
 default_row_fits schema key fit = joined_fit schema.keys schema.columns key (map (λ c. default_of c.kind) (drop schema.keys schema.columns)) fit (defaults_fit (drop schema.keys schema.columns))
 
 -- it begins with the key
-defaults_behind : (n : ℕ) (columns : List Column) (key : List Value) → fit_columns (take n columns) key ≡ true → take n (key ++ map (λ c. default_of c.kind) (drop n columns)) ≡ key
-defaults_behind zero columns [] fit = refl
-defaults_behind zero columns (v ∷ key) fit = absurd cc
-defaults_behind (suc n) [] [] fit = refl
-defaults_behind (suc n) [] (v ∷ key) fit = absurd cc
-defaults_behind (suc n) (c ∷ columns) [] fit = absurd cc
-defaults_behind (suc n) (c ∷ columns) (v ∷ key) fit =
-    ap (λ (l : List Value). v ∷ l) (defaults_behind n columns key (second_true (fits_kind c.kind v) (fit_columns (take n columns) key) fit))
+defaults_after : (n : ℕ) (columns : List Column) (key : List Value) → fit_columns (take n columns) key ≡ true → take n (key ++ map (λ c. default_of c.kind) (drop n columns)) ≡ key
+defaults_after zero columns [] fit = refl
+defaults_after zero columns (v ∷ key) fit = absurd cc
+defaults_after (suc n) [] [] fit = refl
+defaults_after (suc n) [] (v ∷ key) fit = absurd cc
+defaults_after (suc n) (c ∷ columns) [] fit = absurd cc
+defaults_after (suc n) (c ∷ columns) (v ∷ key) fit =
+    ap (λ (l : List Value). v ∷ l) (defaults_after n columns key (second_true (fits_kind c.kind v) (fit_columns (take n columns) key) fit))
 
 pub default_row_key : (schema : Schema) (key : List Value) → fit_columns (take schema.keys schema.columns) key ≡ true → take schema.keys (default_row schema key) ≡ key
-default_row_key schema key fit = defaults_behind schema.keys schema.columns key fit
+default_row_key schema key fit = defaults_after schema.keys schema.columns key fit
 
 -- the first row of the key that the record of an upsert encodes begins with the key
 pub upsert_begins : (schema : Schema) (item : ℕ) (fields : List (List ℕ)) (key : List Value) (ops : List Op) → upsert_as schema item fields ≡ Ok (key, ops)

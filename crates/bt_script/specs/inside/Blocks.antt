@@ -1,6 +1,6 @@
 -- The results of the parts of the parser, in terms of the commands.
 use Rattle.std.specs.Prelude.{ℕ, ◌<◌, ◌≡◌, ◌&&◌, Bool, true, false, List, [], ◌∷◌, ◌++◌, Option, Some, None, if◌then◌else◌, codes, drop, is_none, is_some, option_map}
-use Rattle.bt_script.specs.Commands.{Answer, Finds, Inside, NextPast, behind_prefix, bounds_between, closing_of, command_of, commands}
+use Rattle.bt_script.specs.Commands.{Answer, Finds, Inside, NextPast, after_prefix, bounds_between, closing_of, command_of, commands}
 use Rattle.bt_script.specs.Commands.{commands_from, if_some, item_from, lower_bound, opened, or_syntax, unfinished, upper_bound}
 use Rattle.bt_script.specs.Lines.{is_blank, lines, without_spaces, words}
 use Rattle.bt_script.specs.declared.blocks.BlockEnd.{BlockEnd}
@@ -23,7 +23,7 @@ and_line items line = if is_blank line then items else with_last items (item_fro
 -- bounds and the bound of one more line: the lower one comes first, and each occurs once
 abbrev pub with_bound : Bounds → List ℕ → Option Bounds
 with_bound bounds line =
-    if is_some (behind_prefix (codes "from ") line)
+    if is_some (after_prefix (codes "from ") line)
     then (if is_none bounds.from && is_none bounds.to then option_map (λ from. bounds_between (Some from) None) (lower_bound line) else None)
     else (if is_none bounds.to then option_map (λ to. bounds_between bounds.from (Some to)) (upper_bound line) else None)
 
@@ -60,5 +60,5 @@ abbrev pub FindsHeaded : Parsed → List ℕ → List ℕ → ℕ → Type 0
 FindsHeaded parsed script head at = Finds parsed script (headed head (lines (drop at script)))
 
 -- the next place is after each place before this one, and in the script or at its end
-abbrev pub NextBehind : Parsed → List ℕ → ℕ → Type 0
-NextBehind parsed script at = (before : ℕ) → before < at → NextPast parsed before script
+abbrev pub NextFollowing : Parsed → List ℕ → ℕ → Type 0
+NextFollowing parsed script at = (before : ℕ) → before < at → NextPast parsed before script

@@ -4,7 +4,7 @@ use Rattle.std.proofs.lemmas.Bool.{cases_Bool}
 use Rattle.std.specs.List.{onto_first}
 use Rattle.bt_script.specs.Commands.{Answer, Outside, Place, commands, commands_from, line_step}
 use Rattle.bt_script.specs.Lines.{lines}
-use Rattle.bt_shell.specs.Runs.{AreOneRun, EndsBetweenCommands, after_commands, ends_with_line, place_behind, replies}
+use Rattle.bt_shell.specs.Runs.{AreOneRun, EndsBetweenCommands, after_commands, ends_with_line, place_following, replies}
 use Rattle.bt_shell.specs.Steps.{State}
 use Rattle.bt_shell.proofs.Turns.{after_commands-append, replies-append}
 
@@ -27,15 +27,15 @@ lines-append : (first second : List ℕ) → ends_with_line first ≡ true → l
 lines-append [] second ends = refl
 lines-append (b ∷ []) second ends = let feed : (b == 10) ≡ true = ends in rw feed refl
 lines-append (b ∷ c ∷ more) second ends =
-    let behind = lines-append (c ∷ more) second ends in
+    let following = lines-append (c ∷ more) second ends in
     let some = first_line c more in
     elim (cases_Bool (b == 10)) [
-      | inl feed ↦ rw feed (ap (λ (ls : List (List ℕ)). [] ∷ ls) behind)
-      | inr other ↦ rw other (ap (onto_first b) behind ∙ onto_first-append b (lines (c ∷ more)) (lines second) some.0 some.1.0 some.1.1)
+      | inl feed ↦ rw feed (ap (λ (ls : List (List ℕ)). [] ∷ ls) following)
+      | inr other ↦ rw other (ap (onto_first b) following ∙ onto_first-append b (lines (c ∷ more)) (lines second) some.0 some.1.0 some.1.1)
     ]
 
-commands_from-append : (place : Place) (done more : List (List ℕ)) → place_behind place done ≡ Outside → commands_from place (done ++ more) ≡ commands_from place done ++ commands_from Outside more
-unfolding commands_from place_behind
+commands_from-append : (place : Place) (done more : List (List ℕ)) → place_following place done ≡ Outside → commands_from place (done ++ more) ≡ commands_from place done ++ commands_from Outside more
+unfolding commands_from place_following
 commands_from-append place [] more out = let outside : place ≡ Outside = out in rw outside refl
 commands_from-append place (line ∷ done) more out =
     ap (λ (answers : List Answer). (line_step place line).1 ++ answers) (commands_from-append (line_step place line).0 done more out)

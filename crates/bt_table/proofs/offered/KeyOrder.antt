@@ -9,7 +9,7 @@ use Rattle.bt_value.specs.declared.value.Value.{Value}
 use Rattle.bt_keycode.specs.Codes.{HaveSameKinds, code_of}
 use Rattle.bt_keycode.proofs.offered.Codes.{codes_ordered}
 use Rattle.bt_keycode.specs.Keys.{Key, key_cmp}
-use Rattle.bt_node.specs.Messages.{Rows}
+use Rattle.bt_form.specs.Messages.{Rows}
 use Rattle.bt_keycode.proofs.offered.Truths.{t_both, t_first, t_second}
 use Rattle.bt_keycode.proofs.offered.Ranges.{take_in_range}
 use Rattle.bt_table.specs.Standing.{AllStand, KeysRise, Stands}

@@ -1,9 +1,9 @@
 -- A call leaves a sound table sound, and a complete index of a sound table holds what it selects.
-use Rattle.std.proofs.Common.{ℕ, ◌≡◌, ◌≤◌, true, false, refl, length, arith, List, [], ◌∷◌, Option, Some, None, option_map, subst, if◌then◌else◌, IfOk, Result, Ok, Err}
+use Rattle.std.proofs.Common.{ℕ, ◌≡◌, ◌≤◌, true, false, refl, length, arith, List, [], ◌∷◌, Option, Some, None, option_map, if◌then◌else◌, IfOk, Result, Ok, Err}
 use Rattle.std.specs.FinMap.{find}
 use Rattle.std.specs.List.{All, list_all}
 use Rattle.std.proofs.lemmas.Bool.Decides.{nat_tests}
-use Rattle.bt_value.specs.Refusals.{least}
+use Rattle.bt_value.specs.Refusals.{lowest}
 use Rattle.bt_row.specs.Schemas.{Schema}
 use Rattle.bt_value.specs.declared.refusal.Refusal.{Refusal}
 use Rattle.bt_value.specs.declared.refusal.Refusal.TheVariants.{AlreadyComplete, NoSuchTree}
@@ -11,21 +11,21 @@ use Rattle.bt_value.specs.declared.value.Value.{Value}
 use Rattle.bt_value.specs.Results.{or_refused, unless, and_then, map_ok}
 use Rattle.bt_keycode.specs.Codes.{code_of}
 use Rattle.bt_keycode.specs.Keys.{key_cmp}
-use Rattle.bt_node.specs.Fits.{IsRoomy}
-use Rattle.bt_node.specs.Messages.{Rows}
-use Rattle.bt_node.specs.Shapes.{is_shape}
-use Rattle.bt_node.specs.Trees.{Shape}
+use Rattle.bt_form.specs.Fits.{IsRoomy}
+use Rattle.bt_form.specs.Messages.{Rows}
+use Rattle.bt_form.specs.Shapes.{is_shape}
+use Rattle.bt_form.specs.Trees.{Shape}
 use Rattle.bt_load.specs.Loads.{text_rows}
 use Rattle.bt_load.specs.Maps.{map_of}
 use Rattle.bt_load.proofs.offered.Loaded.{map_of-sorted, text_rows-of}
 use Rattle.bt_keycode.specs.Standing.{AreOf}
 use Rattle.bt_table.proofs.Loads.{map_of-stand}
-use Rattle.bt_batch.specs.Batches.{RowMessages, batch_refusals, messages_of, read_key}
+use Rattle.bt_batch.specs.Batches.{batch_refusals, messages_of, read_key}
 use Rattle.bt_table.specs.Calls.{after_build, after_load, built, Call, Apply, ApplyMessages, BuildStep, CreateIndex, Drain, DropIndex, Get, GetAt, Load}
 use Rattle.bt_table.specs.Calls.{Rebuild, Upkeep, Draining, Rebuilding, dropped, is_bare, is_primary, load_refusals, name_refusals}
 use Rattle.bt_table.specs.Calls.{sent_counts, step, unless_any, with_index, with_renewed, with_renewed_index, with_renewed_rows}
 use Rattle.bt_table.specs.Indexes.{Index, index_named, is_complete}
-use Rattle.bt_table.specs.Standing.{AreOfSchema, AreSoundIndexes, CompleteIndexesHold, HasSchema, HoldsSelection, IsSound, IsSoundTable}
+use Rattle.bt_table.specs.Standing.{AreSoundIndexes, CompleteIndexesHold, HoldsSelection, IsSound, IsSoundTable}
 use Rattle.bt_table.specs.Standing.{IsSoundUnlessLost, SuitMessages, Suits}
 use Rattle.bt_table.specs.Tables.{PlainTable, TableState, Intact, Lost, after_batch, empty_table}
 use Rattle.bt_table.specs.declared.reply.Reply.{Reply}
@@ -67,7 +67,7 @@ map_keeps_sound table rows (Err refusal) is fit complete sound = tt
 map_keeps_sound table rows (Ok map) is fit complete sound =
     with_rows-sound table map (map_of-stand table.schema rows map fit is) (map_of-sorted table.schema.keys rows map is) complete sound
 
-allowed_keeps_sound : (table : PlainTable) (rows : List (List Value)) (refusal : Option Refusal) → least (load_refusals table.indexes table.tree) ≡ refusal → AreOf table.schema.columns rows
+allowed_keeps_sound : (table : PlainTable) (rows : List (List Value)) (refusal : Option Refusal) → lowest (load_refusals table.indexes table.tree) ≡ refusal → AreOf table.schema.columns rows
     → IsSoundTable table → IfOk (map_ok (after_load table) (and_then (map_of table.schema.keys) (unless refusal rows))) (λ (after : TableState × Reply). IsSound after.0)
 allowed_keeps_sound table rows (Some refusal) is fit sound = tt
 allowed_keeps_sound table rows None is fit sound =
@@ -77,7 +77,7 @@ load_keeps_sound : (table : PlainTable) (text : List ℕ) (read : Result (List (
     → IfOk (map_ok (after_load table) (and_then (map_of table.schema.keys) (and_then (unless_any (load_refusals table.indexes table.tree)) read))) (λ (after : TableState × Reply). IsSound after.0)
 load_keeps_sound table text (Err refusal) is sound = tt
 load_keeps_sound table text (Ok rows) is sound =
-    allowed_keeps_sound table rows (least (load_refusals table.indexes table.tree)) refl (text_rows-of table.schema.columns text rows is) sound
+    allowed_keeps_sound table rows (lowest (load_refusals table.indexes table.tree)) refl (text_rows-of table.schema.columns text rows is) sound
 
 renewed_keeps_sound : (upkeep : Upkeep) (table : PlainTable) (name : List ℕ) (reply : Reply) → IsSoundTable table
     → IfOk (map_ok (λ after. (Intact after, reply)) (with_renewed upkeep table name)) (λ (after : TableState × Reply). IsSound after.0)
@@ -118,7 +118,7 @@ IsOfSchema state (Rebuild name) = Unit {0}
 pub step_keeps_sound : (state : TableState) (call : Call) → IsOfSchema state call → IsSound state → IfOk (step state call) (λ (after : TableState × Reply). IsSound after.0)
 step_keeps_sound Lost call fits sound = absurd sound
 step_keeps_sound (Intact table) (CreateIndex name def) fits sound =
-    when_allowed (least (name_refusals table name)) (with_index table name def) (Created name) (with_index-sound table name def fits sound)
+    when_allowed (lowest (name_refusals table name)) (with_index table name def) (Created name) (with_index-sound table name def fits sound)
 step_keeps_sound (Intact table) (BuildStep name count) fits sound = built_keeps_sound table name count (index_named name table.indexes) refl sound
 step_keeps_sound (Intact table) (DropIndex name) fits sound = when_found (index_named name table.indexes) table name sound
 step_keeps_sound (Intact table) (Load text) fits sound = load_keeps_sound table text (text_rows table.schema.columns text) refl sound
@@ -126,7 +126,7 @@ step_keeps_sound (Intact table) (Drain name) fits sound = renewed_keeps_sound Dr
 step_keeps_sound (Intact table) (Rebuild name) fits sound = renewed_keeps_sound Rebuilding table name (Rebuilt name) sound
 step_keeps_sound (Intact table) (Apply items) fits sound =
     let messages = messages_of table.schema items in
-    when_allowed (least (batch_refusals table.schema items)) (after_batch table messages) (Batch (length items) (sent_counts table messages))
+    when_allowed (lowest (batch_refusals table.schema items)) (after_batch table messages) (Batch (length items) (sent_counts table messages))
     (batch_keeps_sound table messages (batch_of_schema table.schema items) sound)
 step_keeps_sound (Intact table) (ApplyMessages messages) fits sound = batch_keeps_sound table messages fits sound
 step_keeps_sound (Intact table) (GetAt key) fits sound = sound
@@ -151,9 +151,3 @@ unless_lost_hold Lost sound = tt
 pub sound_hold : (state : TableState) → IsSound state → CompleteIndexesHold state
 sound_hold (Intact table) sound = complete_indexes_hold table sound
 sound_hold Lost sound = absurd sound
-
--- messages of a schema suit the table that has it
-pub messages_suit : (state : TableState) (schema : Schema) (messages : RowMessages) → HasSchema state schema
-    → AreOfSchema schema messages → SuitMessages state messages
-messages_suit (Intact table) schema messages has fit = subst (λ (s : Schema). AreOfSchema s messages) has fit
-messages_suit Lost schema messages has fit = tt

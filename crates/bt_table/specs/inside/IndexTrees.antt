@@ -4,9 +4,9 @@ use Rattle.std.specs.Prelude.{ℕ, Bool, List, [], ◌∷◌, length}
 use Rattle.bt_value.specs.declared.value.Value.{Value}
 use Rattle.bt_messages.specs.Effects.{Rows}
 use Rattle.bt_messages.specs.Messages.{Messages, sorted_batch}
-use Rattle.bt_node.specs.Drains.{packed}
-use Rattle.bt_node.specs.Flushes.{sunk}
-use Rattle.bt_node.specs.Trees.{Shape}
+use Rattle.bt_flush.specs.Drains.{packed}
+use Rattle.bt_form.specs.Flushes.{sunk}
+use Rattle.bt_form.specs.Trees.{Shape}
 use Rattle.bt_fanout.specs.Covers.{is_whole, wider}
 use Rattle.bt_fanout.specs.Effects.{EntryMessage, entry_meaning, sent_for_all}
 use Rattle.bt_fanout.specs.Entries.{Definition, entry_of}

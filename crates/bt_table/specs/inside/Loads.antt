@@ -4,7 +4,7 @@ use Rattle.std.specs.Prelude.{ℕ, ◌≡◌, List, length, map, None, Ok, Resul
 use Rattle.bt_row.specs.Schemas.{Schema}
 use Rattle.bt_value.specs.declared.value.Value.{Value}
 use Rattle.bt_keycode.specs.Standing.{RowMap}
-use Rattle.bt_value.specs.Refusals.{least}
+use Rattle.bt_value.specs.Refusals.{lowest}
 use Rattle.bt_value.specs.Results.{and_then}
 use Rattle.bt_value.specs.declared.refusal.Refusal.{Refusal}
 use Rattle.bt_load.specs.Loads.{text_rows}
@@ -12,8 +12,8 @@ use Rattle.bt_load.specs.Maps.{map_of}
 use Rattle.bt_fanout.specs.Promises.{SuitsRows}
 use Rattle.bt_table.specs.Calls.{load_refusals, unless_any}
 use Rattle.bt_table.specs.Indexes.{indexes_of}
-use Rattle.bt_node.specs.Drains.{packed}
-use Rattle.bt_node.specs.Trees.{Shape}
+use Rattle.bt_flush.specs.Drains.{packed}
+use Rattle.bt_form.specs.Trees.{Shape}
 use Rattle.bt_table.specs.declared.index.IndexHead.{IndexHead}
 use Rattle.bt_table.specs.declared.trees.Trees.{Trees}
 use Rattle.bt_table.specs.inside.IndexTrees.{entry_tree}
@@ -44,13 +44,13 @@ rows_to_load schema heads trees text =
 pub record AreLoaded (schema : Schema) (heads : List IndexHead) (before : Trees) (text : List ℕ) (trees : Trees) (count : ℕ) : Type 0 where
   pub rows : List (List Value)
   pub read : text_rows schema.columns text ≡ Ok rows
-  pub free : least (load_refusals (indexes_of heads before.entries.items) before.rows.1) ≡ None
+  pub free : lowest (load_refusals (indexes_of heads before.entries.items) before.rows.1) ≡ None
   pub made : ArePackedOf before.rows.0 schema rows heads trees count
 
 -- a text can be loaded into a table with these indexes and trees
 pub record IsLoadable (schema : Schema) (heads : List IndexHead) (before : Trees) (text : List ℕ) : Type 0 where
   pub rows : List (List Value)
   pub read : text_rows schema.columns text ≡ Ok rows
-  pub free : least (load_refusals (indexes_of heads before.entries.items) before.rows.1) ≡ None
+  pub free : lowest (load_refusals (indexes_of heads before.entries.items) before.rows.1) ≡ None
   pub pairs : RowMap
   pub mapped : map_of schema.keys rows ≡ Ok pairs

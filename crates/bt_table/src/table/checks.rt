@@ -1,9 +1,10 @@
 //! Whether calls on a table would be refused. Nothing changes.
 #![tactic(auto, using(crate::proofs::offered::Steps::unless_lost_hold))]
 
-ghost use Rattle.std.specs.Prelude.{◌≡◌, ◌≢◌, ℕ};
+ghost use Rattle.std.specs.Prelude.{◌≡◌, ◌≢◌, IsErrOf, ℕ};
 ghost use Rattle.bt_value.specs.Answers.{Answers};
 ghost use Rattle.bt_table.specs.Calls.{Apply, BuildStep, Drain, DropIndex, Rebuild, permitted};
+ghost use Rattle.bt_table.specs.Tables.{Lost};
 
 use crate::index::{find_index, is_whole};
 use crate::table::Table;
@@ -23,7 +24,8 @@ impl Table {
         crew: &W,
     ) -> Result<(), Refusal>
         requires ready { W.accepts crew.now }
-        ensures { Answers (permitted self.now (Apply items.now)) result }
+        ensures answer { Answers (permitted self.now (Apply items.now)) result }
+        ensures failed { self.now ≡ Lost → IsErrOf result Refusal.Failed }
     {
         let schema = self.schema()?;
         let packet = crew.read_packet(rt, alloc, schema, items)?;

@@ -4,7 +4,7 @@
 ghost use Rattle.std.specs.FinMap.{is_sorted};
 ghost use Rattle.std.specs.Prelude.{◌≡◌, ◌≢◌, [], Err, IfErr, IfOk, IfSome, IsErrOf, IsTrue, None, Ok, OnErr, OnOk, Some, length};
 ghost use Rattle.std.specs.List.{All};
-ghost use Rattle.bt_value.specs.Refusals.{least};
+ghost use Rattle.bt_value.specs.Refusals.{lowest};
 ghost use Rattle.bt_keycode.specs.Keys.{key_cmp};
 ghost use Rattle.bt_keycode.specs.Standing.{RowMap};
 ghost use Rattle.bt_value.specs.Answers.{Answers};
@@ -39,8 +39,8 @@ fn is_bare(tree: &Tree<Row>) -> bool
 // Whether rows can be loaded into a table with these indexes and trees.
 fn check_load(heads: &[IndexHead], trees: &Trees) -> Result<(), Refusal>
     requires { length trees.now.entries.items ≡ length heads.now }
-    ensures free { OnOk result (least (spec.load_refusals (indexes_of heads.now trees.now.entries.items) trees.now.rows.1) ≡ None) }
-    ensures refused { IfErr result (λ refusal. least (spec.load_refusals (indexes_of heads.now trees.now.entries.items) trees.now.rows.1) ≡ Some refusal) }
+    ensures free { OnOk result (lowest (spec.load_refusals (indexes_of heads.now trees.now.entries.items) trees.now.rows.1) ≡ None) }
+    ensures refused { IfErr result (λ refusal. lowest (spec.load_refusals (indexes_of heads.now trees.now.entries.items) trees.now.rows.1) ≡ Some refusal) }
 {
     if !are_complete(heads) {
         return Err(Refusal::Building);
@@ -215,7 +215,8 @@ impl Table {
         text: &[u8],
     ) -> Result<(), Refusal>
         requires ready { L.accepts loading.now }
-        ensures { Answers (permitted self.now (Load text.now)) result }
+        ensures answer { Answers (permitted self.now (Load text.now)) result }
+        ensures failed { self.now ≡ Lost → IsErrOf result Refusal.Failed }
     {
         let Some(trees) = &self.trees else {
             return Err(Refusal::Failed);

@@ -88,12 +88,12 @@ pub negated : (n : ℕ) → n ≤ 2 ^ 63 - 1 → to_z w64 (of_z w64 (pos 0 -ℤ 
 negated n small = omega (arith, ints)
 
 -- the bytes taken, if one more is taken: the first byte, then the others
-taken_behind : (text : List ℕ) (end b : ℕ) → (slice_index text 0 == b) ≡ true → (b == 0) ≡ false → take (end + 1) text ≡ b ∷ take end (drop 1 text)
-taken_behind [] end b first some = absurd (true≢false (sym first ∙ some_zero b some))
+taken_after : (text : List ℕ) (end b : ℕ) → (slice_index text 0 == b) ≡ true → (b == 0) ≡ false → take (end + 1) text ≡ b ∷ take end (drop 1 text)
+taken_after [] end b first some = absurd (true≢false (sym first ∙ some_zero b some))
   where
     some_zero : (b : ℕ) → (b == 0) ≡ false → (0 == b) ≡ false
     some_zero b some = grind (arith, nat_tests)
-taken_behind (x ∷ xs) end b first some =
+taken_after (x ∷ xs) end b first some =
     let e : end + 1 ≡ suc end = omega arith in
     ap (λ n. take n (x ∷ xs)) e ∙ ap (λ (y : ℕ). y ∷ take end xs) (eqb-true x b first)
 
@@ -103,8 +103,8 @@ pub spelled_minus : (text digits : List ℕ) (end : ℕ) (n : ℤ) → (slice_in
     → number_written (take end digits) ≤ 2 ^ 63 - 1 → int_of (take (end + 1) text) ≡ Some (to_z w64 (of_z w64 (pos 0 -ℤ to_z w64 (of_z w64 n))))
 spelled_minus text digits end n minus is number numeral small =
     let field = take end digits in
-    let behind_minus : take (end + 1) text ≡ 45 ∷ field = taken_behind text end 45 minus refl ∙ ap (λ (l : List ℕ). 45 ∷ take end l) (sym is) in
-    minus_short (take (end + 1) text) field behind_minus (λ _. small) ∙ rw (numeral, ← number, negated (number_written field) small) refl
+    let after_minus : take (end + 1) text ≡ 45 ∷ field = taken_after text end 45 minus refl ∙ ap (λ (l : List ℕ). 45 ∷ take end l) (sym is) in
+    minus_short (take (end + 1) text) field after_minus (λ _. small) ∙ rw (numeral, ← number, negated (number_written field) small) refl
 
 -- it ends where the digits do
 minus_before : (text : List ℕ) (end : ℕ) → (slice_index text 0 == 45) ≡ true → EndsPlain (drop 1 text) end → EndsPlain text (end + 1)
@@ -134,11 +134,11 @@ plain_is_text text end ends short =
 -- ---- how a text is cut after its first field
 
 -- the fields after a comma or the end
-abbrev fields_behind : List ℕ → List (List ℕ)
-fields_behind [] = []
-fields_behind (b ∷ bs) = parts_of bs
+abbrev fields_following : List ℕ → List (List ℕ)
+fields_following [] = []
+fields_following (b ∷ bs) = parts_of bs
 
-first_part : (text : List ℕ) (end : ℕ) → list_all is_plain (take end text) ≡ true → get_or text end 44 ≡ 44 → parts_of text ≡ take end text ∷ fields_behind (drop end text)
+first_part : (text : List ℕ) (end : ℕ) → list_all is_plain (take end text) ≡ true → get_or text end 44 ≡ 44 → parts_of text ≡ take end text ∷ fields_following (drop end text)
 first_part [] zero plain ends = refl
 first_part [] (suc end) plain ends = refl
 first_part (b ∷ bs) zero plain ends = rw ends refl
@@ -154,14 +154,14 @@ plain_part (b ∷ bs) (suc end) plain ends =
     let rest = list_all is_plain (take end bs) in
     rw (plain_special b (first_true (is_plain b) rest plain)) (plain_part bs end (second_true (is_plain b) rest plain) ends)
 
-from_behind : (text : List ℕ) (end : ℕ) → fields_behind (drop end text) ≡ fields_from (end + 1) text
-from_behind text end = elim (cases_Bool (nat_le (end + 1) (length text))) [
+from_after : (text : List ℕ) (end : ℕ) → fields_following (drop end text) ≡ fields_from (end + 1) text
+from_after text end = elim (cases_Bool (nat_le (end + 1) (length text))) [
   | inl more ↦
       let within : end < length text = grind (arith, nat_tests) in
-      rw more (ap fields_behind (drop_more text end 0 within))
+      rw more (ap fields_following (drop_more text end 0 within))
   | inr none ↦
       let past : length text ≤ end = grind (arith, nat_tests) in
-      rw none (ap fields_behind (drop_all end text past))
+      rw none (ap fields_following (drop_all end text past))
 ]
 
 -- what is left from a place on, if there is a plain field at the place
@@ -170,8 +170,8 @@ cut_here text at end within ends =
     let here : nat_le at (length text) ≡ true = le-leb at (length text) within in
     let there : at + end + 1 ≡ at + (end + 1) = omega arith in
     rw here (first_part (drop at text) end ends.plain ends.ends)
-    ∙ ap (λ (rest : List ℕ). take end (drop at text) ∷ fields_behind rest) (drop-drop end at text)
-    ∙ ap (λ (rest : List (List ℕ)). take end (drop at text) ∷ rest) (from_behind text (at + end) ∙ ap (λ n. fields_from n text) there)
+    ∙ ap (λ (rest : List ℕ). take end (drop at text) ∷ fields_following rest) (drop-drop end at text)
+    ∙ ap (λ (rest : List (List ℕ)). take end (drop at text) ∷ rest) (from_after text (at + end) ∙ ap (λ n. fields_from n text) there)
 
 -- a cut does not change whether a special byte is left
 pub plain_here : (text : List ℕ) (at end : ℕ) → EndsPlain (drop at text) end → list_any is_special (drop at text) ≡ list_any is_special (drop (at + (end + 1)) text)
@@ -190,5 +190,5 @@ next_plain text rest at end is ends = plain_here text at end (subst (λ (l : Lis
 -- nothing is left after the end
 pub none_from : (text : List ℕ) (at : ℕ) → length text < at → (fields_from at text ≡ []) × (list_any is_special (drop at text) ≡ false)
 none_from text at past =
-    let behind_end : nat_le at (length text) ≡ false = lt-leb at (length text) past in
-    (rw behind_end refl, ap (list_any is_special) (drop_all at text (omega (arith, past))))
+    let after_end : nat_le at (length text) ≡ false = lt-leb at (length text) past in
+    (rw after_end refl, ap (list_any is_special) (drop_all at text (omega (arith, past))))

@@ -5,7 +5,7 @@ use Rattle.std.specs.List.{filter_map}
 use Rattle.std.specs.Option.{option_to_list}
 use Rattle.std.specs.Result.{result_err, result_ok}
 use Rattle.bt_value.specs.Answers.{Answers}
-use Rattle.bt_value.specs.Refusals.{least_from}
+use Rattle.bt_value.specs.Refusals.{lowest_from}
 use Rattle.bt_value.specs.declared.refusal.Refusal.{Refusal}
 use Rattle.bt_value.specs.declared.refusal.Refusal.TheVariants.{OutOfMemory}
 
@@ -21,8 +21,8 @@ with_value values after (Ok value) others is = rw is (sym (append_assoc values (
 with_value values after (Err e) others is = rw (is, append-nil values) refl
 
 -- the least refusal so far, including one more
-pub with_refusal : {T : Type 0} (found after : Option Refusal) (read : Result T Refusal) (others : List (Result T Refusal)) → after ≡ least_from found (option_to_list (result_err read))
-    → least_from found (filter_map result_err (read ∷ others)) ≡ least_from after (filter_map result_err others)
+pub with_refusal : {T : Type 0} (found after : Option Refusal) (read : Result T Refusal) (others : List (Result T Refusal)) → after ≡ lowest_from found (option_to_list (result_err read))
+    → lowest_from found (filter_map result_err (read ∷ others)) ≡ lowest_from after (filter_map result_err others)
 with_refusal found after (Ok value) others is = rw is refl
 with_refusal None after (Err e) others is = rw is refl
 with_refusal (Some refusal) after (Err e) others is = rw is refl

@@ -3,7 +3,7 @@ use Rattle.std.proofs.Common.{◌≡◌, ℕ, List, Option, Result, Ok, Err, ap,
 use Rattle.std.proofs.lemmas.List.Folds.{fold-map}
 use Rattle.bt_value.specs.declared.refusal.Refusal.{Refusal}
 use Rattle.bt_value.specs.declared.value.Value.{Value}
-use Rattle.bt_node.specs.Messages.{Rows}
+use Rattle.bt_form.specs.Messages.{Rows}
 use Rattle.bt_value.specs.Results.{map_ok}
 use Rattle.bt_table.specs.Tables.{TableState}
 use Rattle.bt_view.specs.Ranges.{scan, scan_with_keys}

@@ -4,15 +4,15 @@ use Rattle.bt_value.specs.Results.{or_refused}
 use Rattle.bt_value.specs.declared.refusal.Refusal.{Refusal}
 use Rattle.bt_value.specs.declared.refusal.Refusal.TheVariants.{OutOfMemory, TooMany}
 use Rattle.bt_value.specs.declared.value.Value.{Value}
-use Rattle.bt_node.specs.Flushes.{holds}
-use Rattle.bt_node.specs.Messages.{Rows, between}
+use Rattle.bt_form.specs.Flushes.{holds}
+use Rattle.bt_form.specs.Messages.{Rows, between}
 use Rattle.bt_fanout.specs.Effects.{entry_effect, row_effect}
-use Rattle.bt_view.specs.declared.groups.Sum.{Sum}
+use Rattle.bt_show.specs.declared.groups.Sum.{Sum}
 use Rattle.bt_view.specs.declared.shown.Shown.{Shown}
 use Rattle.bt_view.specs.declared.shown.Shown.TheVariants as shown
 use Rattle.bt_view.specs.declared.shown.Summed.{Summed}
-use Rattle.bt_view.specs.inside.Entries.{rows_of_entries}
-use Rattle.bt_view.specs.inside.Neighbours.{after_row}
+use Rattle.bt_show.specs.inside.Entries.{rows_of_entries}
+use Rattle.bt_show.specs.inside.Neighbours.{after_row}
 
 -- the rows that are shown, by their keys
 abbrev pub rows_shown : Shown → Rows (List Value)

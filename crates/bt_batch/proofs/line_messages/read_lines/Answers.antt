@@ -4,7 +4,7 @@ use Rattle.std.specs.Result.{result_err, result_ok}
 use Rattle.bt_batch.specs.Batches.{KeyedMessage, read_batch, read_message}
 use Rattle.bt_batch.proofs.Batches.{read_next}
 use Rattle.bt_value.proofs.offered.Readings.{is_answer, with_refusal, with_value}
-use Rattle.bt_value.specs.Refusals.{least_from}
+use Rattle.bt_value.specs.Refusals.{lowest_from}
 use Rattle.bt_value.specs.declared.refusal.Refusal.{Refusal}
 use Rattle.bt_batch.proofs.line_messages.read_lines.Goals as goal
 
@@ -26,6 +26,6 @@ loop-place-preserved c =
           ∙ ap (λ (l : List (Result KeyedMessage Refusal)). c.loop-place.reading.values ++ filter_map result_ok l) more
           ∙ with_value c.loop-place.reading.values c.add.new.self.values read others c.in_ok-add.ensures.values;
       refusal = c.loop-place.invariant.refusal
-          ∙ ap (λ (l : List (Result KeyedMessage Refusal)). least_from c.loop-place.reading.refusal (filter_map result_err l)) more
+          ∙ ap (λ (l : List (Result KeyedMessage Refusal)). lowest_from c.loop-place.reading.refusal (filter_map result_err l)) more
           ∙ with_refusal c.loop-place.reading.refusal c.add.new.self.refusal read others c.in_ok-add.ensures.refusal;
     }

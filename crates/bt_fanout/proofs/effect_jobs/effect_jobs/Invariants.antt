@@ -5,8 +5,8 @@ use Rattle.std.specs.Vec.Iter.{into_iter_items}
 use Rattle.bt_value.specs.declared.value.Value.{Value}
 use Rattle.bt_keycode.specs.Keys.{Key, key_cmp}
 use Rattle.bt_messages.specs.Messages.{Messages}
-use Rattle.bt_node.specs.Flushes.{holds}
-use Rattle.bt_gather.specs.KeyShares.{HasRisingKeys, HasValues}
+use Rattle.bt_form.specs.Flushes.{holds}
+use Rattle.bt_portions.specs.KeyShares.{HasRisingKeys, HasValues}
 use Rattle.bt_fanout.specs.Effects.{RowMessage, row_effect}
 use Rattle.bt_fanout.specs.inside.EffectJobs.{IsWhole, effects_there, message_total}
 use Rattle.bt_fanout.proofs.EffectJobs.{effects_by}

@@ -1,7 +1,7 @@
 use Rattle.std.proofs.Common.{◌≡◌, ◌∙◌, ap, arith, map}
 use Rattle.std.proofs.lemmas.Result.{IfOk-weaker}
 use Rattle.bt_value.specs.Lists.{concatenation}
-use Rattle.bt_node.specs.Flushes.{holds}
+use Rattle.bt_form.specs.Flushes.{holds}
 use Rattle.bt_fanout.specs.Effects.{row_effect}
 use Rattle.bt_fanout.specs.inside.EffectJobs.{effects_there}
 use Rattle.bt_fanout.proofs.EffectJobs.{joined_map, named_as_many, named_effects, named_few, named_rise}

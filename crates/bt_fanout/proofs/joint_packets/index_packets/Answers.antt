@@ -4,7 +4,7 @@ use Rattle.std.proofs.lemmas.Result.{IfOk-weaker}
 use Rattle.std.specs.List.{All}
 use Rattle.bt_value.specs.Lists.{concatenation}
 use Rattle.bt_messages.specs.Messages.{sorted_batch}
-use Rattle.bt_node.specs.Flushes.{holds}
+use Rattle.bt_form.specs.Flushes.{holds}
 use Rattle.bt_fanout.specs.Effects.{effects_within, row_effect}
 use Rattle.bt_fanout.specs.Targets.{SuitAll, packet_of}
 use Rattle.bt_fanout.specs.inside.PacketGroups.{effects_in_group, with_next}

@@ -5,9 +5,9 @@ use Rattle.std.specs.FinMap.{find}
 use Rattle.std.specs.List.{All, flat_map}
 use Rattle.bt_value.specs.declared.value.Value.{Value}
 use Rattle.bt_keycode.specs.Keys.{Key, key_cmp}
-use Rattle.bt_node.specs.Flushes.{holds}
-use Rattle.bt_node.specs.Parts.{AreRising}
-use Rattle.bt_gather.proofs.offered.RisingKeys.{first_rise, rest_rise}
+use Rattle.bt_form.specs.Flushes.{holds}
+use Rattle.bt_form.specs.Parts.{AreRising}
+use Rattle.bt_portions.proofs.offered.RisingKeys.{first_rise, rest_rise}
 use Rattle.bt_fanout.specs.Effects.{row_effect}
 use Rattle.bt_fanout.specs.declared.joint_packets.JobGroup.{JobGroup}
 use Rattle.bt_fanout.specs.inside.EffectJobs.{IsWhole, message_total}

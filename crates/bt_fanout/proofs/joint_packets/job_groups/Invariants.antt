@@ -4,8 +4,8 @@ use Rattle.std.specs.List.{All, flat_map}
 use Rattle.bt_value.specs.declared.value.Value.{Value}
 use Rattle.bt_keycode.specs.Keys.{Key, key_cmp}
 use Rattle.bt_messages.specs.Messages.{Messages}
-use Rattle.bt_node.specs.Flushes.{holds}
-use Rattle.bt_node.specs.Parts.{AreRising}
+use Rattle.bt_form.specs.Flushes.{holds}
+use Rattle.bt_form.specs.Parts.{AreRising}
 use Rattle.bt_fanout.specs.Effects.{RowMessage, row_effect}
 use Rattle.bt_fanout.specs.inside.EffectJobs.{IsWhole, message_total}
 use Rattle.bt_fanout.specs.inside.PacketGroups.{effects_in_group}

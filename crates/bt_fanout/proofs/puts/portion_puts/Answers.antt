@@ -1,7 +1,7 @@
 use Rattle.std.proofs.Common.{◌∙◌, [], ap, fold, sym}
 use Rattle.std.proofs.lemmas.Result.{IfOk-weaker}
-use Rattle.bt_node.specs.Flushes.{holds}
-use Rattle.bt_node.specs.Messages.{between}
+use Rattle.bt_form.specs.Flushes.{holds}
+use Rattle.bt_form.specs.Messages.{between}
 use Rattle.bt_fanout.specs.Effects.{row_effect}
 use Rattle.bt_fanout.specs.inside.Portions.{Puts, puts_after_row}
 use Rattle.bt_fanout.specs.inside.Readings.{rows_between}

@@ -2,7 +2,7 @@ use Rattle.std.proofs.Common.{◌∙◌, ap, map}
 use Rattle.std.proofs.lemmas.Result.{IfOk-weaker}
 use Rattle.std.specs.FinMap.{find}
 use Rattle.bt_keycode.specs.Keys.{key_cmp}
-use Rattle.bt_node.specs.Flushes.{holds}
+use Rattle.bt_form.specs.Flushes.{holds}
 use Rattle.bt_fanout.specs.Effects.{row_effect}
 use Rattle.bt_fanout.specs.inside.Groups.{effects_in}
 use Rattle.bt_fanout.proofs.GroupEffects.{effects_are}

@@ -19,16 +19,16 @@ returns-then-not-covers-clause-others c =
 pub loop-next-smaller : goal.loop-next-smaller
 loop-next-smaller c =
     fewer_left (c.in-Some.key.now, c.in-Some._message.now) c.loop-next.messages _ _
-    (ap (λ next. with_next (option_map (λ m. (m.0.now, m.1.now)) next) c.loop-next.messages) c.in-Some.is) c.messages_behind-count.ensures.rest
+    (ap (λ next. with_next (option_map (λ m. (m.0.now, m.1.now)) next) c.loop-next.messages) c.in-Some.is) c.messages_following-count.ensures.rest
 
 pub loop-next-preserved : goal.loop-next-preserved
 loop-next-preserved c =
     let covered : is_covered c.args.cover.now c.in-Some.key.now ≡ true = search rules in
     let is = ap (λ next. with_next (option_map (λ m. (m.0.now, m.1.now)) next) c.loop-next.messages) c.in-Some.is in
-    let fewer = fewer_left (c.in-Some.key.now, c.in-Some._message.now) c.loop-next.messages _ _ is c.messages_behind-count.ensures.rest in
+    let fewer = fewer_left (c.in-Some.key.now, c.in-Some._message.now) c.loop-next.messages _ _ is c.messages_following-count.ensures.rest in
     let now = one_key (λ k. k.now) c.args.cover.now (c.in-Some.key.now, c.in-Some._message.now) c.loop-next.messages _ _ c.in-Some.key
-    c.messages_behind-count.result.0 c.loop-next.keys.items c.push.new.self.items
+    c.messages_following-count.result.0 c.loop-next.keys.items c.push.new.self.items
     c.loop-next.others.items c.push-in-Some.new.self.items (groups_within c.args.cover.now c.args.packet.now) is c.loop-next.invariant.sorted refl covered
-    c.messages_behind-count.ensures.count c.messages_behind-count.ensures.rest
+    c.messages_following-count.ensures.count c.messages_following-count.ensures.rest
     c.loop-next.invariant.keys c.loop-next.invariant.others (search rules) (search rules) in
     record { few = omega (arith, fewer, c.loop-next.invariant.few); sorted = now.0; keys = now.1.0; others = now.1.1 }

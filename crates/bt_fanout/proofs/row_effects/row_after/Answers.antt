@@ -1,6 +1,6 @@
 use Rattle.std.proofs.Common.{◌≡◌, ◌∙◌, ◌∷◌, ◌+◌, ◌-◌, arith, rules, suc}
 use Rattle.bt_fanout.specs.Effects.{row_effect}
-use Rattle.bt_fanout.proofs.Groups.{fewer_behind, next_value}
+use Rattle.bt_fanout.proofs.Groups.{fewer_after, next_value}
 use Rattle.bt_fanout.proofs.row_effects.row_after.Goals as goal
 
 pub loop-preserved : goal.loop-preserved
@@ -9,5 +9,5 @@ loop-preserved c =
     let one : c.args.others - c.loop.counter ≡ suc (c.args.others - (c.loop.counter + 1)) = omega (arith, c.loop-test.true) in
     record {
       value = c.loop.invariant.value ∙ next_value row_effect _ _ _ _ _ _ _ first one c.in_ok-after-2.ensures;
-      rest = c.loop.invariant.rest ∙ fewer_behind _ _ _ _ _ first one;
+      rest = c.loop.invariant.rest ∙ fewer_after _ _ _ _ _ first one;
     }

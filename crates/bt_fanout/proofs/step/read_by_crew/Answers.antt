@@ -1,5 +1,5 @@
 use Rattle.std.proofs.Common.{◌∙◌, ◌-◌, [], ap, arith, fold}
-use Rattle.bt_node.specs.Flushes.{holds}
+use Rattle.bt_form.specs.Flushes.{holds}
 use Rattle.bt_node.proofs.offered.ShapedTrees.{holds-sorted}
 use Rattle.bt_fanout.specs.Covers.{next_rows}
 use Rattle.bt_fanout.specs.Effects.{row_effect, row_meaning}

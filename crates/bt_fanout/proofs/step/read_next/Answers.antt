@@ -1,7 +1,7 @@
 use Rattle.std.proofs.Common.{◌∙◌, None, Some, ap, fold, sym, take}
 use Rattle.std.proofs.lemmas.Result.{on_ok_weaker}
-use Rattle.bt_node.specs.Flushes.{holds}
-use Rattle.bt_node.specs.Messages.{between}
+use Rattle.bt_form.specs.Flushes.{holds}
+use Rattle.bt_form.specs.Messages.{between}
 use Rattle.bt_fanout.specs.Effects.{row_effect}
 use Rattle.bt_fanout.proofs.NextKeys.{from_next, none_left}
 use Rattle.bt_fanout.proofs.step.read_next.Goals as goal

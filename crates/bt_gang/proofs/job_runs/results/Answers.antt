@@ -1,6 +1,6 @@
 use Rattle.std.proofs.Common.{◌≡◌, ◌≤◌, ℕ, ap, arith}
 use Rattle.bt_gang.specs.Numbered.{present}
-use Rattle.bt_gang.proofs.Filling.{answered, least_among, ok_full}
+use Rattle.bt_gang.proofs.Filling.{answered, lowest_among, ok_full}
 use Rattle.bt_gang.proofs.Finishing.{all_taken, are_empty, are_lists, memory_wanted, once}
 use Rattle.bt_gang.proofs.job_runs.results.Goals as goal
 
@@ -47,7 +47,7 @@ pub returns-in-Ok-clause-done : goal.returns-in-Ok-clause-done
 returns-in-Ok-clause-done g c = answered (g.W.Work.allows c.args.shift.now.work.now) c.args.all.now.value.items _ _ _ c.place_answers-taken.ensures.slots c.in-Ok.ensures.values
 
 pub returns-in-Err-clause-fault : goal.returns-in-Err-clause-fault
-returns-in-Err-clause-fault g c = least_among (g.W.Work.allows c.args.shift.now.work.now) c.args.all.now.value.items _ _ _ c.place_answers-taken.ensures.slots c.in-Err.ensures.fault
+returns-in-Err-clause-fault g c = lowest_among (g.W.Work.allows c.args.shift.now.work.now) c.args.all.now.value.items _ _ _ c.place_answers-taken.ensures.slots c.in-Err.ensures.fault
 
 pub returns-in-Err-clause-memory : goal.returns-in-Err-clause-memory
 returns-in-Err-clause-memory g c = memory_wanted (g.W.Work.allows c.args.shift.now.work.now) c.args.all.now.value.items _ (present c.args.answers.mine.list)

@@ -3,8 +3,8 @@ use Rattle.std.proofs.lemmas.Result.{IfOk-weaker}
 use Rattle.std.specs.Result.{IfOk}
 use Rattle.std.specs.Vec.Iter.{into_iter_items}
 use Rattle.bt_messages.specs.Meanings.{meaning_of}
-use Rattle.bt_node.specs.Drains.{drain}
-use Rattle.bt_node.specs.Flushes.{crown}
+use Rattle.bt_flush.specs.Drains.{drain}
+use Rattle.bt_form.specs.Flushes.{crown}
 use Rattle.bt_gather.proofs.PieceShares.{tree-outcome}
 use Rattle.bt_gather.proofs.SunkTrees.{drained_dry, drained_fits, drained_holds}
 use Rattle.bt_gather.proofs.round.drain.Goals as goal

@@ -3,7 +3,7 @@ use Rattle.std.proofs.lemmas.List.{nil_from_length}
 use Rattle.std.proofs.lemmas.List.Elements.{All-cons, All-nil, All-same}
 use Rattle.bt_messages.specs.Meanings.{meaning_of}
 use Rattle.bt_messages.specs.Weights.{weigh_of}
-use Rattle.bt_node.specs.Fits.{HasShape}
+use Rattle.bt_form.specs.Fits.{HasShape}
 use Rattle.bt_gather.specs.Rounds.{sunk_tree}
 use Rattle.bt_gather.specs.inside.RoundJobs.{all_pieces}
 use Rattle.bt_gather.specs.inside.RoundTrees.{trees_with}

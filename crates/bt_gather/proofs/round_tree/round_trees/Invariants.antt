@@ -2,7 +2,7 @@ use Rattle.std.proofs.Common.{◌≡◌, ◌+◌, ◌≤◌, ◌++◌, vec_capac
 use Rattle.std.specs.List.{All}
 use Rattle.std.specs.Vec.Iter.{into_iter_len}
 use Rattle.bt_messages.specs.Meanings.{meaning_of}
-use Rattle.bt_node.specs.Fits.{HasShape}
+use Rattle.bt_form.specs.Fits.{HasShape}
 use Rattle.bt_gather.specs.Rounds.{all_sunk}
 use Rattle.bt_gather.specs.inside.RoundJobs.{AreRunnable, all_pieces}
 use Rattle.bt_gather.specs.declared.round_tree.TheConstants.{MOST_TREES}

@@ -1,5 +1,5 @@
 use Rattle.bt_laws.proofs.FromScratch.{images_alike, loaded_from_scratch, rebuilt_from_scratch, whole_from_scratch}
-use Rattle.bt_laws.proofs.ToldRows.{told}
+use Rattle.bt_laws.proofs.RowsOfImages.{equal_rows}
 use Rattle.bt_laws.proofs.canonical.canonical_form.Goals as goal
 
 pub returns-clause-rebuilt : goal.returns-clause-rebuilt
@@ -15,5 +15,5 @@ pub returns-clause-alike : goal.returns-clause-alike
 returns-clause-alike c = λ first second name sound other_sound same tree other seen other_seen one all other_all. images_alike first second sound other_sound
     same name tree other seen other_seen one all other_all
 
-pub returns-clause-told : goal.returns-clause-told
-returns-clause-told c = λ first second one two schema same. told first second one two schema same
+pub returns-clause-rows : goal.returns-clause-rows
+returns-clause-rows c = λ first second one two schema same. equal_rows first second one two schema same

@@ -15,7 +15,7 @@ loop-next-preserved c =
           let repeat : Repeats placed next = record { some = omega arith; within = omega arith; same = sym c.repeats.ensures ∙ w.if-repeats.true } in
           let here = get_or placed next w.index-placed-next.result in
           let is : here.place ≡ (at placed next).place = ap (λ (p : Placed). p.place) (get_or_default placed next w.index-placed-next.result (record { key = []; place = 0 }) (omega arith)) in
-          subst (IsFirstRepeat placed (next + 1)) (sym (w.first-is ∙ ap Some w.lesser.ensures))
+          subst (IsFirstRepeat placed (next + 1)) (sym (w.first-is ∙ ap Some w.lower.ensures))
           (one_more_repeats placed next c.loop-next.first here.place repeat is c.loop-next.invariant)
       | else-repeats w ↦
           let not : Repeats placed next → ⊥ = λ again. true≢false (sym again.same ∙ sym c.repeats.ensures ∙ w.if-repeats.false) in

@@ -1,7 +1,7 @@
 use Rattle.std.proofs.Common.{◌≡◌, ℕ, ◌∙◌, ◌∷◌, ◌++◌, ◌+◌, List, Result, ap, sym, drop}
 use Rattle.std.specs.List.{filter_map}
 use Rattle.std.specs.Result.{result_err, result_ok}
-use Rattle.bt_value.specs.Refusals.{least_from}
+use Rattle.bt_value.specs.Refusals.{lowest_from}
 use Rattle.bt_value.specs.declared.refusal.Refusal.{Refusal}
 use Rattle.bt_value.specs.declared.value.Value.{Value}
 use Rattle.bt_value.proofs.offered.Readings.{is_answer, with_refusal, with_value}
@@ -27,5 +27,5 @@ loop-place-preserved c =
       values = sym (with_value c.loop-place.reading.values c.add.new.self.values read others c.in_ok-add.ensures.values)
           ∙ ap (λ (l : List (Result (List Value) Refusal)). c.loop-place.reading.values ++ filter_map result_ok l) (sym more) ∙ c.loop-place.invariant.values;
       refusal = sym (with_refusal c.loop-place.reading.refusal c.add.new.self.refusal read others c.in_ok-add.ensures.refusal)
-          ∙ ap (λ (l : List (Result (List Value) Refusal)). least_from c.loop-place.reading.refusal (filter_map result_err l)) (sym more) ∙ c.loop-place.invariant.refusal;
+          ∙ ap (λ (l : List (Result (List Value) Refusal)). lowest_from c.loop-place.reading.refusal (filter_map result_err l)) (sym more) ∙ c.loop-place.invariant.refusal;
     }

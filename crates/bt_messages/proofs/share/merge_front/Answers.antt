@@ -15,17 +15,17 @@ pub move_front-requires-clause-room : goal.move_front-requires-clause-room
 move_front-requires-clause-room g c =
     omega (arith, c.requires.room, c.append_reserved.ensures.len, c.append_reserved.ensures.capacity, ap length c.from.ensures.0, c.args.older.ok.0)
 
-pub returns-then-is_behind-clause-merged : goal.returns-then-is_behind-clause-merged
-returns-then-is_behind-clause-merged g c =
+pub returns-then-is_after-clause-merged : goal.returns-then-is_after-clause-merged
+returns-then-is_after-clause-merged g c =
     let merged = c.args.merged.now.items in
     let moved = take c.args.count c.args.stream.now in
     c.move_front.ensures.moved
     ∙ ap (λ ms. ms ++ moved) (c.append_reserved.ensures.pushed ∙ ap (λ ms. merged ++ ms) c.from.ensures.0)
     ∙ append_assoc merged c.args.older.items moved
-    ∙ ap (λ ms. merged ++ ms) (sym (rw c.as_slice.ensures.value at (c.is_behind.ensures c.if-is_behind.true c.args.count)))
+    ∙ ap (λ ms. merged ++ ms) (sym (rw c.as_slice.ensures.value at (c.is_after.ensures c.if-is_after.true c.args.count)))
 
-pub returns-then-is_behind-clause-left : goal.returns-then-is_behind-clause-left
-returns-then-is_behind-clause-left g c = c.move_front.ensures.left
+pub returns-then-is_after-clause-left : goal.returns-then-is_after-clause-left
+returns-then-is_after-clause-left g c = c.move_front.ensures.left
 
 pub loop-init : goal.loop-init
 loop-init g c =

@@ -3,10 +3,10 @@ use Rattle.std.proofs.Common.{◌≡◌, ℕ, zero, suc, ◌<◌, ◌≤◌, [],
 use Rattle.std.specs.declared.option.Option.{Option}
 use Rattle.bt_keycode.specs.Keys.{Key}
 use Rattle.bt_messages.proofs.offered.Loads.{load-none}
-use Rattle.bt_node.specs.Trees.{Shape, Tree, Siblings}
-use Rattle.bt_node.specs.Flushes.{shared, none_pending, grouped, crown_within, crown, holds, all_hold}
-use Rattle.bt_node.specs.Fits.{NodeFits, SiblingsFit, IsRoomy}
-use Rattle.bt_node.proofs.lemmas.crowns.Levels.{raised-shorter, shared-nothing}
+use Rattle.bt_form.specs.Trees.{Shape, Tree, Siblings}
+use Rattle.bt_form.specs.Flushes.{shared, none_pending, grouped, crown_within, crown, holds, all_hold}
+use Rattle.bt_form.specs.Fits.{NodeFits, SiblingsFit, IsRoomy}
+use Rattle.bt_flush.proofs.lemmas.crowns.Levels.{raised-shorter, shared-nothing}
 use Rattle.bt_node.proofs.lemmas.flushes.Regrouped.{grouped_fits, grouped_holds}
 
 module _ {V M : Type 0} (weigh : Key × M → ℕ) (s : Shape) (roomy : IsRoomy s) where

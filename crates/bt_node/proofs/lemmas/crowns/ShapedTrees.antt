@@ -4,10 +4,10 @@ use Rattle.std.proofs.lemmas.Bool.Decides.{nat_tests}
 use Rattle.std.specs.declared.option.Option.TheVariants.{None}
 use Rattle.bt_keycode.specs.Keys.{Key}
 use Rattle.bt_messages.specs.declared.message.Message.{Message}
-use Rattle.bt_node.specs.Trees.{Shape, Tree, Siblings}
-use Rattle.bt_node.specs.Flushes.{crown, holds, all_hold}
-use Rattle.bt_node.specs.Fits.{AreFit, HasShape, IsRoomy}
-use Rattle.bt_node.specs.Shapes.{is_shape, largest_buffer, largest_fanout, largest_leaf, smallest_buffer, smallest_fanout, smallest_leaf}
+use Rattle.bt_form.specs.Trees.{Shape, Tree, Siblings}
+use Rattle.bt_form.specs.Flushes.{crown, holds, all_hold}
+use Rattle.bt_form.specs.Fits.{AreFit, HasShape, IsRoomy}
+use Rattle.bt_form.specs.Shapes.{is_shape, largest_buffer, largest_fanout, largest_leaf, smallest_buffer, smallest_fanout, smallest_leaf}
 use Rattle.bt_node.proofs.lemmas.crowns.CrownedRows.{crown-fits, crown-holds}
 
 both : (a b : Bool) → a && b ≡ true → (a ≡ true) × (b ≡ true)

@@ -5,19 +5,19 @@ use Rattle.std.specs.FinMap.Entries.{same_entries}
 use Rattle.std.specs.declared.option.Option.{Option}
 use Rattle.bt_keycode.specs.Keys.{Key, key_cmp, AllWithin, IsSorted}
 use Rattle.bt_keycode.proofs.offered.Order.{total_keys}
-use Rattle.bt_node.specs.Messages.{Messages, load, rows_after, value_after}
-use Rattle.bt_node.specs.Trees.{Shape, Siblings, nodes}
-use Rattle.bt_node.specs.Flushes.{shared, grouped, all_hold}
-use Rattle.bt_node.specs.Fits.{AreSized, IsRoomy, SiblingsFit, SiblingsLie}
-use Rattle.bt_node.specs.Laws.{FitAbove, HoldAllAfter}
-use Rattle.bt_node.proofs.lemmas.rows.RowsAfter.{rows-sorted, rows_after-lie}
-use Rattle.bt_node.proofs.lemmas.rows.Values.{find-rows}
-use Rattle.bt_node.proofs.lemmas.flushes.Children.{ChildrenLie, below, value-below-seen}
-use Rattle.bt_node.proofs.lemmas.flushes.EmptyPackets.{all_pending-shared, stripped-shared}
-use Rattle.bt_node.proofs.lemmas.flushes.NodeSizes.{grouped-sized}
-use Rattle.bt_node.proofs.lemmas.flushes.RowsKept.{all_hold-lie}
-use Rattle.bt_node.proofs.lemmas.flushes.Shares.{below-shared, length-shared, shared-lie}
-use Rattle.bt_node.proofs.lemmas.flushes.ValuesKept.{Grouped, groups}
+use Rattle.bt_form.specs.Messages.{Messages, load, rows_after, value_after}
+use Rattle.bt_form.specs.Trees.{Shape, Siblings, nodes}
+use Rattle.bt_form.specs.Flushes.{shared, grouped, all_hold}
+use Rattle.bt_form.specs.Fits.{AreSized, IsRoomy, SiblingsFit, SiblingsLie}
+use Rattle.bt_flush.specs.Laws.{FitAbove, HoldAllAfter}
+use Rattle.bt_form.proofs.lemmas.rows.RowsAfter.{rows-sorted, rows_after-lie}
+use Rattle.bt_form.proofs.lemmas.rows.Values.{find-rows}
+use Rattle.bt_form.proofs.lemmas.flushes.Children.{ChildrenLie, below, value-below-seen}
+use Rattle.bt_flush.proofs.lemmas.flushes.EmptyPackets.{all_pending-shared, stripped-shared}
+use Rattle.bt_flush.proofs.lemmas.flushes.NodeSizes.{grouped-sized}
+use Rattle.bt_form.proofs.lemmas.flushes.RowsKept.{all_hold-lie}
+use Rattle.bt_form.proofs.lemmas.flushes.Shares.{below-shared, length-shared, shared-lie}
+use Rattle.bt_form.proofs.lemmas.flushes.ValuesKept.{Grouped, groups}
 
 module _ {V M : Type 0} (weigh : Key × M → ℕ) (s : Shape) (roomy : IsRoomy s) (levels : ℕ) (low high : Option Key) (xs : Siblings V M) (b : Messages M) (several : 2 ≤ length xs)
     (lie : SiblingsLie levels low high xs) (within : AllWithin low high b) (sorted : IsSorted b) where

@@ -5,14 +5,14 @@ use Rattle.bt_keycode.specs.Keys.{key_cmp}
 use Rattle.bt_messages.specs.Effects.{effect_of}
 use Rattle.bt_messages.specs.declared.message.Message.{Message}
 use Rattle.bt_messages.specs.Weights.{weigh_of}
-use Rattle.bt_node.specs.Drains.{AreDry}
-use Rattle.bt_node.specs.Fits.{IsRoomy, SiblingsFit}
-use Rattle.bt_node.specs.Flushes.{all_hold, crown, leaves}
-use Rattle.bt_node.specs.Trees.{nodes}
+use Rattle.bt_flush.specs.Drains.{AreDry}
+use Rattle.bt_form.specs.Fits.{IsRoomy, SiblingsFit}
+use Rattle.bt_form.specs.Flushes.{all_hold, crown, leaves}
+use Rattle.bt_form.specs.Trees.{nodes}
 use Rattle.bt_node.proofs.lemmas.crowns.ShapedTrees.{has_room}
-use Rattle.bt_node.proofs.lemmas.flushes.Drains.{crown_dries, dry-leaves}
-use Rattle.bt_node.proofs.lemmas.flushes.Groups.{leaves-hold}
-use Rattle.bt_node.proofs.lemmas.flushes.Laws.{leaves-fit}
+use Rattle.bt_flush.proofs.lemmas.flushes.Drains.{crown_dries, dry-leaves}
+use Rattle.bt_form.proofs.lemmas.flushes.Groups.{leaves-hold}
+use Rattle.bt_flush.proofs.lemmas.flushes.Laws.{leaves-fit}
 use Rattle.bt_keycode.proofs.offered.Truths.{t_true}
 use Rattle.bt_node.proofs.tree.pack_source.Goals as goal
 

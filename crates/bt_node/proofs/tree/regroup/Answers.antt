@@ -4,11 +4,11 @@ use Rattle.bt_value.specs.Lists.{concatenation}
 use Rattle.bt_messages.specs.Effects.{effect_of}
 use Rattle.bt_messages.specs.Weights.{weigh_of}
 use Rattle.bt_messages.proofs.offered.Parts.{concatenation_sorted}
-use Rattle.bt_node.specs.Children.{AreDivided}
-use Rattle.bt_node.specs.Fits.{IsRoomy}
-use Rattle.bt_node.specs.Flushes.{grouped}
+use Rattle.bt_form.specs.Children.{AreDivided}
+use Rattle.bt_form.specs.Fits.{IsRoomy}
+use Rattle.bt_form.specs.Flushes.{grouped}
 use Rattle.bt_node.proofs.lemmas.crowns.ShapedTrees.{has_room}
-use Rattle.bt_node.proofs.lemmas.flushes.Divisions.{bins-length, divided-with_pending, length-with_pending, with_pending-shared}
+use Rattle.bt_form.proofs.lemmas.flushes.Divisions.{bins-length, divided-with_pending, length-with_pending, with_pending-shared}
 use Rattle.bt_node.proofs.lemmas.flushes.Regrouped.{fit_above, hold_all_after}
 use Rattle.bt_node.proofs.tree.regroup.Goals as goal
 

@@ -7,9 +7,9 @@ use Rattle.bt_messages.specs.Bins.{LieBetween}
 use Rattle.bt_messages.specs.Messages.{with_messages}
 use Rattle.bt_messages.specs.Weights.{weigh_of}
 use Rattle.bt_messages.proofs.offered.Shares.{share_at}
-use Rattle.bt_node.specs.Fits.{IsSized}
-use Rattle.bt_node.specs.Trees.{with_pivots}
-use Rattle.bt_node.specs.declared.form.shape.TheConstants.{LARGEST_FANOUT}
+use Rattle.bt_form.specs.Fits.{IsSized}
+use Rattle.bt_form.specs.Trees.{with_pivots}
+use Rattle.bt_form.specs.declared.shape.TheConstants.{LARGEST_FANOUT}
 use Rattle.bt_node.proofs.offered.FlushSteps.{children-nodes}
 use Rattle.bt_plan.specs.Cuts.{hole_of}
 use Rattle.bt_plan.specs.Pieces.{Place, holed_nodes, holes, opened, with_holes}

@@ -5,7 +5,7 @@ use Rattle.bt_messages.proofs.offered.Fronts.{sorted_take}
 use Rattle.bt_messages.proofs.offered.Placed.{alone}
 use Rattle.bt_messages.specs.Meanings.{meaning_of}
 use Rattle.bt_messages.specs.Weights.{weigh_of}
-use Rattle.bt_node.specs.Fits.{HasShape}
+use Rattle.bt_form.specs.Fits.{HasShape}
 use Rattle.bt_plan.specs.Cuts.{cut_out, hole_of}
 use Rattle.bt_plan.specs.Pieces.{holes, with_holes}
 use Rattle.bt_plan.specs.Views.{job_of}

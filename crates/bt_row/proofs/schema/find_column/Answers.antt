@@ -11,9 +11,9 @@ here : (columns : List Column) (place : ℕ) (name : List ℕ) (column : Column)
 here columns place name column within is same = rw (drop_more columns place column within, ← is, same) refl
 
 -- or another column does
-behind : (columns : List Column) (place : ℕ) (name : List ℕ) (column : Column) → place < length columns → column ≡ get_or columns place column → pointwise ◌==◌ column.name name ≡ false
+following : (columns : List Column) (place : ℕ) (name : List ℕ) (column : Column) → place < length columns → column ≡ get_or columns place column → pointwise ◌==◌ column.name name ≡ false
     → named_from place name (drop place columns) ≡ named_from (place + 1) name (drop (place + 1) columns)
-behind columns place name column within is other = rw (drop_more columns place column within, ← is, other, add-one) refl
+following columns place name column within is other = rw (drop_more columns place column within, ← is, other, add-one) refl
 
 pub returns-then-eq : goal.returns-then-eq
 returns-then-eq c =
@@ -23,7 +23,7 @@ returns-then-eq c =
 pub loop-place-preserved : goal.loop-place-preserved
 loop-place-preserved c =
     c.loop-place.invariant
-    ∙ behind c.args.columns.now c.loop-place.place c.args.name.now c.index-columns-place.result c.loop-place-test.true c.index-columns-place.is
+    ∙ following c.args.columns.now c.loop-place.place c.args.name.now c.index-columns-place.result c.loop-place-test.true c.index-columns-place.is
     (ap (λ (bytes : List ℕ). pointwise ◌==◌ bytes c.args.name.now) (sym c.as_bytes.ensures.value) ∙ sym c.if-eq.ensures)
 
 pub returns : goal.returns

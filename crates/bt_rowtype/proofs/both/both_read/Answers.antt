@@ -7,4 +7,4 @@ pub returns-in-Err-second-2 : goal.returns-in-Err-second-2
 returns-in-Err-second-2 g c =
     let some : c.in-Err.refusal ≢ OutOfMemory = search rules in
     let too : c.in-Err-second-2.other ≢ OutOfMemory = search rules in
-    record { answer = λ one other a b _. both_refused one _ other _ _ _ _ c.in-Err.is some c.in-Err-second-2.is too c.lesser.ensures a b; both = search rules }
+    record { answer = λ one other a b _. both_refused one _ other _ _ _ _ c.in-Err.is some c.in-Err-second-2.is too c.lower.ensures a b; both = search rules }

@@ -5,7 +5,7 @@ use Rattle.bt_row.specs.Schemas.{values_of}
 use Rattle.bt_value.specs.declared.refusal.Refusal.TheVariants.{BadField, OutOfMemory}
 use Rattle.bt_value.specs.declared.value.Value.{Value}
 use Rattle.std.specs.Prelude.{option_map}
-use Rattle.bt_rowtype.proofs.Columnwise.{behind, first_more, first_none}
+use Rattle.bt_rowtype.proofs.Columnwise.{following, first_more, first_none}
 use Rattle.bt_value.proofs.offered.Results.{none_read, some_read, option_none, option_some}
 use Rattle.bt_value.proofs.offered.Exits.{answers_on_err}
 use Rattle.bt_rowtype.proofs.row_reader.read_fields.Goals as goal
@@ -38,4 +38,4 @@ loop-place-preserved c =
     let spelled = value_of column.kind c.get.result.now in
     let value = option_some more spelled c.push_field.new.row (some_read (BadField c.args.item) (option_map more spelled) c.push_field.new.row c.in_ok-push_field.ensures) in
     c.loop-place.invariant ∙ first_more columns fields place column row value.0 c.get.result.now c.loop-place-test.true c.requires (sym c.index-columns-place.is) c.get.ensures value.1
-    ∙ ap (λ (prefix : List Value). behind prefix (values_of (drop (place + 1) columns) (drop (place + 1) (take (length columns) fields)))) value.2
+    ∙ ap (λ (prefix : List Value). following prefix (values_of (drop (place + 1) columns) (drop (place + 1) (take (length columns) fields)))) value.2

@@ -3,7 +3,7 @@ use Rattle.std.proofs.lemmas.List.{append-nil}
 use Rattle.std.specs.List.{filter_map}
 use Rattle.std.specs.Result.{result_err, result_ok}
 use Rattle.bt_row.specs.Ops.{ops_of}
-use Rattle.bt_value.specs.Refusals.{least_from}
+use Rattle.bt_value.specs.Refusals.{lowest_from}
 use Rattle.bt_row.specs.declared.op.Op.{Op}
 use Rattle.bt_value.specs.declared.refusal.Refusal.{Refusal}
 use Rattle.bt_value.proofs.offered.Readings.{is_answer, with_refusal, with_value}
@@ -36,7 +36,7 @@ loop-group-preserved c =
     record {
       values = c.loop-group.invariant.values ∙ ap (λ (l : List (Result Op Refusal)). c.loop-group.reading.values ++ filter_map result_ok l) more
           ∙ with_value c.loop-group.reading.values c.add.new.self.values read (ops_of schema item (drop next fields)) c.in_ok-add.ensures.values;
-      refusal = c.loop-group.invariant.refusal ∙ ap (λ (l : List (Result Op Refusal)). least_from c.loop-group.reading.refusal (filter_map result_err l)) more
+      refusal = c.loop-group.invariant.refusal ∙ ap (λ (l : List (Result Op Refusal)). lowest_from c.loop-group.reading.refusal (filter_map result_err l)) more
           ∙ with_refusal c.loop-group.reading.refusal c.add.new.self.refusal read (ops_of schema item (drop next fields)) c.in_ok-add.ensures.refusal;
     }
 
@@ -48,4 +48,4 @@ returns-clause-values c =
 pub returns-clause-refusal : goal.returns-clause-refusal
 returns-clause-refusal c =
     let none = ops_end c.args.schema.now c.args.item c.args.fields.now (c.keys-keys.result + 3 * c.loop-group.group) (omega arith) in
-    sym (c.loop-group.invariant.refusal ∙ ap (λ (l : List (Result Op Refusal)). least_from c.loop-group.reading.refusal (filter_map result_err l)) none)
+    sym (c.loop-group.invariant.refusal ∙ ap (λ (l : List (Result Op Refusal)). lowest_from c.loop-group.reading.refusal (filter_map result_err l)) none)

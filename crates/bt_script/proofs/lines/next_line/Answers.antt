@@ -1,5 +1,5 @@
 use Rattle.std.proofs.Common.{ℕ, arith, ap, ◌∙◌, drop, length-drop}
-use Rattle.bt_script.proofs.Cuts.{after_all, after_feed, feed_behind, next_line_at}
+use Rattle.bt_script.proofs.Cuts.{after_all, after_feed, feed_after, next_line_at}
 use Rattle.bt_script.proofs.lines.next_line.Goals.{then-end-rest, else-end-rest}
 use Rattle.bt_script.proofs.lines.next_line.Goals as goal
 
@@ -15,6 +15,6 @@ returns-clause-line c =
 
 pub returns-clause-feed : goal.returns-clause-feed
 returns-clause-feed c = elim c.if-end-rest.branch [
-  | then-end-rest w ↦ λ within. rw w.next-is (feed_behind c.args.script.now c.args.at c.line_len-end.result c.line_len-end.ensures (omega (arith, within, w.next-is)))
+  | then-end-rest w ↦ λ within. rw w.next-is (feed_after c.args.script.now c.args.at c.line_len-end.result c.line_len-end.ensures (omega (arith, within, w.next-is)))
   | else-end-rest w ↦ λ within. absurd (omega (arith, within, w.next-is))
 ]

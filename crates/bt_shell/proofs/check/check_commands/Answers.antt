@@ -10,7 +10,7 @@ commands-preserved g c =
     let next = rw c.in-Some.is at c.in_ok-kind.ensures.step in
     let past = rw c.in-Some.is at c.in_ok-kind.ensures.past in (
       check_goes_on g.L.CommandLog.added (checked g.L.CommandLog.added c.args.log.now c.args.table.now (commands script)) c.commands.log c.add.new.self c.args.table.now
-          (commands (drop c.commands.at script)) (commands (drop c.in-Some.next script)) c.in-Some.kind next c.in_ok-add.ensures c.commands.invariant.0,
+          (commands (drop c.commands.at script)) (commands (drop c.in-Some.next script)) c.in-Some.kind next c.in_ok-add.ensures.adds c.commands.invariant.0,
       past.1,
     )
 

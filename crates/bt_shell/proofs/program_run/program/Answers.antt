@@ -7,31 +7,31 @@ use Rattle.bt_script.specs.declared.streams.RunFault.TheVariants.{OutOfMemory, R
 use Rattle.bt_shell.specs.Programs.{AnswersReplies, HasCause, IsToRun}
 use Rattle.bt_shell.specs.Statuses.{status_of}
 use Rattle.bt_shell.specs.declared.program_run.ProgramFault.{ProgramFault}
-use Rattle.bt_shell.specs.declared.program_run.ProgramFault.TheVariants.{Run, Words}
+use Rattle.bt_shell.specs.declared.program_run.ProgramFault.TheVariants.{Arguments, Run}
 use Rattle.bt_shell.proofs.Sound.{commands_keep_sound, hold_where_sound}
 use Rattle.bt_shell.proofs.Turns.{written-prefix}
 use Rattle.bt_shell.proofs.program_run.program.Goals as goal
 
 -- no fault has status 0
 has_status : (fault : ProgramFault) → status_of fault ≡ 0 → ⊥
-has_status Words none = omega (arith, none)
+has_status Arguments none = omega (arith, none)
 has_status (Run fault) none = omega (arith, none)
 
 -- for each fault its cause
-cause_of : {T I W : Type 0} (remaining : I → Option (List ℕ)) (contents : W → Option (List ℕ)) (words : List (List ℕ)) (input read : Counted I) (output written : Counted W) (fault : ProgramFault)
-    → (IsErrOf {T = T} (Err fault) Words → IsFaulty words)
-    → (IsErrOf {T = T} (Err fault) (Run Read) → IsToRun words)
-    → (IsErrOf {T = T} (Err fault) (Run Read) → IsToReadInput words → FailsToGive remaining input read script_limit)
+cause_of : {T I W : Type 0} (remaining : I → Option (List ℕ)) (contents : W → Option (List ℕ)) (arguments : List (List ℕ)) (input read : Counted I) (output written : Counted W) (fault : ProgramFault)
+    → (IsErrOf {T = T} (Err fault) Arguments → IsFaulty arguments)
+    → (IsErrOf {T = T} (Err fault) (Run Read) → IsToRun arguments)
+    → (IsErrOf {T = T} (Err fault) (Run Read) → IsToReadInput arguments → FailsToGive remaining input read script_limit)
     → (IsErrOf {T = T} (Err fault) (Run Read) → Took contents output written [])
     → (IsErrOf {T = T} (Err fault) (Run Write) → has_failed written ≡ true)
     → (IsErrOf {T = T} (Err fault) (Run Write) → GivesWithin remaining input read script_limit)
     → (IsErrOf {T = T} (Err fault) (Run OutOfMemory) → GivesWithin remaining input read script_limit)
-    → (IsErrOf {T = T} (Err fault) (Run OutOfMemory) → AnswersReplies remaining contents words input output written)
-    → HasCause remaining contents words input read output written fault
-cause_of remaining contents words input read output written Words faulty asked failed unread write given within replies = faulty refl
-cause_of remaining contents words input read output written (Run Read) faulty asked failed unread write given within replies = (asked refl, failed refl, unread refl)
-cause_of remaining contents words input read output written (Run Write) faulty asked failed unread write given within replies = (write refl, given refl)
-cause_of remaining contents words input read output written (Run OutOfMemory) faulty asked failed unread write given within replies = (within refl, replies refl)
+    → (IsErrOf {T = T} (Err fault) (Run OutOfMemory) → AnswersReplies remaining contents arguments input output written)
+    → HasCause remaining contents arguments input read output written fault
+cause_of remaining contents arguments input read output written Arguments faulty asked failed unread write given within replies = faulty refl
+cause_of remaining contents arguments input read output written (Run Read) faulty asked failed unread write given within replies = (asked refl, failed refl, unread refl)
+cause_of remaining contents arguments input read output written (Run Write) faulty asked failed unread write given within replies = (write refl, given refl)
+cause_of remaining contents arguments input read output written (Run OutOfMemory) faulty asked failed unread write given within replies = (within refl, replies refl)
 
 pub returns-in-Ok-clause-prefix : goal.returns-in-Ok-clause-prefix
 returns-in-Ok-clause-prefix g c =
@@ -44,14 +44,14 @@ returns-in-Ok-clause-prefix g c =
 pub returns-in-Err-clause-ok : goal.returns-in-Err-clause-ok
 returns-in-Err-clause-ok g c = λ none. absurd (has_status c.in-Err.fault (sym c.report.ensures.status ∙ none))
 
-pub returns-in-Err-clause-told : goal.returns-in-Err-clause-told
-returns-in-Err-clause-told g c =
-    let said = c.in-Err.ensures in
+pub returns-in-Err-clause-cause : goal.returns-in-Err-clause-cause
+returns-in-Err-clause-cause g c =
+    let cause = c.in-Err.ensures in
     λ _. (
       c.in-Err.fault,
       c.report.ensures.status,
-      cause_of g.I.Read.remaining g.W.Write.contents c.args.words.now c.args.input.now c.run_and_flush-ended.new.input c.args.output.now c.run_and_flush-ended.new.output c.in-Err.fault
-          said.faulty said.asked said.read said.unread said.write said.given said.memory said.replies,
+      cause_of g.I.Read.remaining g.W.Write.contents c.args.arguments.now c.args.input.now c.run_and_flush-ended.new.input c.args.output.now c.run_and_flush-ended.new.output c.in-Err.fault
+          cause.faulty cause.script cause.read cause.unread cause.write cause.given cause.memory cause.replies,
       c.report.ensures.line,
     )
 

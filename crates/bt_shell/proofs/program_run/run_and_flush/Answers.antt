@@ -10,7 +10,7 @@ returns-in_err-ended-clause-err g c =
     let held = g.W.Write.contents in
     let flushed = c.flush_output-flushed.ensures in
     let old = c.args.output.now in
-    let mid = c.run_words-ended.new.output in
+    let mid = c.run_arguments-ended.new.output in
     let new = c.flush_output-flushed.new.writer in
     let wrote = c.in_err-ended.ensures.err in
     on_err c.from_residual.result _ (
@@ -23,7 +23,7 @@ returns-in_err-ended-clause-replies g c =
     let held = g.W.Write.contents in
     let flushed = c.flush_output-flushed.ensures in
     let old = c.args.output.now in
-    let mid = c.run_words-ended.new.output in
+    let mid = c.run_arguments-ended.new.output in
     let new = c.flush_output-flushed.new.writer in
     let p = err_from_is_err_and c.from_residual.result c.from_residual.ensures.1 in
     rw (p.1, p.2) (λ memory. (
@@ -38,7 +38,7 @@ returns-in_err-flushed-clause-err g c =
     let flushed = c.flush_output-flushed.ensures in
     let input = g.I.Read.remaining (source_of c.args.input.now) in
     let old = c.args.output.now in
-    let mid = c.run_words-ended.new.output in
+    let mid = c.run_arguments-ended.new.output in
     let new = c.flush_output-flushed.new.writer in
     let wrote = c.in_ok-ended.ensures.ok in
     on_err c.from_residual-in_err-flushed.result _ (

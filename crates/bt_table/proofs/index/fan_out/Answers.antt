@@ -1,6 +1,6 @@
 use Rattle.std.proofs.Common.{◌≡◌, ◌∙◌, ap, length, map, refl, subst, sym}
 use Rattle.std.proofs.lemmas.List.{length-map}
-use Rattle.bt_node.specs.Flushes.{holds}
+use Rattle.bt_form.specs.Flushes.{holds}
 use Rattle.bt_fanout.specs.Effects.{effects_within, row_effect}
 use Rattle.bt_fanout.specs.Targets.{SuitAll, packet_of}
 use Rattle.bt_table.specs.inside.IndexTrees.{packet_for}

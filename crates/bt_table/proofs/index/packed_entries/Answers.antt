@@ -1,6 +1,6 @@
 use Rattle.std.proofs.Common.{◌∙◌, ap}
 use Rattle.std.proofs.lemmas.Result.{IfOk-weaker}
-use Rattle.bt_node.specs.Drains.{packed}
+use Rattle.bt_flush.specs.Drains.{packed}
 use Rattle.bt_table.proofs.index.packed_entries.Goals as goal
 
 pub returns : goal.returns

@@ -1,12 +1,12 @@
 use Rattle.std.proofs.Common.{rules, ◌≡◌, ◌∙◌, List, Ok, ap, fold, sym, take, true}
 use Rattle.bt_value.specs.Results.{map_ok}
 use Rattle.bt_value.specs.declared.value.Kind.{Kind}
-use Rattle.bt_node.specs.Flushes.{holds}
-use Rattle.bt_node.specs.Messages.{between}
+use Rattle.bt_form.specs.Flushes.{holds}
+use Rattle.bt_form.specs.Messages.{between}
 use Rattle.bt_fanout.specs.Covers.{is_whole}
 use Rattle.bt_fanout.specs.Effects.{entry_effect}
 use Rattle.bt_table.specs.Indexes.{index_of_ref}
-use Rattle.bt_view.specs.inside.Entries.{rows_of_entries}
+use Rattle.bt_show.specs.inside.Entries.{rows_of_entries}
 use Rattle.bt_view.proofs.IndexViews.{page_done}
 use Rattle.bt_view.proofs.pages.page_of_index.Goals as goal
 

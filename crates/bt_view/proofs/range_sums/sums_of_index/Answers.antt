@@ -2,15 +2,15 @@ use Rattle.std.proofs.Common.{rules, ◌≡◌, ◌∙◌, ℕ, List, [], Ok, No
 use Rattle.bt_value.specs.Results.{or_refused}
 use Rattle.bt_value.specs.declared.value.Kind.{Kind}
 use Rattle.bt_value.specs.declared.refusal.Refusal.TheVariants.{TooMany}
-use Rattle.bt_node.specs.Flushes.{holds}
-use Rattle.bt_node.specs.Messages.{between}
+use Rattle.bt_form.specs.Flushes.{holds}
+use Rattle.bt_form.specs.Messages.{between}
 use Rattle.bt_fanout.specs.Covers.{is_whole}
 use Rattle.bt_fanout.specs.Effects.{entry_effect}
 use Rattle.bt_table.specs.Indexes.{index_of_ref}
 use Rattle.bt_view.specs.Groups.{summed_place}
 use Rattle.bt_view.specs.Ranges.{index_schema}
-use Rattle.bt_view.specs.inside.Entries.{rows_of_entries}
-use Rattle.bt_view.specs.inside.Neighbours.{Groups}
+use Rattle.bt_show.specs.inside.Entries.{rows_of_entries}
+use Rattle.bt_show.specs.inside.Neighbours.{Groups}
 use Rattle.bt_view.proofs.IndexViews.{entries_by, sums_placed}
 use Rattle.bt_view.proofs.Summing.{of_shown}
 use Rattle.bt_view.proofs.range_sums.sums_of_index.Goals as goal

@@ -1,11 +1,11 @@
 use Rattle.std.proofs.Common.{rules, ◌≡◌, ◌≤◌, ◌∙◌, ℕ, [], Ok, None, Some, refl, sym, ap}
 use Rattle.bt_value.specs.Results.{or_refused}
 use Rattle.bt_value.specs.declared.refusal.Refusal.TheVariants.{TooMany}
-use Rattle.bt_node.specs.Flushes.{holds}
-use Rattle.bt_node.specs.Messages.{between}
+use Rattle.bt_form.specs.Flushes.{holds}
+use Rattle.bt_form.specs.Messages.{between}
 use Rattle.bt_fanout.specs.Effects.{row_effect}
 use Rattle.bt_view.specs.Groups.{summed_place}
-use Rattle.bt_view.specs.inside.Neighbours.{Groups}
+use Rattle.bt_show.specs.inside.Neighbours.{Groups}
 use Rattle.bt_view.proofs.Summing.{of_shown, sums_placed}
 use Rattle.bt_view.proofs.range_sums.sums_of_rows.Goals as goal
 

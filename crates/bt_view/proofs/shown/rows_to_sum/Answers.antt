@@ -1,7 +1,7 @@
 use Rattle.std.proofs.Common.{rules, ◌≡◌, ◌≤◌, [], Ok, Some, refl, take}
 use Rattle.std.specs.Option.{option_copied}
-use Rattle.bt_node.specs.Flushes.{holds}
-use Rattle.bt_node.specs.Messages.{between}
+use Rattle.bt_form.specs.Flushes.{holds}
+use Rattle.bt_form.specs.Messages.{between}
 use Rattle.bt_fanout.specs.Effects.{row_effect}
 use Rattle.bt_table.specs.Calls.{Shows}
 use Rattle.bt_table.specs.declared.table.TreeRef.TheVariants as shown

@@ -1,9 +1,9 @@
 use Rattle.std.proofs.Common.{rules, ◌∙◌, ap}
-use Rattle.bt_node.specs.Flushes.{holds}
-use Rattle.bt_node.specs.Messages.{between}
+use Rattle.bt_form.specs.Flushes.{holds}
+use Rattle.bt_form.specs.Messages.{between}
 use Rattle.bt_fanout.specs.Effects.{entry_effect}
-use Rattle.bt_view.specs.inside.Neighbours.{after_row}
-use Rattle.bt_view.proofs.EntryRows.{gone-through}
+use Rattle.bt_show.specs.inside.Neighbours.{after_row}
+use Rattle.bt_view.proofs.ShownRows.{gone-through}
 use Rattle.bt_view.proofs.shown.sum.Goals as goal
 
 pub returns-in_ok-entries-in-Entries : goal.returns-in_ok-entries-in-Entries

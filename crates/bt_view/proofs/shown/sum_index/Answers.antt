@@ -3,7 +3,7 @@ use Rattle.std.specs.Option.{option_copied}
 use Rattle.bt_table.specs.Calls.{Secondary}
 use Rattle.bt_table.specs.Indexes.{index_of_ref}
 use Rattle.bt_view.specs.Groups.{sums_of}
-use Rattle.bt_view.specs.inside.Neighbours.{after_row}
+use Rattle.bt_show.specs.inside.Neighbours.{after_row}
 use Rattle.bt_view.specs.inside.Shown.{rows_shown}
 use Rattle.bt_view.proofs.IndexViews.{entries_by, no_place, sums_done, sums_refused}
 use Rattle.bt_view.proofs.Summing.{of_shown, only_too_many}

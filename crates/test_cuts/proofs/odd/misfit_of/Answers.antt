@@ -1,8 +1,8 @@
 use Rattle.std.proofs.Common.{rules}
 use Rattle.bt_messages.specs.Meanings.{meaning_of}
 use Rattle.bt_gather.specs.Views.{pieces_of}
-use Rattle.bt_node.specs.Fits.{IsRoomy}
-use Rattle.bt_node.specs.declared.form.mode.Mode.TheVariants.{Absorb}
+use Rattle.bt_form.specs.Fits.{IsRoomy}
+use Rattle.bt_form.specs.declared.mode.Mode.TheVariants.{Absorb}
 use Rattle.test_cuts.proofs.Turning.{cut-in_order, cut-odd}
 use Rattle.test_cuts.proofs.odd.misfit_of.Goals as goal
 

@@ -5,11 +5,11 @@ use Rattle.bt_keycode.proofs.Escapes.{escaped_no_zero, escaped_parts}
 use Rattle.bt_keycode.proofs.code_builder.CodeBuilder.add_bytes.Goals as goal
 
 -- one more part was added, and the zero byte after it
-one_more : (wanted now new rest part behind : List ℕ) → wanted ≡ now ++ escaped rest → rest ≡ part ++ 0 ∷ behind → list_any (λ b. nat_eq b 0) part ≡ false →
-    new ≡ now ++ (part ++ (0 ∷ 255 ∷ [])) → wanted ≡ new ++ escaped behind
-one_more wanted now new rest part behind so_far whole none is =
-    so_far ∙ ap (λ bs. now ++ bs) (escaped_parts rest part behind whole none ∙ sym (append_assoc part (0 ∷ 255 ∷ []) (escaped behind)))
-    ∙ sym (append_assoc now (part ++ (0 ∷ 255 ∷ [])) (escaped behind)) ∙ ap (λ bs. bs ++ escaped behind) (sym is)
+one_more : (wanted now new rest part following : List ℕ) → wanted ≡ now ++ escaped rest → rest ≡ part ++ 0 ∷ following → list_any (λ b. nat_eq b 0) part ≡ false →
+    new ≡ now ++ (part ++ (0 ∷ 255 ∷ [])) → wanted ≡ new ++ escaped following
+one_more wanted now new rest part following so_far whole none is =
+    so_far ∙ ap (λ bs. now ++ bs) (escaped_parts rest part following whole none ∙ sym (append_assoc part (0 ∷ 255 ∷ []) (escaped following)))
+    ∙ sym (append_assoc now (part ++ (0 ∷ 255 ∷ [])) (escaped following)) ∙ ap (λ bs. bs ++ escaped following) (sym is)
 
 -- the last part and the end
 all_added : (old plain now rest end : List ℕ) → old ++ escaped plain ≡ now ++ escaped rest → list_any (λ b. nat_eq b 0) rest ≡ false →
@@ -20,7 +20,7 @@ all_added old plain now rest end so_far none =
 
 pub loop-part-preserved : goal.loop-part-preserved
 loop-part-preserved c =
-    one_more _ c.loop-part.self c.push.new.self c.loop-part.rest.now c.in-Some.part.now c.in-Some.behind.now
+    one_more _ c.loop-part.self c.push.new.self c.loop-part.rest.now c.in-Some.part.now c.in-Some.following.now
     c.loop-part.invariant c.in-Some.ensures.parts c.in-Some.ensures.first c.in_ok-push.ensures.ok
 
 pub returns : goal.returns

@@ -17,7 +17,7 @@ of_sorted-requires-2 g c =
 pub returns : goal.returns
 returns g c =
     c.of-2.ensures
-    ∙ walked c.as_slices.result.0.now c.as_slices.result.1.now _ c.as_slices-2.result.0.now c.as_slices-2.result.1.now _ c.behind.result c.behind-2.result
+    ∙ walked c.as_slices.result.0.now c.as_slices.result.1.now _ c.as_slices-2.result.0.now c.as_slices-2.result.1.now _ c.following.result c.following-2.result
     c.of.result c.as_slices.ensures.items c.as_slices-2.ensures.items
-    c.behind.ensures c.of_sorted.ensures c.behind-2.ensures c.of_sorted-2.ensures c.of.ensures
+    c.following.ensures c.of_sorted.ensures c.following-2.ensures c.of_sorted-2.ensures c.of.ensures
     ∙ c.self.view_is

@@ -4,9 +4,9 @@ use Rattle.std.specs.FinMap.{find}
 use Rattle.bt_keycode.specs.Keys.{key_cmp}
 use Rattle.bt_messages.specs.Effects.{effect_of}
 use Rattle.bt_messages.specs.Weights.{weigh_of}
-use Rattle.bt_node.specs.Fits.{IsInOrder}
-use Rattle.bt_node.specs.Flushes.{holds}
-use Rattle.bt_node.proofs.lemmas.code.RowsOfChildren.{shape_in_order}
+use Rattle.bt_form.specs.Fits.{IsInOrder}
+use Rattle.bt_form.specs.Flushes.{holds}
+use Rattle.bt_read.proofs.lemmas.code.RowsOfChildren.{shape_in_order}
 use Rattle.bt_node.proofs.tree.Tree.get.Goals as goal
 
 pub get-requires : goal.get-requires

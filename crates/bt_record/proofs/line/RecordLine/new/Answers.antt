@@ -1,5 +1,5 @@
 use Rattle.std.proofs.Common.{◌∙◌, sym}
-use Rattle.bt_record.proofs.Found.{none_behind_mark, none_of_feeds, none_with_return, record_there, some_record}
+use Rattle.bt_record.proofs.Found.{none_after_mark, none_of_feeds, none_with_return, record_there, some_record}
 use Rattle.bt_record.proofs.line.RecordLine.new.Goals.{then-has_only_feeds-via-then-has_only_feeds, then-has_only_feeds-via-else-has_only_feeds+then-has_mark}
 use Rattle.bt_record.proofs.line.RecordLine.new.Goals.{then-has_only_feeds-via-else-has_only_feeds+else-has_mark+then-has_return}
 use Rattle.bt_record.proofs.line.RecordLine.new.Goals as goal
@@ -11,7 +11,7 @@ returns-then-has_only_feeds c =
     let cut = c.without_mark-text.ensures in
     elim c.then-has_only_feeds.branch [
       | then-has_only_feeds-via-then-has_only_feeds w ↦ none_of_feeds line text cut (sym c.has_only_feeds.ensures ∙ w.if-has_only_feeds.true)
-      | then-has_only_feeds-via-else-has_only_feeds+then-has_mark w ↦ none_behind_mark line text cut (sym w.has_mark.ensures ∙ w.if-has_mark.true)
+      | then-has_only_feeds-via-else-has_only_feeds+then-has_mark w ↦ none_after_mark line text cut (sym w.has_mark.ensures ∙ w.if-has_mark.true)
       | then-has_only_feeds-via-else-has_only_feeds+else-has_mark+then-has_return w ↦ none_with_return line text cut (sym w.has_return.ensures ∙ w.if-has_return.true)
     ]
 

@@ -1,7 +1,7 @@
 use Rattle.std.proofs.Common.{rules, ◌≡◌, ◌++◌, ◌∷◌, [], None, ap, false, if◌then◌else◌, refl, subst, sym, true}
 use Rattle.std.specs.Prelude.{is_ok}
-use Rattle.bt_node.specs.Trees.{leaf}
-use Rattle.bt_value.specs.Refusals.{least}
+use Rattle.bt_form.specs.Trees.{leaf}
+use Rattle.bt_value.specs.Refusals.{lowest}
 use Rattle.bt_table.specs.Calls.{index_refusals}
 use Rattle.bt_table.specs.inside.IndexTrees.{empty_head}
 use Rattle.bt_table.proofs.Steps.{added_is_sound, create_is_step, has_trees, not_added_is}
@@ -10,14 +10,14 @@ use Rattle.bt_table.proofs.table.Table.create_index.Goals as goal
 -- the table is not lost if an index can be created
 pub take_trees-rows-requires : goal.take_trees-rows-requires
 take_trees-rows-requires c =
-    let free : least (index_refusals c.args.self.now c.args.name) ≡ None = search rules in
-    has_trees c.self.inside.schema c.self.inside.heads.items c.self.inside.trees c.args.name (subst (λ s. least (index_refusals s c.args.name) ≡ None) (sym c.self.view_is) free)
+    let free : lowest (index_refusals c.args.self.now c.args.name) ≡ None = search rules in
+    has_trees c.self.inside.schema c.self.inside.heads.items c.self.inside.trees c.args.name (subst (λ s. lowest (index_refusals s c.args.name) ≡ None) (sym c.self.view_is) free)
 
 -- the table is sound with the new index, or without it if memory runs out
 pub invariant_of-self : goal.invariant_of-self
 invariant_of-self c =
     let entries = rw (c.shape-shape.ensures) at c.add_index-added.ensures.entries in
-    let free : least (index_refusals c.args.self.now c.args.name) ≡ None = search rules in
+    let free : lowest (index_refusals c.args.self.now c.args.name) ≡ None = search rules in
     added_is_sound c.self.inside.schema c.self.inside.heads.items c.self.inside.trees _ c.take_trees-rows.ensures.taken c.self.invariant c.args.self.now
     c.self.view_is _ c.take_trees-rows.ensures.taken _ _ _ c.put_trees.ensures refl
     c.args.name c.args.def c.requires free (is_ok c.add_index-added.result) c.add_index-added.ensures.heads entries
@@ -38,7 +38,7 @@ returns-in_err-added-clause-unchanged c =
 pub returns-clause-done : goal.returns-clause-done
 returns-clause-done c =
     let ok : is_ok c.add_index-added.result ≡ true = ap is_ok c.in_ok-added.was in
-    let free : least (index_refusals c.args.self.now c.args.name) ≡ None = search rules in
+    let free : lowest (index_refusals c.args.self.now c.args.name) ≡ None = search rules in
     let heads = subst (λ b. c.add_index-added.new.heads.items
     ≡ (if b then c.self.inside.heads.items ++ empty_head c.args.name c.args.def ∷ [] else c.self.inside.heads.items)) ok c.add_index-added.ensures.heads in
     let all = rw (c.shape-shape.ensures) at c.add_index-added.ensures.entries in

@@ -1,0 +1,2 @@
+-- One node above siblings.
+pub mod Levels

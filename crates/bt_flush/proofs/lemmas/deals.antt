@@ -1,0 +1,2 @@
+-- Dealing items into parts.
+pub mod Division

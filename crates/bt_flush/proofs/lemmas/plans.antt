@@ -1,0 +1,3 @@
+-- The children that are flushed: the repeated choice gives the plan, and the loop is one pass.
+pub mod Capacity
+pub mod PlanSizes

@@ -1,0 +1,4 @@
+pub mod inside
+pub mod Drains
+pub mod Laws
+pub mod Steps

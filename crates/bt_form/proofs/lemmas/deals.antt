@@ -1,0 +1,4 @@
+-- Dealing items into parts.
+pub mod PartSizes
+pub mod Parts
+pub mod SizeAtPlace

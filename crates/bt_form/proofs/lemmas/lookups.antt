@@ -1,0 +1,2 @@
+-- The value at a key.
+pub mod Outside

@@ -1,0 +1,16 @@
+pub mod inside
+pub mod Children
+pub mod Deals
+pub mod Fits
+pub mod Flushes
+pub mod Loops
+pub mod Marks
+pub mod Messages
+pub mod Parts
+pub mod Passes
+pub mod Plans
+pub mod Portions
+pub mod Shapes
+pub mod Stored
+pub mod Trees
+pub mod Walks

@@ -1,0 +1,5 @@
+-- Definitions that only private clauses cite: the views of the code's values, and the steps of its loops.
+pub mod Falls
+pub mod Flushing
+pub mod Marks
+pub mod NodeKinds

@@ -1,5 +1,0 @@
-use Rattle.bt_gather.proofs.portion_visits.is_one_portion.Given as goal
-
--- any node that is reached will do
-abbrev pub invariant-loop : goal.invariant-loop
-invariant-loop g l = Unit {0}

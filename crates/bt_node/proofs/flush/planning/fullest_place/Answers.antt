@@ -1,5 +1,0 @@
-use Rattle.bt_node.proofs.lemmas.code.ChoiceLoop.{fullest_from-start}
-use Rattle.bt_node.proofs.flush.planning.fullest_place.Goals as goal
-
-pub loop-place-init : goal.loop-place-init
-loop-place-init c = fullest_from-start c.args.loads.now

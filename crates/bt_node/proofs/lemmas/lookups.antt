@@ -1,4 +1,0 @@
--- The value at a key.
-pub mod BinOfKey
-pub mod HeldValues
-pub mod Outside

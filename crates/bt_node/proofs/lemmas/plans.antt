@@ -1,6 +1,0 @@
--- The children that are flushed: the repeated choice gives the plan, and the loop is one pass.
-pub mod Capacity
-pub mod Marks
-pub mod OnePass
-pub mod PlanSizes
-pub mod RenewedChoice

@@ -1,0 +1,3 @@
+pub mod ForkedParts
+pub mod KeyShares
+pub mod offered

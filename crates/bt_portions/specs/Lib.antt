@@ -1,0 +1,2 @@
+pub mod KeyShares
+pub mod inside

@@ -1,0 +1,45 @@
+use Rattle.std.proofs.Common.{rules, [], ◌≡◌, ◌∷◌, ◌++◌, ap, get_or, map, subst, sym, ◌∙◌}
+use Rattle.std.proofs.lemmas.List.{nil_from_length}
+use Rattle.bt_keycode.specs.Keys.{IsSorted}
+use Rattle.bt_messages.specs.Effects.{effect_of}
+use Rattle.bt_form.specs.Messages.{from}
+use Rattle.bt_read.specs.inside.ValuesSoFar.{option_of}
+use Rattle.bt_read.specs.inside.Together.{values_after}
+use Rattle.bt_read.proofs.lemmas.code.LookupPath.{left_from}
+use Rattle.bt_read.proofs.lemmas.code.Together.{first_of, none_after, none_pending, one_after}
+use Rattle.bt_read.proofs.joint_lookup.add_after.Goals as goal
+
+pub after_messages-requires-clause-from : goal.after_messages-requires-clause-from
+after_messages-requires-clause-from g c =
+    left_from (effect_of g.V.Merge.terms.merged) c.key-item.result.now (get_or c.args.bins.now c.args.place []) c.of_sorted.result
+    (c.of_sorted.ensures ∙ c.part_from-next.ensures.from ∙ ap (from c.key-item.result.now) (c.as_slice-messages.ensures.messages ∙ c.bin.ensures.messages))
+
+pub after_messages-requires-clause-sorted : goal.after_messages-requires-clause-sorted
+after_messages-requires-clause-sorted g c = subst IsSorted (sym c.of_sorted.ensures) c.part_from-next.ensures.sorted
+
+pub loop-old-preserved : goal.loop-old-preserved
+loop-old-preserved g c =
+    let effect = effect_of g.V.Merge.terms.merged in
+    let bin = get_or c.args.bins.now c.args.place [] in
+    let seen = c.loop-old.values.items in
+    let left : c.loop-old.old-iterator.rest.items ≡ c.in-Some.old ∷ c.next.new.self.rest.items = search rules in
+    let later = c.of_sorted.ensures ∙ c.part_from-next.ensures.from ∙ ap (from c.key-item.result.now) (c.as_slice-messages.ensures.messages ∙ c.bin.ensures.messages) in
+    one_after effect bin c.of_sorted.result (λ k. k.now) option_of c.loop-old.rest.now _ c.key-item.result c.next.new.self.rest.items c.in-Some.old
+    c.in_ok-after_messages.field-0 seen c.push.new.self.items _
+    (first_of c.loop-old.rest.now c.key-item.result c.in-len1-up.len_at_least c.key-item.is) later c.in_ok-after_messages.ensures (search rules)
+    (c.loop-old.invariant ∙ ap (λ olds. map option_of seen ++ values_after effect bin (map (λ k. k.now) c.loop-old.rest.now) (map option_of olds)) left)
+
+pub returns : goal.returns
+returns g c =
+    let effect = effect_of g.V.Merge.terms.merged in
+    let bin = get_or c.args.bins.now c.args.place [] in
+    let left : c.loop-old.old-iterator.rest.items ≡ [] = nil_from_length c.loop-old.old-iterator.rest.items (search rules) in
+    none_after effect bin (map (λ k. k.now) c.loop-old.rest.now) (map option_of c.loop-old.values.items) _
+    (c.loop-old.invariant ∙ ap (λ olds. map option_of c.loop-old.values.items ++ values_after effect bin (map (λ k. k.now) c.loop-old.rest.now) (map option_of olds)) left)
+
+pub returns-then-count-eq0 : goal.returns-then-count-eq0
+returns-then-count-eq0 g c =
+    let effect = effect_of g.V.Merge.terms.merged in
+    let none : get_or c.args.bins.now c.args.place [] ≡ [] = nil_from_length _ (sym c.count.ensures.count ∙ search rules) in
+    none_pending effect (λ k. k.now) option_of (get_or c.args.bins.now c.args.place []) c.args.keys.now c.args.values.now.items c.append.new.self.items
+    c.args.below.items none c.requires.len c.in_ok-append.ensures.items

@@ -1,0 +1,65 @@
+use Rattle.std.proofs.Common.{◌≡◌, ◌∙◌, ap, arith, fold, length, None, Some, refl, rules, subst, sym, true}
+use Rattle.std.specs.FinMap.{is_sorted}
+use Rattle.bt_keycode.specs.Keys.{IsSorted, Key, key_cmp}
+use Rattle.bt_messages.specs.Effects.{effect_of}
+use Rattle.bt_messages.specs.declared.message.Message.{Message}
+use Rattle.bt_form.specs.Messages.{rows_after}
+use Rattle.bt_read.specs.inside.ValuesSoFar.{option_of}
+use Rattle.bt_read.specs.inside.Limits.{limited}
+use Rattle.bt_form.proofs.lemmas.rows.Between.{rows-in_order}
+use Rattle.bt_read.proofs.lemmas.code.LeafPass.{fewer_past, from_is, shown_end, shown_step}
+use Rattle.bt_read.proofs.lemmas.code.LentMessages.{past_in_order, rest_in_order}
+use Rattle.bt_read.proofs.lemmas.code.RowsLimited.{none_shown}
+use Rattle.bt_form.proofs.lemmas.code.RowPass.{before_of, sorted_changed, sorted_from}
+use Rattle.bt_read.proofs.leaf_visits.visit_leaf.Goals as goal
+
+pub between-requires : goal.between-requires
+between-requires g c = rows-in_order c.loop-key.left.now c.loop-key.left.now refl c.loop-key.invariant.rows
+
+pub between-requires-in-Some : goal.between-requires-in-Some
+between-requires-in-Some g c = rows-in_order c.loop-key.left.now c.loop-key.left.now refl c.loop-key.invariant.rows
+
+pub split_first-requires-clause-sorted : goal.split_first-requires-clause-sorted
+split_first-requires-clause-sorted g c =
+    subst (λ rows. is_sorted key_cmp rows ≡ true) (sym (c.between-in-Some.ensures.between ∙ from_is c.in-Some.key.now c.loop-key.left.now))
+    (sorted_from c.in-Some.key.now c.loop-key.left.now c.loop-key.invariant.rows)
+
+pub split_first-requires-clause-none_before : goal.split_first-requires-clause-none_before
+split_first-requires-clause-none_before g c =
+    before_of c.in-Some.key.now c.loop-key.left.now c.between-in-Some.result.now (c.between-in-Some.ensures.between ∙ from_is c.in-Some.key.now c.loop-key.left.now)
+
+pub loop-key-smaller : goal.loop-key-smaller
+loop-key-smaller g c =
+    omega (arith, fewer_past c.in-Some.key.now c.next.new.self, ap length c.in_ok-value.ensures.left, ap length c.in-Some.ensures)
+
+pub loop-key-preserved : goal.loop-key-preserved
+loop-key-preserved g c =
+    let effect = effect_of g.V.Merge.terms.merged in
+    let k = c.in-Some.key.now in
+    let m : Key × Message g.row.V.Denot g.row.V-Delta.Denot = (k, c.in-Some.message.now) in
+    let so_far = c.loop-key.invariant in
+    let all = fold (limited g.S.Visitor.visited) (c.args.visitor.now, c.args.limit.now) (rows_after effect c.args.messages c.args.rows.now) in
+    let later = c.between-in-Some.ensures.between ∙ from_is k c.loop-key.left.now in
+    let sorted = rest_in_order m c.loop-key.messages c.next.new.self c.in-Some.ensures so_far.messages in
+    record {
+      wanted = shown_step effect (limited g.S.Visitor.visited) m c.next.new.self c.loop-key.messages c.loop-key.left.now c.between.result.now (c.loop-key.visitor, c.loop-key.limit)
+          (c.visit_rows.new.visitor, c.visit_rows.new.limit) all c.in-Some.ensures so_far.messages so_far.rows so_far.wanted c.between.ensures.between c.in_ok-visit_rows.ensures
+          c.take_effect.new.self c.between-in-Some.result.now c.split_first.result.1.now _ (option_of c.in_ok-first.first) (option_of c.in_ok-value.value)
+          (c.visit_held.new.visitor, c.visit_held.new.limit)
+          later (c.of.ensures ∙ c.split_first.ensures.value) c.split_first.ensures.others c.in_ok-first.ensures c.in_ok-value.ensures.value c.in_ok-value.ensures.left c.in_ok-visit_held.ensures;
+      rows = subst (λ rows. is_sorted key_cmp rows ≡ true) (sym c.split_first.ensures.others)
+          (sorted_changed k None c.between-in-Some.result.now
+          (subst (λ rows. is_sorted key_cmp rows ≡ true) (sym later) (sorted_from k c.loop-key.left.now so_far.rows)));
+      messages = subst IsSorted (sym c.in_ok-value.ensures.left) (past_in_order k c.next.new.self sorted);
+    }
+
+pub returns-then-is_reached : goal.returns-then-is_reached
+returns-then-is_reached g c =
+    let effect = effect_of g.V.Merge.terms.merged in
+    let so_far = c.loop-key.invariant in
+    let all = fold (limited g.S.Visitor.visited) (c.args.visitor.now, c.args.limit.now) (rows_after effect c.args.messages c.args.rows.now) in
+    let reached : c.visit_rows.new.limit ≡ Some 0 = search rules in
+    shown_end effect (limited g.S.Visitor.visited) (c.in-Some.key.now, c.in-Some.message.now) c.next.new.self c.loop-key.messages c.loop-key.left.now
+    c.between.result.now (c.loop-key.visitor, c.loop-key.limit)
+    (c.visit_rows.new.visitor, c.visit_rows.new.limit) all c.in-Some.ensures so_far.messages so_far.rows so_far.wanted c.between.ensures.between c.in_ok-visit_rows.ensures
+    (λ rows. none_shown g.S.Visitor.visited c.visit_rows.new.visitor c.visit_rows.new.limit rows reached)

@@ -1,0 +1,3 @@
+-- Lemmas by subject.
+pub mod code
+pub mod lookups

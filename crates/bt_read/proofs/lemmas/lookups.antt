@@ -1,0 +1,3 @@
+-- The value at a key.
+pub mod BinOfKey
+pub mod HeldValues

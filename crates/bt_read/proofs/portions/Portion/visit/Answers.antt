@@ -1,0 +1,17 @@
+use Rattle.std.proofs.Common.{◌∙◌, None, ap, fold}
+use Rattle.std.proofs.lemmas.Result.{on_ok_weaker}
+use Rattle.bt_messages.specs.Effects.{effect_of}
+use Rattle.bt_form.specs.Portions.{rows_of}
+use Rattle.bt_read.specs.inside.Limits.{limited}
+use Rattle.bt_read.proofs.lemmas.code.RowsLimited.{first_rows_shown}
+use Rattle.bt_read.proofs.portions.Portion.visit.Goals as goal
+
+pub returns : goal.returns
+returns g c =
+    let visited = g.S.Visitor.visited in
+    let rows = rows_of (effect_of g.V.Merge.terms.merged) c.args.self in
+    on_ok_weaker c.visit_portion.result
+    (λ shown.
+    first_rows_shown visited c.args.visitor.now c.visit_portion.new.visitor None c.visit_portion.new.limit rows
+    (shown ∙ ap (λ l. fold (limited visited) (c.args.visitor.now, l) rows) c.none-limit.ensures))
+    c.visit_portion.ensures
