@@ -192,7 +192,7 @@ def each_page_is_linked_from_the_readme():
 
 # Folders of the repository, and those of a crate.
 FOLDERS = ("bench", "bin", "clients", "crates", "docs", "examples", "include", "man", "packaging", "tools")
-PARTS = ("src", "specs", "proofs", "must-fail")
+PARTS = ("src", "specs", "proofs", "must-fail", "wrong-bodies")
 # The repository has none of the files in these folders.
 MADE = ("out", "out/betable", "c_calls")
 

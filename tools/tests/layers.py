@@ -60,7 +60,7 @@ def shards_reply_as_one_session_does():
 
 
 def batches_are_applied_by_all_shards_or_by_none():
-    """The least refusal of all parts is replied, with its place in the whole batch."""
+    """The lowest refusal of all parts is replied, with its place in the whole batch."""
     with sharded(10, 20) as table:
         table.replies(TABLE + INDEX)
         for messages, wanted in [

@@ -297,7 +297,7 @@ class Sharded(Calls):
         return b"batch %d%b\n" % (len(lines), sums_of_sent(replies))
 
     def _refusals_of_check(self, table: Table, scripts: dict[int, bytes], places: list[int]) -> list[Refusal]:
-        """The smallest refusal of each part, with the item that it has in the whole; `places` has the shard of each item."""
+        """The lowest refusal of each part, with the item that it has in the whole; `places` has the shard of each item."""
         found = []
         replies = self._ask({shard: ("check", (table.line.text + b"\n", script)) for shard, script in scripts.items()})
         for shard, reply in zip(scripts, replies):
