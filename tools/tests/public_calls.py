@@ -28,6 +28,23 @@ def each_public_function_is_reached_by_a_program_or_a_test() -> None:
     expect(sorted(name for name, _ in found), sorted(str(one) for one in promises.functions_of(TOP) if one.crate in listed and not one.is_for_c))
 
 
+# Functions of a module of the engine, although only callers outside of it need them, each with the reason.
+BESIDE: dict[str, str] = {
+    "bt_row::copy_change": "is the copy of an upsert that the trait `Merge` requires",
+    "bt_shell::replies_to": "is the run of a script whose text is in memory",
+    "bt_shell::run_script": "is the run of a script on any streams, for which THEOREM.md states the theorem",
+}
+
+
+def functions_that_the_engine_does_not_call_are_in_library_calls() -> None:
+    """Neither the program nor the library for C reaches a function of a module of this name, and no other function stays unreached."""
+    programs = dict(House(TOP).callers())
+    found = [one for one in promises.functions_of(TOP) if not one.type and not one.is_for_c and str(one) in programs]
+    beside = [str(one) for one in found if not {"betable", "bt_c"} & set(programs[str(one)]) and one.file != "library_calls.rt" and one.crate != "bt_laws"]
+    expect(sorted(beside), sorted(BESIDE))
+    expect([str(one) for one in found if one.file == "library_calls.rt" and {"betable", "bt_c"} & set(programs[str(one)])], [])
+
+
 LIBRARY = """pub use list::{List, unused};
 pub fn used(list: &List<u8>) -> usize
     requires { list.now ≢ [] }
@@ -231,6 +248,7 @@ def contracts_that_a_page_quotes_are_those_of_the_sources() -> None:
 
 TESTS_OF_TEXTS = [
     each_public_function_is_reached_by_a_program_or_a_test,
+    functions_that_the_engine_does_not_call_are_in_library_calls,
     functions_that_no_program_reaches_are_found,
     a_call_of_the_same_name_on_another_type_does_not_count,
     the_type_of_a_receiver_is_found,

@@ -79,7 +79,28 @@ def a_lemma_that_nothing_cites_is_found():
     expect(uncited({path.relative_to(TOP): text for path, text in texts.items()}), ["crates/a/proofs/A.antt:3: left", "crates/a/proofs/A.antt:8: right"])
 
 
+def private_lemmas(crate, text, is_file):
+    """The modules of proofs that a source of this crate cites of another one, outside of what that one offers. What the prover makes of a type is no file."""
+    for other, module in re.findall(r"Rattle\.(\w+)\.proofs\.([\w.]+)", text):
+        module = module.rstrip(".")
+        if other != crate and module.split(".")[0] != "offered" and is_file(other, module):
+            yield f"{other}.{module}"
+
+
+def lemmas_of_other_crates_are_offered():
+    def is_file(crate, module):
+        return (TOP / "crates" / crate / "proofs" / f"{module.replace('.', '/')}.antt").exists()
+
+    expect([f"{path.relative_to(TOP)}: {module}" for path in sources("rt", "antt")
+            for module in private_lemmas(path.relative_to(TOP).parts[1], path.read_text(), is_file)], [])  # fmt: skip
+
+
+def a_lemma_that_is_not_offered_is_found():
+    given = "use Rattle.a.proofs.A.{x}\nuse Rattle.b.proofs.B.{y}\nuse Rattle.b.proofs.offered.B.{z}\nuse Rattle.b.proofs.key.TheLaws.{w}\n"
+    expect(list(private_lemmas("a", given, lambda _, module: "The" not in module)), ["b.B"])
+
+
 # Need no program.
 TESTS_OF_TEXTS = [lines_of_proofs_are_at_most_200_letters_long, each_lemma_is_cited, a_lemma_that_nothing_cites_is_found, words_of_comments_are_plain,
-                  comments_of_a_source_are_found]  # fmt: skip
+                  comments_of_a_source_are_found, lemmas_of_other_crates_are_offered, a_lemma_that_is_not_offered_is_found]  # fmt: skip
 TESTS = []

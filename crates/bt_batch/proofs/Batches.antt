@@ -9,7 +9,7 @@ use Rattle.bt_row.specs.Schemas.{Schema}
 use Rattle.bt_rowtype.specs.declared.item.Item.{Item}
 use Rattle.bt_value.specs.declared.refusal.Refusal.{Refusal}
 
--- ---- the least refusal of concatenated lists
+-- ---- the lowest refusal of concatenated lists
 
 pub lowest_from-append : (found : Option Refusal) (xs ys : List Refusal) → lowest_from found (xs ++ ys) ≡ lowest_from (lowest_from found xs) ys
 lowest_from-append found [] ys = refl

@@ -5,7 +5,7 @@ use Rattle.bt_value.specs.declared.refusal.Refusal.{Refusal}
 use Rattle.bt_value.specs.declared.value.Value.{Value}
 use Rattle.bt_row.specs.Ops.{Change, checked_ops, default_row}
 use Rattle.bt_row.specs.Schemas.{Schema, checked_as}
-use Rattle.bt_row.specs.declared.op.Op.{Op}
+use Rattle.bt_row.specs.declared.operations.op.Op.{Op}
 use Rattle.bt_keycode.specs.Codes.{code_of}
 use Rattle.bt_keycode.specs.Keys.{Key}
 use Rattle.bt_messages.specs.declared.message.Message.TheVariants as message

@@ -5,7 +5,7 @@ use Rattle.std.specs.Result.{result_err, result_ok}
 use Rattle.bt_value.specs.Results.{map_ok, one_if}
 use Rattle.bt_row.specs.Ops.{Change, default_row, upsert_as}
 use Rattle.bt_row.specs.Schemas.{Schema, read_as}
-use Rattle.bt_row.specs.declared.op.Op.{Op}
+use Rattle.bt_row.specs.declared.operations.op.Op.{Op}
 use Rattle.bt_value.specs.declared.refusal.Refusal.{Refusal}
 use Rattle.bt_value.specs.declared.refusal.Refusal.TheVariants.{TooMany}
 use Rattle.bt_value.specs.declared.value.Value.{Value}

@@ -139,7 +139,7 @@ impl<'s> Changes<'s> {
 
     /// Adds an upsert of the row of a key: 1 to 16 operations, which are applied in order. The key is refused like that of a del. The operations are refused as
     /// `BadLength` if they are too few or too many. Otherwise each has one fault, the first of: a column that does not exist or is a key column
-    /// (`NoSuchColumn`), arithmetic at a column that is not int (`NotInt`), a value that is not of its column (`BadField`). The smallest of the refusals is
+    /// (`NoSuchColumn`), arithmetic at a column that is not int (`NotInt`), a value that is not of its column (`BadField`). The lowest of the refusals is
     /// returned. It comes before anything is allocated. An `Err` changes nothing.
     pub fn ups(&mut self, alloc: Global, key: Row, ops: Ops) -> Result<(), Refusal>
         ensures done { OnOk result (spec.after_ups self.old key ops ≡ Ok self.new) }

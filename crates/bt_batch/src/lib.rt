@@ -8,7 +8,7 @@
 //! [`sorted_messages`] sorts messages that are made in another way.
 //!
 //! The result doesn't depend on the division into pieces or on the workers. It is the messages sorted by key, those of one key in the order of
-//! their lines, or else the least refusal that applies. The refusal of a line has the number of the line in the batch. `TooMany` is the refusal
+//! their lines, or else the lowest refusal that applies. The refusal of a line has the number of the line in the batch. `TooMany` is the refusal
 //! of more than [`MOST_MESSAGES`] lines.
 //!
 //! ```text

@@ -44,7 +44,7 @@ fn read_message(
     }
 }
 
-/// The messages of lines of a batch that follow `before` others, and the least refusal if a line is refused.
+/// The messages of lines of a batch that follow `before` others, and the lowest refusal if a line is refused.
 pub(crate) fn read_lines(
     alloc: Global,
     schema: &Schema,
@@ -84,7 +84,7 @@ fn refusal_of(
     }
 }
 
-/// The refusal of a batch with too many lines. It is the least of the refusals of the lines and of `TooMany`. No message is kept.
+/// The refusal of a batch with too many lines. It is the lowest of the refusals of the lines and of `TooMany`. No message is kept.
 pub(crate) fn refuse_many(
     alloc: Global,
     schema: &Schema,

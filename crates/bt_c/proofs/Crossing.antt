@@ -2,11 +2,11 @@
 use denote.Param.Send.{IsSend, recorded_send, sendable, struct_send, view_send}
 use denote.Struct.Declared.{shape}
 use Rattle.std.proofs.Crossing.{Vec-send, crosses}
-use Rattle.bt_row.proofs.change.Change.TheSendSync as change
-use Rattle.bt_row.proofs.row.Row.TheSendSync as row
-use Rattle.bt_row.proofs.schema.Schema.TheSendSync as schema
-use Rattle.bt_row.specs.contracts.change.Change as Change
-use Rattle.bt_row.specs.contracts.row.Row as Row
+use Rattle.bt_row.proofs.operations.change.Change.TheSendSync as change
+use Rattle.bt_row.proofs.rows.row.Row.TheSendSync as row
+use Rattle.bt_row.proofs.rows.schema.Schema.TheSendSync as schema
+use Rattle.bt_row.specs.contracts.operations.change.Change as Change
+use Rattle.bt_row.specs.contracts.rows.row.Row as Row
 use Rattle.bt_keycode.proofs.key.Key.TheSendSync as key
 use Rattle.bt_messages.proofs.bins.Bins.TheSendSync as bins
 use Rattle.bt_messages.proofs.entry.Entry.TheSendSync as entry

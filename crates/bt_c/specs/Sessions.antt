@@ -1,5 +1,5 @@
 -- The session of a handle, before and after a call.
-use Rattle.std.specs.Prelude.{ℕ, ◌≡◌, Bool, true, false, List, [], Option, Some, None, Result, Err}
+use Rattle.std.specs.Prelude.{ℕ, ◌≡◌, ◌≢◌, ◌⊎◌, Bool, true, false, List, [], Option, Some, None, Result, Ok, Err, IfSome, is_some}
 use Rattle.std.specs.Option.{MatchOption}
 use Rattle.bt_value.specs.Refusals.{number_of}
 use Rattle.bt_value.specs.declared.refusal.Refusal.TheVariants.{NoTable}
@@ -79,3 +79,16 @@ IsUnmarked session = (session.refused ≡ 0) × (session.marks.items ≡ [])
 -- a session keeps its table, or has lost it
 abbrev pub StaysOrIsLostIn : Session → Session → Type 0
 StaysOrIsLostIn old new = MatchOption old.table (new.table ≡ None) (λ before. MatchOption new.table ⊥ (StaysOrIsLost before))
+
+-- What a call does that asks the table of a session a question in packed bytes: which code it returns, the reply or the fault, and what it leaves. Without a
+-- session it returns `NotOpen`, and the handle stays closed. Otherwise it returns `Done`, `OutOfMemory` or `Refused`, and the session keeps its table. After any
+-- code but `Done` the replies are empty. No refused command is counted, and no reply has a place. Without a table the question is refused.
+pub record IsAnswered (answer : TableState → List ℕ → Result (List ℕ) Fault) (bytes : List ℕ) (old new : Handle) (seen : FaultInC) (code : ℕ) : Type 0 where
+  pub closed : session_of old ≡ None → (code ≡ code_of NotOpen) × (session_of new ≡ None)
+  pub ends : is_some (session_of old) ≡ true → (code ≡ code_of Done) ⊎ (code ≡ code_of OutOfMemory) ⊎ (code ≡ code_of Refused)
+  pub done : code ≡ code_of Done → StaysOpen old new (λ before after. reply_from answer before.table bytes ≡ Ok after.text.items)
+  pub refused : code ≡ code_of Refused → StaysOpen old new (λ before _. IsFault (reply_from answer before.table bytes) seen)
+  pub unanswered : code ≢ code_of Done → IfSome (session_of new) (λ session. session.text.items ≡ [])
+  pub unmarked : IfSome (session_of new) IsUnmarked
+  pub certain : IfSome (session_of old) (λ session. session.table ≡ None → code ≡ code_of Refused)
+  pub table : is_some (session_of old) ≡ true → StaysOpen old new (λ before after. after.table ≡ before.table)

@@ -22,7 +22,7 @@ ghost use Rattle.bt_table.specs.Standing.{CompleteIndexesHold, IsSound, IsSoundU
 ghost use Rattle.bt_table.specs.Tables.{Lost};
 ghost use Rattle.bt_packed.specs.Calls.{columns_reply, get_reply, page_reply, sums_reply, usage_reply};
 ghost use Rattle.bt_c.specs.Replies.{checked_marks, marks_of, reply_at};
-ghost use Rattle.bt_c.specs.Sessions.{IsFault, IsUnmarked, StaysOpen, StaysOrIsLostIn, answer_of, applied_to, code_of, fault_of, is_lost, reply_from, session_of};
+ghost use Rattle.bt_c.specs.Sessions.{IsAnswered, IsFault, IsUnmarked, StaysOpen, StaysOrIsLostIn, answer_of, applied_to, code_of, fault_of, is_lost, reply_from, session_of};
 ghost use Rattle.bt_c.specs.declared.status.Status.TheVariants as status;
 
 mod fault;
@@ -159,8 +159,8 @@ fn code_of_answer(ended: Result<(), Fault>, fault: &mut FaultInC) -> u32
     }
 }
 
-// The reply to a question in packed bytes.
-fn answered(
+// The reply to a question in packed bytes. Its clauses are the fields of `IsAnswered`.
+fn question_reply(
     alloc: Global,
     handle: &mut Handle,
     question: Question,
@@ -182,6 +182,19 @@ fn answered(
     let ended = session.ask(alloc, question, bytes);
     *handle = Handle::of(session);
     code_of_answer(ended, fault)
+}
+
+// The reply to a question in packed bytes.
+fn answered(
+    alloc: Global,
+    handle: &mut Handle,
+    question: Question,
+    bytes: &[u8],
+    fault: &mut FaultInC,
+) -> u32
+    ensures { IsAnswered (answer_of question) bytes.now handle.old handle.new fault.new result }
+{
+    question_reply(alloc, handle, question, bytes, fault)
 }
 
 /// Applies packed changes to the table, all or none. The replies are emptied.
@@ -222,14 +235,7 @@ pub extern "C" fn betable_get(
     key: &[u8],
     fault: &mut FaultInC,
 ) -> u32
-    ensures closed { session_of handle.old ≡ None → (result ≡ code_of status.NotOpen) × (session_of handle.new ≡ None) }
-    ensures ends { is_some (session_of handle.old) ≡ true → (result ≡ code_of status.Done) ⊎ (result ≡ code_of status.OutOfMemory) ⊎ (result ≡ code_of status.Refused) }
-    ensures done { result ≡ code_of status.Done → StaysOpen handle.old handle.new (λ old new. reply_from get_reply old.table key.now ≡ Ok new.text.items) }
-    ensures refused { result ≡ code_of status.Refused → StaysOpen handle.old handle.new (λ old _. IsFault (reply_from get_reply old.table key.now) fault.new) }
-    ensures unanswered { result ≢ code_of status.Done → IfSome (session_of handle.new) (λ session. session.text.items ≡ []) }
-    ensures unmarked { IfSome (session_of handle.new) IsUnmarked }
-    ensures certain { IfSome (session_of handle.old) (λ session. session.table ≡ None → result ≡ code_of status.Refused) }
-    ensures table { is_some (session_of handle.old) ≡ true → StaysOpen handle.old handle.new (λ old new. new.table ≡ old.table) }
+    ensures answered { IsAnswered get_reply key.now handle.old handle.new fault.new result }
 {
     answered(alloc, handle, Question::Row, key, fault)
 }
@@ -242,14 +248,7 @@ pub extern "C" fn betable_page(
     page: &[u8],
     fault: &mut FaultInC,
 ) -> u32
-    ensures closed { session_of handle.old ≡ None → (result ≡ code_of status.NotOpen) × (session_of handle.new ≡ None) }
-    ensures ends { is_some (session_of handle.old) ≡ true → (result ≡ code_of status.Done) ⊎ (result ≡ code_of status.OutOfMemory) ⊎ (result ≡ code_of status.Refused) }
-    ensures done { result ≡ code_of status.Done → StaysOpen handle.old handle.new (λ old new. reply_from page_reply old.table page.now ≡ Ok new.text.items) }
-    ensures refused { result ≡ code_of status.Refused → StaysOpen handle.old handle.new (λ old _. IsFault (reply_from page_reply old.table page.now) fault.new) }
-    ensures unanswered { result ≢ code_of status.Done → IfSome (session_of handle.new) (λ session. session.text.items ≡ []) }
-    ensures unmarked { IfSome (session_of handle.new) IsUnmarked }
-    ensures certain { IfSome (session_of handle.old) (λ session. session.table ≡ None → result ≡ code_of status.Refused) }
-    ensures table { is_some (session_of handle.old) ≡ true → StaysOpen handle.old handle.new (λ old new. new.table ≡ old.table) }
+    ensures answered { IsAnswered page_reply page.now handle.old handle.new fault.new result }
 {
     answered(alloc, handle, Question::Page, page, fault)
 }
@@ -262,14 +261,7 @@ pub extern "C" fn betable_sums(
     sums: &[u8],
     fault: &mut FaultInC,
 ) -> u32
-    ensures closed { session_of handle.old ≡ None → (result ≡ code_of status.NotOpen) × (session_of handle.new ≡ None) }
-    ensures ends { is_some (session_of handle.old) ≡ true → (result ≡ code_of status.Done) ⊎ (result ≡ code_of status.OutOfMemory) ⊎ (result ≡ code_of status.Refused) }
-    ensures done { result ≡ code_of status.Done → StaysOpen handle.old handle.new (λ old new. reply_from sums_reply old.table sums.now ≡ Ok new.text.items) }
-    ensures refused { result ≡ code_of status.Refused → StaysOpen handle.old handle.new (λ old _. IsFault (reply_from sums_reply old.table sums.now) fault.new) }
-    ensures unanswered { result ≢ code_of status.Done → IfSome (session_of handle.new) (λ session. session.text.items ≡ []) }
-    ensures unmarked { IfSome (session_of handle.new) IsUnmarked }
-    ensures certain { IfSome (session_of handle.old) (λ session. session.table ≡ None → result ≡ code_of status.Refused) }
-    ensures table { is_some (session_of handle.old) ≡ true → StaysOpen handle.old handle.new (λ old new. new.table ≡ old.table) }
+    ensures answered { IsAnswered sums_reply sums.now handle.old handle.new fault.new result }
 {
     answered(alloc, handle, Question::Sums, sums, fault)
 }
@@ -282,14 +274,7 @@ pub extern "C" fn betable_columns(
     name: &[u8],
     fault: &mut FaultInC,
 ) -> u32
-    ensures closed { session_of handle.old ≡ None → (result ≡ code_of status.NotOpen) × (session_of handle.new ≡ None) }
-    ensures ends { is_some (session_of handle.old) ≡ true → (result ≡ code_of status.Done) ⊎ (result ≡ code_of status.OutOfMemory) ⊎ (result ≡ code_of status.Refused) }
-    ensures done { result ≡ code_of status.Done → StaysOpen handle.old handle.new (λ old new. reply_from columns_reply old.table name.now ≡ Ok new.text.items) }
-    ensures refused { result ≡ code_of status.Refused → StaysOpen handle.old handle.new (λ old _. IsFault (reply_from columns_reply old.table name.now) fault.new) }
-    ensures unanswered { result ≢ code_of status.Done → IfSome (session_of handle.new) (λ session. session.text.items ≡ []) }
-    ensures unmarked { IfSome (session_of handle.new) IsUnmarked }
-    ensures certain { IfSome (session_of handle.old) (λ session. session.table ≡ None → result ≡ code_of status.Refused) }
-    ensures table { is_some (session_of handle.old) ≡ true → StaysOpen handle.old handle.new (λ old new. new.table ≡ old.table) }
+    ensures answered { IsAnswered columns_reply name.now handle.old handle.new fault.new result }
 {
     answered(alloc, handle, Question::Columns, name, fault)
 }
@@ -302,14 +287,7 @@ pub extern "C" fn betable_usage(
     name: &[u8],
     fault: &mut FaultInC,
 ) -> u32
-    ensures closed { session_of handle.old ≡ None → (result ≡ code_of status.NotOpen) × (session_of handle.new ≡ None) }
-    ensures ends { is_some (session_of handle.old) ≡ true → (result ≡ code_of status.Done) ⊎ (result ≡ code_of status.OutOfMemory) ⊎ (result ≡ code_of status.Refused) }
-    ensures done { result ≡ code_of status.Done → StaysOpen handle.old handle.new (λ old new. reply_from usage_reply old.table name.now ≡ Ok new.text.items) }
-    ensures refused { result ≡ code_of status.Refused → StaysOpen handle.old handle.new (λ old _. IsFault (reply_from usage_reply old.table name.now) fault.new) }
-    ensures unanswered { result ≢ code_of status.Done → IfSome (session_of handle.new) (λ session. session.text.items ≡ []) }
-    ensures unmarked { IfSome (session_of handle.new) IsUnmarked }
-    ensures certain { IfSome (session_of handle.old) (λ session. session.table ≡ None → result ≡ code_of status.Refused) }
-    ensures table { is_some (session_of handle.old) ≡ true → StaysOpen handle.old handle.new (λ old new. new.table ≡ old.table) }
+    ensures answered { IsAnswered usage_reply name.now handle.old handle.new fault.new result }
 {
     answered(alloc, handle, Question::Usage, name, fault)
 }

@@ -13,7 +13,7 @@ use bt_packed::{
     Fault, apply_packed, columns_packed, get_packed, page_packed, sums_packed, usage_packed,
 };
 use bt_script::{Counted, RunFault};
-use bt_shell::{check_commands, run_commands};
+use bt_shell::{Context, check_commands, run_commands};
 use bt_table::{Alone, Table};
 use bt_value::Refusal;
 use std::alloc::{AllocError, Global};
@@ -49,7 +49,12 @@ fn run_into(
     ensures kept { IfSome table.old IsSound → OnOk result (IfSome table.new IsSound) }
 {
     let mut writer = Counted::new(mem::replace(text, Vec::new(alloc)));
-    let counted = run_commands(&(), alloc, script, table, &mut writer, marks, &Alone);
+    let context = Context {
+        rt: &(),
+        alloc,
+        crew: &Alone,
+    };
+    let counted = run_commands(&context, script, table, &mut writer, marks);
     *text = writer.into_inner();
     counted
 }

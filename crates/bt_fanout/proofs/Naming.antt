@@ -13,7 +13,7 @@ use Rattle.bt_value.specs.Refusals.{lower}
 use Rattle.bt_value.specs.Values.{value_of}
 use Rattle.bt_value.specs.declared.refusal.Refusal.{Refusal}
 use Rattle.bt_value.specs.declared.refusal.Refusal.TheVariants.{BadField, NoSuchColumn, TooMany}
-use Rattle.bt_row.specs.declared.schema.Column.{Column}
+use Rattle.bt_row.specs.declared.rows.schema.Column.{Column}
 use Rattle.bt_value.specs.declared.value.Kind.{Kind}
 use Rattle.bt_value.specs.declared.value.Kind.TheVariants as kind
 use Rattle.bt_value.specs.declared.value.Value.{Value}
@@ -22,7 +22,7 @@ use Rattle.bt_keycode.specs.Codes.{kind_of}
 use Rattle.bt_fanout.specs.Definitions.{chosen, condition_at, condition_in, kinds_of, most_included, most_on, places_of}
 use Rattle.bt_fanout.specs.Entries.{HasKind, HasPlace, SuitsKinds}
 use Rattle.bt_fanout.specs.declared.definition.Condition.{Condition}
-use Rattle.bt_row.specs.declared.filter.Filter.{Filter}
+use Rattle.bt_row.specs.declared.rows.filter.Filter.{Filter}
 use Rattle.bt_fanout.proofs.offered.Suiting.{all_more, all_none}
 
 -- ---- places one by one

@@ -1,6 +1,6 @@
 -- Index messages, computed.
 use Rattle.std.proofs.Common.{◌≡◌, ℕ, ◌<◌, List, [], ◌∷◌, ◌++◌, Some, None, arith, fold, length, refl, pos}
-use Rattle.bt_row.specs.declared.filter.Test.TheVariants as test
+use Rattle.bt_row.specs.declared.rows.filter.Test.TheVariants as test
 use Rattle.bt_value.specs.declared.value.Kind.{Kind}
 use Rattle.bt_value.specs.declared.value.Kind.TheVariants as kind
 use Rattle.bt_value.specs.declared.value.Value.{Value}

@@ -7,11 +7,11 @@ use Rattle.bt_row.specs.Schemas.{Schema}
 use Rattle.bt_value.specs.Values.{value_of}
 use Rattle.bt_value.specs.declared.refusal.Refusal.{Refusal}
 use Rattle.bt_value.specs.declared.refusal.Refusal.TheVariants.{BadField, NoSuchColumn, TooMany}
-use Rattle.bt_row.specs.declared.schema.Column.{Column}
+use Rattle.bt_row.specs.declared.rows.schema.Column.{Column}
 use Rattle.bt_value.specs.declared.value.Kind.{Kind}
 use Rattle.bt_fanout.specs.Entries.{Definition}
 use Rattle.bt_fanout.specs.declared.definition.Condition.{Condition}
-use Rattle.bt_row.specs.declared.filter.Filter.{Filter}
+use Rattle.bt_row.specs.declared.rows.filter.Filter.{Filter}
 
 -- the largest number of columns that an index is ordered by
 abbrev pub most_on : ℕ
@@ -51,7 +51,7 @@ abbrev pub condition_in : List Column → Option Filter → Result (Option Condi
 condition_in columns None = Ok None
 condition_in columns (Some filter) = result_map_both Some (λ e. e) (condition_of columns filter)
 
--- the definition of an index by names, or the smallest refusal of its filter and of its columns
+-- the definition of an index by names, or the lowest refusal of its filter and of its columns
 abbrev pub definition_as : Schema → List (List ℕ) → List (List ℕ) → Option Filter → Result Definition Refusal
 definition_as schema on include filter =
     result_map_both (λ read. record { on = read.1.0; include = read.1.1; condition = read.0; keys = schema.keys }) (λ e. e)

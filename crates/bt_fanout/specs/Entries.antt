@@ -13,8 +13,8 @@ use Rattle.bt_keycode.specs.Codes.{code_of, kind_of}
 use Rattle.bt_keycode.specs.Keys.{Key}
 use Rattle.bt_keycode.specs.Standing.{row_key}
 use Rattle.bt_fanout.specs.declared.definition.Condition.{Condition}
-use Rattle.bt_row.specs.declared.filter.Test.{Test}
-use Rattle.bt_row.specs.declared.filter.Test.TheVariants as test
+use Rattle.bt_row.specs.declared.rows.filter.Test.{Test}
+use Rattle.bt_row.specs.declared.rows.filter.Test.TheVariants as test
 
 -- the definition of an index as a contract sees it: the places of the columns that it is ordered by and of those that it includes, the condition on its
 -- rows, if it has one, and the number of key columns of the table

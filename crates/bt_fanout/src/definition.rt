@@ -69,7 +69,7 @@ fn has_place(condition: &Option<Condition>, columns: usize) -> bool
 impl IndexDef {
     /// The definition of an index on 1 to 4 columns that includes up to 8, by the names of the columns. A name may occur twice.
     ///
-    /// If several refusals apply, the smallest of them is returned: `BadField` of item 1 if the constant is not a value of the filter's column, which is not
+    /// If several refusals apply, the lowest of them is returned: `BadField` of item 1 if the constant is not a value of the filter's column, which is not
     /// tested if there is no such column; `TooMany` if one of the lists is too long; `NoSuchColumn` if a name is not in the schema.
     /// Each of them is found before any memory is allocated.
     pub fn new(

@@ -19,7 +19,7 @@ use crate::effect_jobs::{EffectJob, effect_jobs, effects_of_job, message_count};
 use crate::entry_packet::index_packet;
 use crate::row_effects::{NamedKeys, effects_alone, named_keys};
 use bt_batch::merged_groups;
-use bt_gang::{Crew, Gate, Work, job_values, most_workers};
+use bt_gang::{Context, Crew, Gate, Work, job_values, most_workers};
 use bt_keycode::Key;
 use bt_messages::{Entry, Packet};
 use bt_node::Tree;
@@ -227,20 +227,20 @@ fn packet_groups(
 /// The packets of indexes for a packet of rows, which the tree does not have yet. Keys outside of the cover are not looked up.
 ///
 /// The keys are divided among the workers, as many consecutive ones for each. A worker looks its keys up in the portions of the tree at the crew's cut that own
-/// them, works out how the messages change the rows, and makes of that a packet for each index. A second round merges the packets. There is at most one worker for each job, and at most one for every four grains of messages. With one worker, or without an
-/// index, no thread starts. An `Err` is a failed allocation; every worker has ended by then. The tree is only read.
+/// them, works out how the messages change the rows, and makes of that a packet for each index. A second round merges the packets. There is at most one worker
+/// for each job, and at most one for every four grains of messages. With one worker, or without an index, no thread starts. An `Err` is a failed allocation;
+/// every worker has ended by then. The tree is only read.
 pub fn index_packets<G: Gate + Sync, T: Threads + Wait + Sync>(
-    rt: &T,
-    alloc: Global,
+    context: &Context<'_, T, Crew<G>>,
     tree: &Tree<Row>,
     packet: &Packet<Row>,
     cover: &Cover,
     indexes: &[IndexTarget<'_>],
-    crew: &Crew<G>,
 ) -> Result<Vec<Packet<Entry>>, AllocError>
     requires { SuitAll indexes.now (effects_within cover.now packet.now (holds row_effect tree.now.1)) }
     ensures { IfOk result (λ packets. packets.items ≡ map (packet_of (effects_within cover.now packet.now (holds row_effect tree.now.1))) indexes.now) }
 {
+    let Context { rt, alloc, crew } = *context;
     let crew = crew.with_at_most(most_workers(crew, packet.len()));
     if crew.workers == 1 || indexes.is_empty() {
         return index_packets_alone(alloc, tree, packet, cover, indexes);

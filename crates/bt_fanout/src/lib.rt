@@ -16,10 +16,11 @@
 //! let effects = effects(&rt, alloc, &rows, &packet, &Cover::Whole, &crew)?;
 //! let entries = index_packet(alloc, &def, &Cover::Whole, effects.as_slice())?;
 //! // the same of several indexes, by the workers of a crew
+//! let context = Context { rt: &rt, alloc, crew: &crew };
 //! let indexes = [IndexTarget { def: &def, cover: &Cover::Whole }, IndexTarget { def: &other, cover: &part }];
-//! let packets = index_packets(&rt, alloc, &rows, &packet, &Cover::Whole, &indexes, &crew)?;
+//! let packets = index_packets(&context, &rows, &packet, &Cover::Whole, &indexes)?;
 //! // the messages of a step of building that reads the first hundred rows not covered yet, and the cover after it
-//! let BuildStep { packet, cover, read } = build_step(&rt, alloc, &def, &cover, &rows, 100, &crew)?;
+//! let BuildStep { packet, cover, read } = build_step(&context, &def, &cover, &rows, 100)?;
 //! // the entries of sorted rows, from which the tree of an index is packed
 //! let entries = sorted_entries(alloc, &def, &pairs)?;
 //! ```
@@ -39,6 +40,7 @@ mod effect;
 mod effect_jobs;
 mod entry_packet;
 mod joint_packets;
+mod library_calls;
 mod puts;
 mod row_effects;
 mod selecting;
@@ -48,9 +50,9 @@ pub use building::{sorted_entries, sorted_entries_in_threads};
 pub use cover::{Cover, covers, wider};
 pub use definition::{Condition, IndexDef, MOST_INCLUDED, MOST_ON};
 pub use effect::Effect;
-pub use effect_jobs::effects;
 pub use entry_packet::index_packet;
 pub use joint_packets::{IndexTarget, index_packets, index_packets_alone};
+pub use library_calls::{effects, entry};
 pub use row_effects::effects_alone;
-pub use selecting::{entry, entry_at};
+pub use selecting::entry_at;
 pub use step::{BuildStep, build_step, build_step_alone};

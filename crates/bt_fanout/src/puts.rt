@@ -13,7 +13,7 @@ use crate::building::add_put;
 use crate::cover::{Cover, next_key};
 use crate::definition::IndexDef;
 use crate::selecting::entry_at;
-use bt_gang::{Crew, Gate};
+use bt_gang::{Context, Crew, Gate};
 use bt_keycode::Key;
 use bt_messages::{Entry, Message, Packet};
 use bt_node::{ForkVisitor, Tree, Visitor};
@@ -121,21 +121,20 @@ fn adds_nothing(earlier: &Cover, later: &Cover) -> bool
 
 /// The entries of the rows that a cover has and an earlier one has not, made by the workers of a crew in portions of the tree.
 pub(crate) fn portion_puts<'a, G: Gate + Sync, T: Threads + Wait + Sync>(
-    rt: &T,
-    alloc: Global,
+    context: &Context<'_, T, Crew<G>>,
     def: &'a IndexDef,
     earlier: &Cover,
     later: &Cover,
     tree: &Tree<Row>,
-    crew: &Crew<G>,
 ) -> Result<EntryPuts<'a>, AllocError>
     ensures { IfOk result (λ puts. puts ≡ fold puts_after_row (def.now, []) (spec.rows_between earlier.now later.now (holds row_effect tree.now.1))) }
 {
+    let alloc = context.alloc;
     let puts = EntryPuts::new(alloc, def);
     if adds_nothing(earlier, later) {
         return Ok(puts);
     }
     let from = key_after(alloc, earlier)?;
     let to = key_after(alloc, later)?;
-    read(rt, alloc, tree, from.as_ref(), to.as_ref(), puts, crew)
+    read(context, tree, from.as_ref(), to.as_ref(), puts)
 }

@@ -2,11 +2,10 @@
 ghost use Rattle.std.specs.Prelude.{◌≡◌, ◌<◌, ◌++◌, IfOk, OnOk, length};
 ghost use Rattle.std.specs.List.{All};
 ghost use Rattle.bt_keycode.specs.Codes.{code_of};
-ghost use Rattle.bt_keycode.specs.Standing.{row_key};
 ghost use Rattle.bt_fanout.specs.Entries.{HasPlace, IsWithin, entry_of, meets, passes, picked};
 
 use crate::definition::{Condition, IndexDef};
-use bt_keycode::{CodeBuilder, Key, encode_row};
+use bt_keycode::{CodeBuilder, Key};
 use bt_messages::Entry;
 use bt_row::{Row, Test, compare_values};
 use std::alloc::{AllocError, Global};
@@ -104,13 +103,4 @@ pub fn entry_at(
         entry_key(alloc, def, key, row)?,
         included_values(alloc, def, row)?,
     )))
-}
-
-/// The entry of a row as returned by [`entry_at`], under the code of the row's key columns.
-pub fn entry(alloc: Global, def: &IndexDef, row: &Row) -> Result<Option<(Key, Entry)>, AllocError>
-    requires { IsWithin def.now (length row.now) }
-    ensures { IfOk result (λ entry. entry ≡ entry_of def.now (row_key def.now.keys row.now) row.now) }
-{
-    let key = encode_row(alloc, row, def.keys())?;
-    entry_at(alloc, def, &key, row)
 }

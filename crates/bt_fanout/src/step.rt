@@ -12,7 +12,7 @@ use crate::cover::{Cover, copy_cover, next_key};
 use crate::definition::IndexDef;
 use crate::puts::{EntryPuts, portion_puts};
 use bt_batch::sorted_messages;
-use bt_gang::{Crew, Gate};
+use bt_gang::{Context, Crew, Gate};
 use bt_keycode::Key;
 use bt_messages::{Entry, Message, Packet};
 use bt_node::{Tree, Visitor};
@@ -194,18 +194,17 @@ pub fn build_step_alone(
 
 // Reads the same rows as [`read_step`]. The caller counts them; then the workers of a crew make their entries, in portions of the tree.
 fn read_by_crew<G: Gate + Sync, T: Threads + Wait + Sync>(
-    rt: &T,
-    alloc: Global,
+    context: &Context<'_, T, Crew<G>>,
     def: &IndexDef,
     cover: &Cover,
     tree: &Tree<Row>,
     count: usize,
-    crew: &Crew<G>,
 ) -> Result<StepRead, AllocError>
     requires { All (λ row. IsWithin def.now (length row.1)) (holds row_effect tree.now.1) }
     ensures { IfOk result (spec.IsStepRead def.now count cover.now (holds row_effect tree.now.1)) }
 {
-    if crew.workers == 1 {
+    let alloc = context.alloc;
+    if context.crew.workers == 1 {
         return read_step(alloc, def, cover, tree, count);
     }
     // Called for its contract: the keys of the tree rise.
@@ -214,7 +213,7 @@ fn read_by_crew<G: Gate + Sync, T: Threads + Wait + Sync>(
     read_next(alloc, cover, tree, count, &mut counter)?;
     let read = count - counter.left;
     let later = moved_cover(alloc, cover, counter)?;
-    let EntryPuts { messages, .. } = portion_puts(rt, alloc, def, cover, &later, tree, crew)?;
+    let EntryPuts { messages, .. } = portion_puts(context, def, cover, &later, tree)?;
     Ok(StepRead {
         messages,
         cover: later,
@@ -225,13 +224,11 @@ fn read_by_crew<G: Gate + Sync, T: Threads + Wait + Sync>(
 /// A step of building as returned by [`build_step_alone`]. The caller counts the rows, and the workers of a crew read them in portions of the tree and sort
 /// the messages in pieces. There is at most one worker for every four grains of messages. After an `Err` every worker has ended.
 pub fn build_step<G: Gate + Sync, T: Threads + Wait + Sync>(
-    rt: &T,
-    alloc: Global,
+    context: &Context<'_, T, Crew<G>>,
     def: &IndexDef,
     cover: &Cover,
     tree: &Tree<Row>,
     count: usize,
-    crew: &Crew<G>,
 ) -> Result<BuildStep, AllocError>
     requires { All (λ row. IsWithin def.now (length row.1)) (holds row_effect tree.now.1) }
     ensures { IfOk result (IsBuildStep def.now count cover.now (holds row_effect tree.now.1)) }
@@ -240,7 +237,8 @@ pub fn build_step<G: Gate + Sync, T: Threads + Wait + Sync>(
         messages,
         cover,
         read,
-    } = read_by_crew(rt, alloc, def, cover, tree, count, crew)?;
+    } = read_by_crew(context, def, cover, tree, count)?;
+    let Context { rt, alloc, crew } = *context;
     let packet = sorted_messages(rt, alloc, messages, crew)?;
     Ok(BuildStep {
         packet,

@@ -22,6 +22,7 @@
 
 mod answers;
 mod board;
+mod context;
 mod crew;
 mod empty_places;
 mod job_runs;
@@ -40,6 +41,7 @@ mod workers;
 
 pub use answers::{Answer, AnswerRoom, Answers};
 pub use board::Board;
+pub use context::Context;
 pub use crew::{Crew, DEEPEST_CUT, Gate, LARGEST_GRAIN, MOST_WORKERS, NoGate};
 pub use job_runs::{GangFault, Ran, run_jobs};
 pub use jobs::{JobPass, Jobs};

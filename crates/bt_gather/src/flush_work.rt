@@ -7,7 +7,7 @@ ghost use Rattle.bt_plan.specs.Views.{job_of};
 ghost use Rattle.bt_gather.specs.inside.RoundJobs.{AreRunnable, piece_of};
 
 use crate::either::{Either, one_list, two_lists};
-use bt_gang::{Crew, Gate, Work, job_values};
+use bt_gang::{Context, Crew, Gate, Work, job_values};
 use bt_messages::Merge;
 use bt_node::{Mode, Shape, Siblings, absorb_alone, drain_alone};
 use bt_plan::{Job, Place};
@@ -106,17 +106,16 @@ where
     /// The results of jobs, each run once by a crew with at most as many workers as jobs.
     pub(crate) fn pieces<G: Gate + Sync, T: Threads + Wait + Sync>(
         &self,
-        rt: &T,
-        alloc: Global,
+        context: &Context<'_, T, Crew<G>>,
         rows: Vec<ShapedJob<R>>,
         entries: Vec<ShapedJob<E>>,
-        crew: &Crew<G>,
     ) -> Result<(Vec<(Place, Siblings<R>)>, Vec<(Place, Siblings<E>)>), AllocError>
         requires rows { AreRunnable rows.items }
         requires entries { AreRunnable entries.items }
         ensures rows { IfOk result (λ pieces. pieces.0.items ≡ map (piece_of (meaning_of R.terms)) rows.items) }
         ensures entries { IfOk result (λ pieces. pieces.1.items ≡ map (piece_of (meaning_of E.terms)) entries.items) }
     {
+        let Context { rt, alloc, crew } = *context;
         let row_room = Vec::with_capacity(alloc, rows.len())?;
         let entry_room = Vec::with_capacity(alloc, entries.len())?;
         let jobs = one_list(alloc, rows, entries)?;

@@ -28,13 +28,14 @@ mod either;
 mod filling;
 mod flush_work;
 mod hole_places;
+mod library_calls;
 mod misfit;
 mod round;
 mod round_tree;
 
 pub use bt_portions::{Portion, owned_keys, read, rebuild};
-pub use filling::{FillError, fill};
 pub use flush_work::run_job;
+pub use library_calls::{FillError, fill};
 pub use misfit::Misfit;
 pub use round::{drain, sink};
 pub use round_tree::MOST_TREES;

@@ -10,7 +10,7 @@ ghost use Rattle.bt_gather.specs.Rounds.{AllHaveShape, AllHoldAfter, all_sunk};
 
 use crate::flush_work::{FlushWork, ShapedJob};
 use crate::round_tree::{MOST_TREES, cut_tree, round_trees, whole_tree, whole_trees};
-use bt_gang::{Crew, Gate, most_workers};
+use bt_gang::{Context, Crew, Gate, most_workers};
 use bt_messages::{Merge, Packet};
 use bt_node::{Mode, Tree};
 use std::alloc::{AllocError, Global};
@@ -48,7 +48,12 @@ where
     let messages = rows.messages.saturating_add(entries.messages);
     let crew = crew.with_at_most(most_workers(crew, messages));
     let work = FlushWork::<R, E>::new();
-    let (row_pieces, entry_pieces) = work.pieces(rt, alloc, rows.jobs, entries.jobs, &crew)?;
+    let context = Context {
+        rt,
+        alloc,
+        crew: &crew,
+    };
+    let (row_pieces, entry_pieces) = work.pieces(&context, rows.jobs, entries.jobs)?;
     let rows = whole_trees(alloc, rows.trees, row_pieces, rows.room)?;
     let entries = whole_trees(alloc, entries.trees, entry_pieces, entries.room)?;
     Ok((rows, entries))
@@ -73,7 +78,7 @@ where
     let (tree, jobs) = cut_tree(alloc, 0, tree, Packet::new(alloc), crew.cut, Mode::Drain)?;
     let none: Vec<ShapedJob<V>> = Vec::new(alloc);
     let work = FlushWork::<V, V>::new();
-    let (pieces, others) = work.pieces(rt, alloc, jobs, none, crew)?;
+    let (pieces, others) = work.pieces(&Context { rt, alloc, crew }, jobs, none)?;
     drop(others);
     let mut pieces = pieces.into_iter();
     whole_tree(alloc, tree, &mut pieces)

@@ -1,6 +1,6 @@
 -- Examples of codes and of their lengths, computed from the definitions.
 use Rattle.std.proofs.Common.{◌≡◌, true, false, [], ◌∷◌, pos, negsuc, refl, codes}
-use Rattle.bt_row.specs.declared.op.Op.TheVariants.{Add, Set}
+use Rattle.bt_row.specs.declared.operations.op.Op.TheVariants.{Add, Set}
 use Rattle.bt_value.specs.declared.value.Value.TheVariants as value
 use Rattle.bt_keycode.specs.Codes.{code_of, eight_bytes}
 use Rattle.bt_value.specs.Hex.{hex_text}

@@ -1,18 +1,15 @@
 //! The key code of values.
 ghost use Rattle.std.specs.List.{list_any};
 ghost use Rattle.std.specs.Prelude.{◌≡◌, ◌+◌, ◌≤◌, ◌++◌, ◌∷◌, [], IfOk, false, length, nat_eq, take};
-ghost use Rattle.bt_value.specs.Values.{value_cmp, values_cmp};
 ghost use Rattle.bt_value.specs.Views.{value_of_ref};
-ghost use Rattle.bt_keycode.specs.Codes.{HaveSameKinds, IsNoProperPrefix, code_of, code_of_value, eight_bytes, escaped, kind_of, raised};
-ghost use Rattle.bt_keycode.specs.Keys.{key_cmp};
+ghost use Rattle.bt_keycode.specs.Codes.{code_of, code_of_value, eight_bytes, escaped, raised};
 
 use crate::code_builder::{CodeBuilder, int_code};
 use crate::key::{Key, SHORT_KEY};
 use crate::zeros::split_at_zero;
-use bt_row::{Row, Values, compare_values};
-use bt_value::{Content, Value, ValueRef};
+use bt_row::{Row, Values};
+use bt_value::{Content, ValueRef};
 use std::alloc::{AllocError, Global};
-use std::cmp::Ordering;
 
 // The key that encodes an int.
 fn encode_int(alloc: Global, number: i64) -> Result<Key, AllocError>
@@ -81,9 +78,9 @@ fn encode_each(alloc: Global, values: Values<'_>) -> Result<Key, AllocError>
     code.finish()
 }
 
-// The key that encodes values. The common case of a single number is encoded directly.
+/// The key that encodes values. One of at most 22 bytes takes no memory of its own. The common case of a single number is encoded directly.
 #[tactic(auto, using(crate::proofs::CodesOfOne::code_of_one))]
-fn encode_values(alloc: Global, values: Values<'_>) -> Result<Key, AllocError>
+pub(crate) fn encode_values(alloc: Global, values: Values<'_>) -> Result<Key, AllocError>
     ensures { IfOk result (λ key. key ≡ code_of values.entry) }
 {
     let mut rest = values.copy();
@@ -95,62 +92,9 @@ fn encode_values(alloc: Global, values: Values<'_>) -> Result<Key, AllocError>
     encode_each(alloc, values)
 }
 
-/// The key that encodes the values. One of at most 22 bytes takes no memory of its own.
-pub fn encode(alloc: Global, values: &[Value]) -> Result<Key, AllocError>
-    ensures { IfOk result (λ key. key ≡ code_of values.now) }
-{
-    encode_values(alloc, Values::of(values))
-}
-
-/// The key that encodes the first values. The code of all of them begins with it.
-pub fn encode_prefix(alloc: Global, values: &[Value], count: usize) -> Result<Key, AllocError>
-    requires { count ≤ length values.now }
-    ensures { IfOk result (λ key. key ≡ code_of (take count values.now)) }
-{
-    encode(alloc, &values[..count])
-}
-
-/// The key that encodes the first values of a row, or all if there are fewer, as [`encode`] does.
+/// The key that encodes the first values of a row, or all if there are fewer. One of at most 22 bytes takes no memory of its own.
 pub fn encode_row(alloc: Global, row: &Row, count: usize) -> Result<Key, AllocError>
     ensures { IfOk result (λ key. key ≡ code_of (take count row.now)) }
 {
     encode_values(alloc, row.first_values(count))
-}
-
-// The order of two values of a kind. It is also that of their codes.
-#[tactic(auto, using(crate::proofs::Codes::value_ordered))]
-fn cmp_values(left: &Value, right: &Value) -> Ordering
-    requires { kind_of left.now ≡ kind_of right.now }
-    ensures values { result ≡ value_cmp left.now right.now }
-    ensures codes { result ≡ key_cmp (code_of_value left.now) (code_of_value right.now) }
-{
-    compare_values(left.as_ref(), right.as_ref())
-}
-
-/// The order of two lists of values of the same kinds. It is also that of their codes, and no such code is a proper prefix of another.
-#[tactic(auto, using(crate::proofs::Codes::codes_compare, crate::proofs::Codes::no_prefix))]
-pub fn cmp_rows(left: &[Value], right: &[Value]) -> Ordering
-    requires { HaveSameKinds left.now right.now }
-    ensures values { result ≡ values_cmp left.now right.now }
-    ensures codes { result ≡ key_cmp (code_of left.now) (code_of right.now) }
-    ensures no_prefix { IsNoProperPrefix (code_of left.now) (code_of right.now) }
-{
-    let mut lefts = left;
-    let mut rights = right;
-    while let [a, more_left @ ..] = lefts {
-        let [b, more_right @ ..] = rights else {
-            return Ordering::Greater;
-        };
-        let order = cmp_values(a, b);
-        if order != Ordering::Equal {
-            return order;
-        }
-        lefts = more_left;
-        rights = more_right;
-    }
-    if rights.is_empty() {
-        Ordering::Equal
-    } else {
-        Ordering::Less
-    }
 }

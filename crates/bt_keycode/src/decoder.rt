@@ -1,7 +1,6 @@
 //! Decoding values from their key code.
 ghost use Rattle.std.specs.Prelude.{◌≡◌, ◌<◌, ◌≤◌, ◌++◌, ◌∷◌, [], IfOk, IfSome, IfNone, IsErrOf, List, None, OnOk, Some, false, true, length, take, ℕ};
 ghost use Rattle.bt_keycode.specs.Codes.{IsCode, IsCodeOf, IsNoCode, raised};
-ghost use Rattle.bt_keycode.specs.Decodings.{decoded};
 ghost use Rattle.bt_keycode.specs.inside.CodeBeginnings.{BeginsWith, BeginsWithContent, BeginsWithNo, BeginsWithNoContent, reading_at_end};
 ghost use Rattle.bt_keycode.specs.inside.Readings.{after_bytes, unescaped};
 ghost use Rattle.bt_value.specs.Views.{content_of_ref, value_of_ref};
@@ -233,19 +232,4 @@ pub fn decode_onto(
     } else {
         Err(DecodeError::NotACode)
     }
-}
-
-/// The values of these kinds that the bytes encode. No other list of values of these kinds has the same code. `OutOfMemory` is returned
-/// only if the bytes are a code.
-pub fn decode(alloc: Global, kinds: &[Kind], bytes: &[u8]) -> Result<Row, DecodeError>
-    ensures code { IfOk result (λ row. IsCodeOf kinds.now bytes.now row) }
-    ensures only { IfOk result (λ row. (other : List value) → IsCodeOf kinds.now bytes.now other → other ≡ row) }
-    ensures none { IsErrOf result DecodeError.NotACode → IsNoCode kinds.now bytes.now }
-    ensures memory { IsErrOf result DecodeError.OutOfMemory → IsCode kinds.now bytes.now }
-    ensures decoded { IfOk result (λ row. decoded kinds.now bytes.now ≡ Some row) }
-    ensures undecoded { IsErrOf result DecodeError.NotACode → decoded kinds.now bytes.now ≡ None }
-{
-    let mut row = Row::new();
-    decode_onto(alloc, kinds, bytes, &mut row)?;
-    Ok(row)
 }

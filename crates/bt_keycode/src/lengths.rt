@@ -7,7 +7,7 @@ ghost use Rattle.bt_value.specs.Views.{value_of_ref};
 
 use crate::zeros::split_at_zero;
 use bt_row::{Change, Row, Values};
-use bt_value::{Content, MOST_VALUE_BYTES, Value, ValueRef};
+use bt_value::{Content, MOST_VALUE_BYTES, ValueRef};
 
 /// The largest weight, in bytes: the largest number of 24 bits.
 pub const MOST_WEIGHT: u64 = 16_777_215;
@@ -50,8 +50,8 @@ fn value_len(value: ValueRef<'_>) -> u64
     }
 }
 
-// The length of the code of values, as a weight.
-fn values_len(values: Values<'_>) -> u64
+/// The length of the code of values, or [`MOST_WEIGHT`] if that is smaller.
+pub(crate) fn values_len(values: Values<'_>) -> u64
     ensures { result ≡ code_length values.entry }
 {
     let mut rest = values;
@@ -60,13 +60,6 @@ fn values_len(values: Values<'_>) -> u64
         weight = weight_sum(weight, value_len(value));
     }
     weight
-}
-
-/// The length of the key code of the values, or [`MOST_WEIGHT`] if that is smaller.
-pub fn code_len(values: &[Value]) -> u64
-    ensures { result ≡ code_length values.now }
-{
-    values_len(Values::of(values))
 }
 
 /// The length of the key code of the values of a row, or [`MOST_WEIGHT`] if that is smaller.

@@ -7,7 +7,7 @@
 //! - a flag is one byte, 0 or 1.
 //!
 //! The code of a list is the codes of its values, one after the other. No code is a proper prefix of another one of the same kinds. The
-//! length of a code is also available without writing it, as a weight ([`code_len`]).
+//! length of a code is also available without writing it, as a weight ([`row_code_len`]).
 //!
 //! ```text
 //! let key = encode(alloc, &[Value::Int(3)])?;
@@ -26,10 +26,12 @@ mod code_builder;
 mod decoder;
 mod key;
 mod lengths;
+mod library_calls;
 mod zeros;
 
-pub use code::{cmp_rows, encode, encode_prefix, encode_row};
+pub use code::encode_row;
 pub use code_builder::CodeBuilder;
-pub use decoder::{DecodeError, decode, decode_onto, is_code};
+pub use decoder::{DecodeError, decode_onto, is_code};
 pub use key::{Key, SHORT_KEY};
-pub use lengths::{MOST_WEIGHT, change_code_len, code_len, row_code_len};
+pub use lengths::{MOST_WEIGHT, change_code_len, row_code_len};
+pub use library_calls::{cmp_rows, code_len, decode, encode, encode_prefix};

@@ -17,7 +17,7 @@ use Rattle.bt_value.specs.Ints.{digits_after, is_digit, number_written}
 use Rattle.bt_row.specs.RecordTexts.{record_text}
 use Rattle.bt_row.specs.Schemas.{Schema, fit_columns, values_of}
 use Rattle.bt_value.specs.Values.{AreInRange, text_of}
-use Rattle.bt_row.specs.declared.schema.Column.{Column}
+use Rattle.bt_row.specs.declared.rows.schema.Column.{Column}
 use Rattle.bt_value.specs.declared.value.Value.{Value}
 use Rattle.bt_keycode.specs.Keys.{Key}
 use Rattle.bt_keycode.specs.Standing.{AllStand, RowMap, Stands, row_key}

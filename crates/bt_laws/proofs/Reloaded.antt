@@ -21,7 +21,7 @@ use Rattle.bt_row.specs.Schemas.{Schema, fit_columns, is_schema, read_as, values
 use Rattle.bt_value.specs.Values.{fits_kind, text_of}
 use Rattle.bt_value.specs.declared.refusal.Refusal.{Refusal}
 use Rattle.bt_value.specs.declared.refusal.Refusal.TheVariants.{BadField, BadLength, BadSchema}
-use Rattle.bt_row.specs.declared.schema.Column.{Column}
+use Rattle.bt_row.specs.declared.rows.schema.Column.{Column}
 use Rattle.bt_value.specs.declared.value.Value.{Value}
 use Rattle.bt_keycode.specs.Keys.{key_cmp}
 use Rattle.bt_keycode.specs.Standing.{AllAreUnder, AllStand, AreOf, IsOf, RowMap}

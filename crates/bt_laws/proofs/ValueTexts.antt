@@ -14,7 +14,7 @@ use Rattle.bt_value.specs.Kinds.{kind_of}
 use Rattle.bt_row.specs.Schemas.{fit_columns, values_of, with_first}
 use Rattle.bt_value.specs.Values.{fits_kind, AreInRange, IsInRange, text_of, value_of}
 use Rattle.bt_value.specs.Texts.{is_binary}
-use Rattle.bt_row.specs.declared.schema.Column.{Column}
+use Rattle.bt_row.specs.declared.rows.schema.Column.{Column}
 use Rattle.bt_value.specs.declared.value.Kind.{Kind}
 use Rattle.bt_value.specs.declared.value.Value.{Value}
 use Rattle.bt_value.specs.declared.value.Value.TheVariants as value

@@ -2,7 +2,7 @@
 use Rattle.std.specs.Prelude.{◌≡◌, ◌++◌, List, [], None, Ok, codes, false, flat_map, length, map, true, ℕ}
 use Rattle.bt_record.specs.Records.{has_mark}
 use Rattle.bt_row.specs.RecordTexts.{record_text}
-use Rattle.bt_row.specs.declared.schema.Column.{Column}
+use Rattle.bt_row.specs.declared.rows.schema.Column.{Column}
 use Rattle.bt_value.specs.declared.value.Value.{Value}
 use Rattle.bt_table.specs.Calls.{Load, NamedTree, Rebuild, load_refusals, step, tree_named, with_rows}
 use Rattle.bt_table.specs.Tables.{Intact, PlainTable}

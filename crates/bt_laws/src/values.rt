@@ -4,7 +4,7 @@ ghost use Rattle.bt_batch.specs.Batches.{read_key, read_message};
 ghost use Rattle.bt_batch.specs.Changes.{checked_del, checked_put, checked_ups};
 ghost use Rattle.bt_row.specs.Ops.{upsert_as};
 ghost use Rattle.bt_row.specs.Schemas.{Schema, read_as};
-ghost use Rattle.bt_row.specs.declared.op.Op.{Op};
+ghost use Rattle.bt_row.specs.declared.operations.op.Op.{Op};
 ghost use Rattle.bt_rowtype.specs.declared.item.Item.TheVariants as item;
 ghost use Rattle.bt_value.specs.Results.{and_then};
 ghost use Rattle.bt_value.specs.declared.value.Value.{Value};

@@ -4,7 +4,7 @@ use Rattle.std.proofs.lemmas.Bool.{cases_Bool, ne_eqb}
 use Rattle.std.proofs.lemmas.Bool.Decides.{nat_tests}
 use Rattle.std.proofs.lemmas.List.{take_all}
 use Rattle.bt_row.specs.Schemas.{read_as}
-use Rattle.bt_row.specs.declared.schema.Column.{Column}
+use Rattle.bt_row.specs.declared.rows.schema.Column.{Column}
 
 -- a list and its first items are the same, or neither has this many items
 same_or_longer : (n : ℕ) (l : List (List ℕ)) → (take (n + 1) l ≡ l) ⊎ ((length (take (n + 1) l) ≢ n) × (length l ≢ n))

@@ -8,7 +8,7 @@ use Rattle.bt_value.specs.Refusals.{lowest}
 use Rattle.bt_value.specs.Values.{AreInRange}
 use Rattle.bt_row.specs.Schemas.{read_as}
 use Rattle.bt_value.specs.declared.refusal.Refusal.{Refusal}
-use Rattle.bt_row.specs.declared.schema.Column.{Column}
+use Rattle.bt_row.specs.declared.rows.schema.Column.{Column}
 use Rattle.bt_value.specs.declared.value.Value.{Value}
 use Rattle.bt_row.proofs.offered.Fits.{read_fits}
 use Rattle.bt_keycode.proofs.offered.Ranges.{read_in_range}

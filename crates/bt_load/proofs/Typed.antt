@@ -7,7 +7,7 @@ use Rattle.bt_value.specs.Results.{all_read, unless}
 use Rattle.bt_value.specs.Refusals.{lowest}
 use Rattle.bt_row.specs.Schemas.{read_as}
 use Rattle.bt_value.specs.declared.refusal.Refusal.{Refusal}
-use Rattle.bt_row.specs.declared.schema.Column.{Column}
+use Rattle.bt_row.specs.declared.rows.schema.Column.{Column}
 use Rattle.bt_value.specs.declared.value.Value.{Value}
 use Rattle.bt_load.specs.Loads.{typed_from}
 use Rattle.bt_load.specs.Steps.{AreRowsOrNone, IsRowOrNone}

@@ -4,7 +4,7 @@ use Rattle.std.specs.Prelude.{Ok, Err, pos}
 use Rattle.std.specs.Char.{encode_utf8}
 use Rattle.std.specs.Str.{chars, is_utf8}
 use Rattle.bt_value.specs.declared.refusal.Refusal.TheVariants.{BadField, BadLength, BadSchema, DuplicateKey}
-use Rattle.bt_row.specs.declared.schema.Column.{Column}
+use Rattle.bt_row.specs.declared.rows.schema.Column.{Column}
 use Rattle.bt_value.specs.declared.value.Kind.TheVariants as kind
 use Rattle.bt_value.specs.declared.value.Value.{Value}
 use Rattle.bt_value.specs.declared.value.Value.TheVariants as value

@@ -5,9 +5,6 @@ use bt_record::{CsvReader, RecordLine, Records};
 use std::alloc::{AllocError, Global};
 use std::marker::Model;
 
-// The list of lines starts with capacity for one record for every this many bytes, so that for most texts it isn't reallocated.
-const SHORT_RECORD: usize = 6;
-
 // The number of records from one mark to the next.
 const BETWEEN_MARKS: usize = 1024;
 
@@ -42,12 +39,12 @@ fn skip<'a>(records: Records<'a>, count: usize) -> Records<'a>
 }
 
 impl<'a> Lines<'a> {
-    /// The records that are left of a text of `len` bytes.
-    pub(crate) fn of(alloc: Global, records: Records<'a>, len: usize) -> Result<Self, AllocError>
+    /// These records.
+    pub(crate) fn of(alloc: Global, records: Records<'a>) -> Result<Self, AllocError>
         ensures { IfOk result (λ lines. lines ≡ records.entry) }
     {
         let mut records = records;
-        let mut lines = Vec::with_capacity(alloc, len / SHORT_RECORD)?;
+        let mut lines = Vec::new(alloc);
         let mut marks = Vec::new(alloc);
         loop {
             if lines.len() % BETWEEN_MARKS == 0 {

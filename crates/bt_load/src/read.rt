@@ -7,14 +7,13 @@ ghost use Rattle.bt_load.specs.Loads.{text_rows, typed_from};
 ghost use Rattle.bt_keycode.specs.Standing.{AreOf};
 
 use crate::lines::Lines;
-use crate::loading::{InThreads, Loading, MOST_THREADS};
+use crate::loading::Loading;
 use crate::typing::{all_have_values, rows_or_none, type_in_turn};
 use bt_record::{Fields, Records};
 use bt_row::{Row, Schema};
 use bt_rowtype::is_header;
 use bt_value::Refusal;
 use std::alloc::Global;
-use std::thread::Threads;
 
 // The records of a CSV text after its header. `BadSchema` means that the header isn't the names of the columns in order.
 fn records_under_header<'a>(
@@ -39,7 +38,7 @@ fn records_under_header<'a>(
     Ok(records)
 }
 
-// The rows of lines, or the least refusal.
+// The rows of lines, or the lowest refusal.
 fn rows_of_lines<L: Loading>(
     loading: &L,
     alloc: Global,
@@ -53,7 +52,7 @@ fn rows_of_lines<L: Loading>(
     if all_have_values(rows.as_slice()) {
         return Ok(rows);
     }
-    // A record was refused, or an allocation failed. One pass over all lines finds the least refusal.
+    // A record was refused, or an allocation failed. One pass over all lines finds the lowest refusal.
     let reading = type_in_turn(alloc, schema, lines.as_slice())?;
     match reading.finish() {
         Ok(rows) => Ok(rows.into_vec()),
@@ -61,32 +60,10 @@ fn rows_of_lines<L: Loading>(
     }
 }
 
-/// The rows of a CSV text after its header, in order.
+/// The rows of a CSV text after its header, in order, typed on several threads or on one.
 ///
 /// `BadSchema` means that the header isn't the names of the columns in order. `BadField` and `BadLength` mean that a record is
-/// refused. If several records are refused, the refusal with the smallest number is returned, and of equal numbers that of the first
-/// record. Records are counted from 1 after the header.
-pub fn read_records(
-    rt: &(impl Threads + Sync),
-    alloc: Global,
-    text: &[u8],
-    schema: &Schema,
-) -> Result<Vec<Row>, Refusal>
-    ensures answer { Answers (text_rows schema.now.columns text.now) (result_map_both (λ rows. rows.items) (λ e. e) result) }
-    ensures rows { IfOk result (λ rows. AreOf schema.now.columns rows.items) }
-{
-    read_records_by(
-        &InThreads {
-            rt,
-            workers: MOST_THREADS,
-        },
-        alloc,
-        text,
-        schema,
-    )
-}
-
-/// The rows of a CSV text as returned by [`read_records`], typed on several threads or on one.
+/// refused. If several records are refused, the lowest refusal is returned. Records are counted from 1 after the header.
 pub fn read_records_by<L: Loading>(
     loading: &L,
     alloc: Global,
@@ -98,6 +75,6 @@ pub fn read_records_by<L: Loading>(
     ensures rows { IfOk result (λ rows. AreOf schema.now.columns rows.items) }
 {
     let records = records_under_header(alloc, text, schema)?;
-    let lines = Lines::of(alloc, records, text.len())?;
+    let lines = Lines::of(alloc, records)?;
     rows_of_lines(loading, alloc, schema, &lines)
 }

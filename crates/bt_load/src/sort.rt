@@ -7,42 +7,16 @@ ghost use Rattle.bt_keycode.specs.Keys.{key_cmp};
 ghost use Rattle.bt_load.specs.Maps.{map_of};
 ghost use Rattle.bt_keycode.specs.Standing.{AllAreUnder, AllStand, AreOf};
 
-use crate::loading::{InThreads, Loading, MOST_THREADS};
+use crate::loading::Loading;
 use crate::placed::{ordered_keys, with_rows};
 use crate::sorted_rows::SortedRows;
 use bt_keycode::Key;
 use bt_row::{Row, Schema};
 use bt_value::Refusal;
 use std::alloc::Global;
-use std::thread::Threads;
 
-/// The rows in rising order of keys, each with its key. `DuplicateKey` has the number of the first row, counted from 1, whose key
-/// an earlier row has.
-///
-/// Rows whose keys already rise aren't sorted.
-pub fn load_rows(
-    rt: &(impl Threads + Sync),
-    alloc: Global,
-    rows: Vec<Row>,
-    schema: &Schema,
-) -> Result<Vec<(Key, Row)>, Refusal>
-    ensures answer { Answers (map_of schema.now.keys rows.items) (result_map_both (λ pairs. pairs.items) (λ e. e) result) }
-    ensures rising { IfOk result (λ pairs. IsTrue (is_sorted key_cmp pairs.items)) }
-    ensures keys { IfOk result (λ pairs. AllAreUnder schema.now.keys pairs.items) }
-    ensures stand { AreOf schema.now.columns rows.items → IfOk result (λ pairs. AllStand schema.now pairs.items) }
-{
-    load_rows_by(
-        &InThreads {
-            rt,
-            workers: MOST_THREADS,
-        },
-        alloc,
-        rows,
-        schema,
-    )
-}
-
-/// The rows in rising order of keys as returned by [`load_rows`], sorted on several threads or on one.
+/// The rows in rising order of keys, each with its key, sorted on several threads or on one. `DuplicateKey` has the number of the first
+/// row, counted from 1, whose key an earlier row has. Rows whose keys already rise aren't sorted.
 pub fn load_rows_by<L: Loading>(
     loading: &L,
     alloc: Global,

@@ -10,7 +10,7 @@ use Rattle.bt_messages.specs.declared.measure.Measure.TheVariants as measures
 use Rattle.bt_messages.specs.declared.message.Message.{Message}
 use Rattle.bt_messages.specs.declared.message.Message.TheVariants.{Put, Del, Ups}
 use Rattle.bt_row.specs.Ops as ops
-use Rattle.bt_row.specs.declared.op.Op.TheVariants.{Add}
+use Rattle.bt_row.specs.declared.operations.op.Op.TheVariants.{Add}
 use Rattle.bt_value.specs.declared.value.Value.{Value}
 use Rattle.bt_value.specs.declared.value.Value.TheVariants.{Int}
 use Rattle.bt_keycode.specs.Codes as codes

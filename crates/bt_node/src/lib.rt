@@ -44,6 +44,7 @@
 //! has worked examples of small trees, in `WorkedRows`.
 #![tactic(auto)]
 
+mod library_calls;
 mod tree;
 
 pub use bt_flush::{Opened, Step, close, open, plan};
@@ -52,4 +53,5 @@ pub use bt_form::{
     Parts, RowSource, SMALLEST_BUFFER, SMALLEST_FANOUT, SMALLEST_LEAF, Shape, Siblings,
 };
 pub use bt_read::{Copies, ForkVisitor, Portion, Visitor, Walk};
-pub use tree::{Tree, absorb_alone, crown, drain_alone, pack, pack_source, regroup};
+pub use library_calls::regroup;
+pub use tree::{Tree, absorb_alone, crown, drain_alone, pack, pack_source};

@@ -1,25 +1,23 @@
 //! Trees, and how they take packets.
-ghost use Rattle.std.specs.Prelude.{◌≡◌, ◌≤◌, [], IfOk, IsTrue, length};
+ghost use Rattle.std.specs.Prelude.{◌≡◌, [], IfOk, IsTrue, length};
 ghost use Rattle.std.specs.FinMap.{find, is_sorted};
 ghost use Rattle.bt_keycode.specs.Keys.{key_cmp};
 ghost use Rattle.bt_messages.specs.Effects.{effect_of};
 ghost use Rattle.bt_messages.specs.Meanings.{meaning_of};
-ghost use Rattle.bt_messages.specs.Weights.{load, weigh_of};
+ghost use Rattle.bt_messages.specs.Weights.{weigh_of};
 ghost use Rattle.bt_messages.specs.declared.message.Message.{Message};
-ghost use Rattle.bt_value.specs.Lists.{concatenation};
-ghost use Rattle.bt_messages.specs.Bins.{LieBetween};
 ghost use Rattle.bt_flush.specs.Drains.{AreDry, IsDry, drain, drained, packed, rebuilt};
 ghost use Rattle.bt_form.specs.Fits.{AreFit, HasShape, IsInOrder};
-ghost use Rattle.bt_form.specs.Flushes.{absorb, crown, flush_in, grouped, holds, shared, sunk};
-ghost use Rattle.bt_flush.specs.Laws.{ChosenArePlanned, ComeByOneRule, FitAbove, FitThere, FlushesInTurn, HoldAllAfter, HoldRowsAfter, HoldsAfter, HoldsAll, HoldsTheSame, KeepHeight, StandsAbove, StayWithoutPacket};
+ghost use Rattle.bt_form.specs.Flushes.{absorb, crown, flush_in, holds, sunk};
+ghost use Rattle.bt_flush.specs.Laws.{ChosenArePlanned, ComeByOneRule, FitThere, FlushesInTurn, HoldRowsAfter, HoldsAfter, HoldsAll, HoldsTheSame, KeepHeight, StandsAbove, StayWithoutPacket};
 ghost use Rattle.bt_form.specs.Messages.{Rows as RowsOf};
-ghost use Rattle.bt_form.specs.Trees.{leaf, nodes, pivots_of};
+ghost use Rattle.bt_form.specs.Trees.{leaf, nodes};
 ghost use Rattle.bt_form.specs.inside.Flushing.{IsReady};
 
-use bt_flush::{close, crown_node, flush, leaves, source_leaves};
-use bt_form::{Children, Mode, Node, RowSource, Rows, Shape, Siblings};
+use bt_flush::{crown_node, flush, leaves, source_leaves};
+use bt_form::{Mode, Node, RowSource, Rows, Shape, Siblings};
 use bt_keycode::Key;
-use bt_messages::{Bins, Merge, Packet};
+use bt_messages::{Merge, Packet};
 use bt_read::Walk;
 use std::alloc::{AllocError, Global};
 use std::marker::Model;
@@ -107,24 +105,6 @@ pub fn drain_alone<V: Merge>(
 {
     let nodes = flush_packet(alloc, shape, Mode::Drain, node, packet)?;
     Ok(nodes)
-}
-
-/// Siblings as children of inner nodes, each with its bin: the last step of a flush of an inner node. If all fit under one node,
-/// none is moved. An `Err` drops both.
-pub fn regroup<V: Merge>(
-    alloc: Global,
-    shape: Shape,
-    siblings: Siblings<V>,
-    bins: Bins<V>,
-) -> Result<Siblings<V>, AllocError>
-    requires several { 2 ≤ length siblings }
-    requires capacity { load (weigh_of V.terms) shape.measure (concatenation bins) ≤ shape.buffer }
-    requires divided { LieBetween (pivots_of siblings) bins }
-    ensures nodes { IfOk result (λ nodes. nodes ≡ grouped shape (shared siblings (concatenation bins))) }
-    ensures fits { IfOk result (FitAbove (weigh_of V.terms) shape siblings (concatenation bins)) }
-    ensures rows { IfOk result (HoldAllAfter (meaning_of V.terms) shape siblings (concatenation bins)) }
-{
-    close(alloc, shape, Children::with_pending(siblings, bins))
 }
 
 /// The tree whose root is the crown of these siblings, with the same rows. An `Err` drops the siblings.

@@ -1,7 +1,7 @@
 -- The fault of the first of several operations, or changes, is that of all of them. Serves the loops that read them.
 use Rattle.std.proofs.Common.{ℕ, zero, suc, ◌≡◌, ◌+◌, ◌<◌, ◌++◌, ◌∷◌, List, [], Err, ap, arith}
 use Rattle.bt_row.specs.Schemas.{Schema}
-use Rattle.bt_row.specs.declared.op.Op.{Op}
+use Rattle.bt_row.specs.declared.operations.op.Op.{Op}
 use Rattle.bt_batch.specs.Changes.{Changes}
 use Rattle.bt_packed.specs.Changes.{change_at, changes_from, op_at, ops_from}
 use Rattle.bt_packed.specs.Layout.{then_read}

@@ -7,8 +7,8 @@ use Rattle.bt_value.specs.declared.value.Kind.{Kind}
 use Rattle.bt_value.specs.declared.value.Kind.TheVariants as kind
 use Rattle.bt_value.specs.declared.value.Value.TheVariants as value
 use Rattle.bt_row.specs.Schemas.{Schema}
-use Rattle.bt_row.specs.declared.schema.Column.{Column}
-use Rattle.bt_row.specs.declared.op.Op.TheVariants.{Add, Set}
+use Rattle.bt_row.specs.declared.rows.schema.Column.{Column}
+use Rattle.bt_row.specs.declared.operations.op.Op.TheVariants.{Add, Set}
 use Rattle.bt_packed.specs.Calls.{count_bytes, packed_rows, packed_sums, packed_usage, total_bytes}
 use Rattle.bt_packed.specs.Changes.{op_at, ops_at}
 use Rattle.bt_packed.specs.Layout.{bad_bytes, fault_at, header_at, int_bytes, int_from, number_from, row_bytes, value_at, values_at}

@@ -6,11 +6,11 @@ use Rattle.bt_value.specs.declared.value.Value.{Value}
 use Rattle.bt_row.specs.Arithmetic.{op_making}
 use Rattle.bt_row.specs.Ops.{checked_ops}
 use Rattle.bt_row.specs.Schemas.{Schema}
-use Rattle.bt_row.specs.declared.op.Arithmetic.{Arithmetic}
-use Rattle.bt_row.specs.declared.op.Arithmetic.TheVariants as arithmetic
-use Rattle.bt_row.specs.declared.op.Op.{Op}
-use Rattle.bt_row.specs.declared.op.Op.TheVariants as op
-use Rattle.bt_row.specs.declared.schema.Column.{Column}
+use Rattle.bt_row.specs.declared.operations.op.Arithmetic.{Arithmetic}
+use Rattle.bt_row.specs.declared.operations.op.Arithmetic.TheVariants as arithmetic
+use Rattle.bt_row.specs.declared.operations.op.Op.{Op}
+use Rattle.bt_row.specs.declared.operations.op.Op.TheVariants as op
+use Rattle.bt_row.specs.declared.rows.schema.Column.{Column}
 use Rattle.bt_batch.specs.Changes.{Changes, after_del, after_put, after_ups, next_item, no_changes}
 use Rattle.bt_packed.specs.Layout.{Read, bad_bytes, fault_at, header_at, int_at, no_header, or_fault, then_read, value_at, values_at}
 use Rattle.bt_packed.specs.declared.fault.Fault.{Fault}

@@ -11,7 +11,7 @@ use Rattle.bt_value.specs.declared.value.Form.{Form}
 use Rattle.bt_value.specs.declared.value.Form.TheVariants as form
 use Rattle.bt_value.specs.declared.value.Kind.{Kind}
 use Rattle.bt_value.specs.declared.value.Value.{Value}
-use Rattle.bt_row.specs.declared.schema.Column.{Column}
+use Rattle.bt_row.specs.declared.rows.schema.Column.{Column}
 use Rattle.bt_packed.specs.declared.fault.Fault.{Fault}
 
 -- ---- from values to bytes

@@ -5,7 +5,8 @@
 //!
 //! ```text
 //! let crew = Crew::new(4, 2, 64, NoGate)?;
-//! let copies = read(&rt, alloc, &rows, Some(&from), None, Copies::new(alloc), &crew)?;
+//! let context = Context { rt: &rt, alloc, crew: &crew };
+//! let copies = read(&context, &rows, Some(&from), None, Copies::new(alloc))?;
 //! ```
 //!
 //! The definitions are in `specs`: `KeyShares` defines which portion owns which of some keys. What portions are is defined in bt_form.

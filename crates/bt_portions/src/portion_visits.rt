@@ -11,7 +11,7 @@ ghost use Rattle.bt_flush.specs.Laws.{HoldsTheSame};
 ghost use Rattle.bt_form.specs.Messages.{between};
 ghost use Rattle.bt_form.specs.Walks.{children_of};
 
-use bt_gang::{Crew, Gate, Work, job_values};
+use bt_gang::{Context, Crew, Gate, Work, job_values};
 use bt_keycode::Key;
 use bt_messages::Merge;
 use bt_node::{Copies, ForkVisitor, Portion, Tree, Visitor, Walk, pack};
@@ -162,18 +162,17 @@ pub fn read<
     G: Gate + Sync,
     T: Threads + Wait + Sync,
 >(
-    rt: &T,
-    alloc: Global,
+    context: &Context<'_, T, Crew<G>>,
     tree: &Tree<V>,
     from: Option<&Key>,
     to: Option<&Key>,
     visitor: S,
-    crew: &Crew<G>,
 ) -> Result<S, AllocError>
 where
     V::Delta: Send + Sync,
     ensures { IfOk result (λ after. after ≡ fold S.visited visitor (between (option_copied from.entry) (option_copied to.entry) (holds (effect_of V.terms.merged) tree.now.1))) }
 {
+    let Context { rt, alloc, crew } = *context;
     if crew.workers == 1 || is_one_portion(tree, crew.cut, from, to) {
         return read_alone(alloc, tree, from, to, visitor);
     }
@@ -204,7 +203,8 @@ where
 {
     let _root = tree.walk();
     let none = Copies::new(alloc);
-    let copies = read(rt, alloc, tree, None, None, none, crew)?;
+    let context = Context { rt, alloc, crew };
+    let copies = read(&context, tree, None, None, none)?;
     let rows = copies.into_rows();
     Ok(pack(alloc, tree.shape(), rows)?)
 }

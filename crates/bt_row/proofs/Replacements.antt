@@ -5,7 +5,7 @@ use Rattle.std.proofs.lemmas.List.{drop-drop, drop_all}
 use Rattle.bt_row.specs.Arithmetic.{Makes, new_number, new_value}
 use Rattle.bt_value.specs.Kinds.{form_of, kind_of, kind_of_tag, tag_of}
 use Rattle.bt_row.specs.Ops.{after_action}
-use Rattle.bt_row.specs.declared.op.Arithmetic.{Arithmetic}
+use Rattle.bt_row.specs.declared.operations.op.Arithmetic.{Arithmetic}
 use Rattle.bt_value.specs.declared.value.Kind.TheVariants as kind
 use Rattle.bt_value.specs.declared.value.Value.{Value}
 use Rattle.bt_value.specs.declared.value.Value.TheVariants as value

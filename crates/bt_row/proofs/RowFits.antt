@@ -8,10 +8,10 @@ use Rattle.bt_row.specs.Ops.{action_fault, after_action, after_op, number_fault,
 use Rattle.bt_row.specs.Fits.{OpFits}
 use Rattle.bt_row.specs.Schemas.{Schema, fit_columns}
 use Rattle.bt_value.specs.Values.{fits_kind, default_of}
-use Rattle.bt_row.specs.declared.op.Arithmetic.{Arithmetic}
-use Rattle.bt_row.specs.declared.op.Op.{Op}
+use Rattle.bt_row.specs.declared.operations.op.Arithmetic.{Arithmetic}
+use Rattle.bt_row.specs.declared.operations.op.Op.{Op}
 use Rattle.bt_value.specs.declared.refusal.Refusal.TheVariants.{BadField}
-use Rattle.bt_row.specs.declared.schema.Column.{Column}
+use Rattle.bt_row.specs.declared.rows.schema.Column.{Column}
 use Rattle.bt_value.specs.declared.value.Kind.{Kind}
 use Rattle.bt_value.specs.declared.value.Kind.TheVariants as kind
 use Rattle.bt_value.specs.declared.value.Value.{Value}

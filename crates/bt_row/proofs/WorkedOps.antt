@@ -4,9 +4,9 @@ use Rattle.bt_value.proofs.offered.OnLiterals.{values_on_literals}
 use Rattle.bt_value.specs.Kinds.{text_of, value_of}
 use Rattle.bt_row.specs.Ops.{after_ops, checked_ops, default_row, merged, ops_as, upsert_as}
 use Rattle.bt_row.specs.Schemas.{Schema}
-use Rattle.bt_row.specs.declared.op.Op.TheVariants.{Add, Max, Min, Set}
+use Rattle.bt_row.specs.declared.operations.op.Op.TheVariants.{Add, Max, Min, Set}
 use Rattle.bt_value.specs.declared.refusal.Refusal.TheVariants.{BadField, BadLength, NoSuchColumn, NotInt}
-use Rattle.bt_row.specs.declared.schema.Column.{Column}
+use Rattle.bt_row.specs.declared.rows.schema.Column.{Column}
 use Rattle.bt_value.specs.declared.value.Kind.{Kind}
 use Rattle.bt_value.specs.declared.value.Kind.TheVariants as kind
 use Rattle.bt_value.specs.declared.value.Value.TheVariants as value

@@ -2,10 +2,10 @@
 use Rattle.std.specs.Prelude.{ℕ, ◌==◌, List, codes, Option, Some, None, if◌then◌else◌, ℤ, ◌+ℤ◌}
 use Rattle.std.specs.Cmp.Lexicographic.{pointwise}
 use Rattle.std.specs.Int.{int_max, int_min, saturate_to_bits}
-use Rattle.bt_row.specs.declared.op.Arithmetic.{Arithmetic}
-use Rattle.bt_row.specs.declared.op.Arithmetic.TheVariants as arithmetic
-use Rattle.bt_row.specs.declared.op.Op.{Op}
-use Rattle.bt_row.specs.declared.op.Op.TheVariants.{Add, Max, Min, Set}
+use Rattle.bt_row.specs.declared.operations.op.Arithmetic.{Arithmetic}
+use Rattle.bt_row.specs.declared.operations.op.Arithmetic.TheVariants as arithmetic
+use Rattle.bt_row.specs.declared.operations.op.Op.{Op}
+use Rattle.bt_row.specs.declared.operations.op.Op.TheVariants.{Add, Max, Min, Set}
 use Rattle.bt_value.specs.declared.value.Value.{Value}
 use Rattle.bt_value.specs.declared.value.Value.TheVariants as value
 

@@ -2,8 +2,8 @@
 use Rattle.std.specs.Prelude.{ℕ, ◌≡◌, ◌∷◌, true, List, [], None}
 use Rattle.bt_row.specs.Ops.{argument_of, fault_of}
 use Rattle.bt_row.specs.Schemas.{Schema, is_schema}
-use Rattle.bt_row.specs.declared.op.Op.{Op}
-use Rattle.bt_row.specs.declared.schema.Column.{Column}
+use Rattle.bt_row.specs.declared.operations.op.Op.{Op}
+use Rattle.bt_row.specs.declared.rows.schema.Column.{Column}
 use Rattle.bt_value.specs.Values.{IsInRange}
 
 -- the columns, with this many of them as the key, are a schema

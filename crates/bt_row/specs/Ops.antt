@@ -9,12 +9,12 @@ use Rattle.bt_value.specs.Refusals.{lowest}
 use Rattle.bt_row.specs.Schemas.{Schema, values_of}
 use Rattle.bt_value.specs.Values.{fits_kind, default_of, value_of}
 use Rattle.bt_value.specs.Results.{all_read, both_read, or_refused, unless}
-use Rattle.bt_row.specs.declared.op.Arithmetic.{Arithmetic}
-use Rattle.bt_row.specs.declared.op.Op.{Op}
-use Rattle.bt_row.specs.declared.op.Op.TheVariants.{Set}
+use Rattle.bt_row.specs.declared.operations.op.Arithmetic.{Arithmetic}
+use Rattle.bt_row.specs.declared.operations.op.Op.{Op}
+use Rattle.bt_row.specs.declared.operations.op.Op.TheVariants.{Set}
 use Rattle.bt_value.specs.declared.refusal.Refusal.{Refusal}
 use Rattle.bt_value.specs.declared.refusal.Refusal.TheVariants.{BadField, BadLength, NoSuchColumn, NotInt}
-use Rattle.bt_row.specs.declared.schema.Column.{Column}
+use Rattle.bt_row.specs.declared.rows.schema.Column.{Column}
 use Rattle.bt_value.specs.declared.value.Kind.{Kind}
 use Rattle.bt_value.specs.declared.value.Kind.TheVariants as kind
 use Rattle.bt_value.specs.declared.value.Value.{Value}
@@ -137,7 +137,7 @@ ops_as schema item fields =
 abbrev pub key_as : Schema → ℕ → List (List ℕ) → Result (List Value) Refusal
 key_as schema item fields = or_refused (BadField item) (values_of (take schema.keys schema.columns) (take schema.keys fields))
 
--- the key and the operations that the record of an upsert encodes, or their least refusal as this item
+-- the key and the operations that the record of an upsert encodes, or their lowest refusal as this item
 abbrev pub upsert_as : Schema → ℕ → List (List ℕ) → Result (List Value × List Op) Refusal
 upsert_as schema item fields =
     if is_upsert schema.keys (length fields) then both_read (key_as schema item fields) (ops_as schema item fields) else Err (BadLength item)
@@ -168,7 +168,7 @@ action_fault schema item (Makes arithmetic place n) = number_fault (open_kind sc
 abbrev pub fault_of : Schema → ℕ → Op → Option Refusal
 fault_of schema item op = action_fault schema item (action_of op)
 
--- whether these are 1 to 16 operations that fit a schema, or their least refusal as this item
+-- whether these are 1 to 16 operations that fit a schema, or their lowest refusal as this item
 abbrev pub checked_ops : Schema → ℕ → List Op → Result (Unit {0}) Refusal
 checked_ops schema item ops =
     if nat_le 1 (length ops) && nat_le (length ops) most_ops then unless (lowest (filter_map (fault_of schema item) ops)) tt else Err (BadLength item)

@@ -2,7 +2,7 @@
 //!
 //! A [`Row`] stores its values in one string of bytes. A [`Schema`] has the columns of a table, and the first of them are the key. An
 //! operation ([`Op`]) sets one value of a row, or does arithmetic on an int. A [`Change`] has operations, and the row to begin with if a
-//! key has none. The code that depends on the operation is in one file, `op.rt`. A row is printed as one record.
+//! key has none. The code that depends on the operation is in one file, `operations/op.rt`. A row is printed as one record.
 //!
 //! The crate also defines which rows and operations the fields of a record encode ([`Schemas`](../specs/Schemas.antt),
 //! [`Ops`](../specs/Ops.antt)). It does not cut text into fields.
@@ -16,34 +16,19 @@
 //! ```
 #![tactic(auto)]
 
-// Rows of values.
-mod growing_bytes;
-mod packed_values;
-mod record_writer;
-mod row;
-mod values;
+mod library_calls;
+mod operations;
+mod rows;
 
-// Columns, and filters on rows.
-mod filter;
-mod schema;
-
-// Operations on rows.
-mod apply;
-mod arguments;
-mod arithmetic;
-mod change;
-mod lent_row;
-mod op;
-mod op_faults;
-
-pub use apply::{apply_ops, default_row};
-pub use arguments::Arguments;
-pub use change::{Change, copy_change};
-pub use filter::{Filter, Test};
-pub use growing_bytes::GrowingBytes;
-pub use op::{Action, Arithmetic, MOST_OPS, Op, Ops, SET_WORD};
-pub use op_faults::check_ops;
-pub use record_writer::{write_record, write_row};
-pub use row::{Row, copy_row};
-pub use schema::{Column, Columns, MOST_COLUMNS, MOST_KEYS, Schema, find_column};
-pub use values::{Values, compare_values, same_values};
+pub use library_calls::write_record;
+pub use operations::apply::{apply_ops, default_row};
+pub use operations::arguments::Arguments;
+pub use operations::change::{Change, copy_change};
+pub use operations::op::{Action, Arithmetic, MOST_OPS, Op, Ops, SET_WORD};
+pub use operations::op_faults::check_ops;
+pub use rows::filter::{Filter, Test};
+pub use rows::growing_bytes::GrowingBytes;
+pub use rows::record_writer::write_row;
+pub use rows::row::{Row, copy_row};
+pub use rows::schema::{Column, Columns, MOST_COLUMNS, MOST_KEYS, Schema, find_column};
+pub use rows::values::{Values, compare_values, same_values};

@@ -5,7 +5,7 @@ use Rattle.std.proofs.lemmas.Option.{get_or_from_slice_get}
 use Rattle.std.specs.Prelude.{option_map, slice_get}
 use Rattle.bt_row.specs.Schemas.{read_as, values_of, with_first}
 use Rattle.bt_value.specs.Values.{value_of}
-use Rattle.bt_row.specs.declared.schema.Column.{Column}
+use Rattle.bt_row.specs.declared.rows.schema.Column.{Column}
 use Rattle.bt_value.specs.declared.value.Value.{Value}
 
 -- values followed by others, if there are others

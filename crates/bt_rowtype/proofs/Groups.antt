@@ -4,7 +4,7 @@ use Rattle.std.proofs.lemmas.List.{drop_more}
 use Rattle.bt_rowtype.proofs.Columnwise.{at_place}
 use Rattle.bt_row.specs.Ops.{op_of, ops_of}
 use Rattle.bt_row.specs.Schemas.{Schema}
-use Rattle.bt_row.specs.declared.op.Op.{Op}
+use Rattle.bt_row.specs.declared.operations.op.Op.{Op}
 use Rattle.bt_value.specs.declared.refusal.Refusal.{Refusal}
 
 -- the operation of the three fields from a place on

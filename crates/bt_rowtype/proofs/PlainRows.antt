@@ -10,11 +10,11 @@ use Rattle.bt_value.specs.Results.{all_read, both_read, or_refused}
 use Rattle.bt_row.specs.Ops.{is_upsert, key_as, most_ops, op_of, ops_as, ops_of, upsert_as}
 use Rattle.bt_row.specs.Schemas.{Schema, values_of}
 use Rattle.bt_value.specs.Values.{value_of}
-use Rattle.bt_row.specs.declared.op.Op.{Op}
+use Rattle.bt_row.specs.declared.operations.op.Op.{Op}
 use Rattle.bt_value.specs.declared.refusal.Refusal.TheVariants.{BadField, BadLength}
 use Rattle.bt_value.specs.declared.refusal.Refusal.{Refusal}
 use Rattle.bt_value.proofs.offered.Tests.{both_true}
-use Rattle.bt_row.specs.declared.schema.Column.{Column}
+use Rattle.bt_row.specs.declared.rows.schema.Column.{Column}
 use Rattle.bt_value.specs.declared.value.Value.{Value}
 use Rattle.bt_value.specs.PlainFields.{EndsPlain, fields_from, is_special, parts_of}
 use Rattle.bt_rowtype.specs.inside.PlainRows.{HasRead}

@@ -1,7 +1,7 @@
 -- The header of a load.
 use Rattle.std.specs.Prelude.{ℕ, ◌==◌, Bool, List}
 use Rattle.std.specs.Cmp.Lexicographic.{pointwise}
-use Rattle.bt_row.specs.declared.schema.Column.{Column}
+use Rattle.bt_row.specs.declared.rows.schema.Column.{Column}
 
 -- whether fields are the names of the columns, in order
 abbrev pub is_header : List Column → List (List ℕ) → Bool

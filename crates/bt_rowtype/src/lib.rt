@@ -37,6 +37,7 @@
 mod both;
 mod header;
 mod item;
+mod library_calls;
 mod plain_row;
 mod record_reader;
 mod row_reader;
@@ -56,6 +57,6 @@ pub use bt_value::{
 };
 pub use header::is_header;
 pub use item::Item;
+pub use library_calls::{read_key, read_ops};
 pub use record_reader::RecordReader;
-pub use row_reader::{read_key, read_row};
-pub use upsert::read_ops;
+pub use row_reader::read_row;

@@ -125,11 +125,3 @@ pub fn read_row(alloc: Global, schema: &Schema, item: u64, fields: &Fields) -> R
 {
     read_values(alloc, schema.columns(), item, &fields.as_ref())
 }
-
-/// The values of the key that a record encodes, one field for each key column, refused as in [`read_row`].
-pub fn read_key(alloc: Global, schema: &Schema, item: u64, fields: &Fields) -> Result<Row, Refusal>
-    ensures answer { Answers (read_as (take schema.now.keys schema.now.columns) item fields.now) result }
-    ensures certain { length fields.now ≢ schema.now.keys → result ≡ Err (Refusal.BadLength item) }
-{
-    read_values(alloc, schema.key_columns(), item, &fields.as_ref())
-}

@@ -12,7 +12,7 @@ ghost use Rattle.bt_value.specs.Results.{both_read, or_refused};
 use crate::both::both_read;
 use crate::plain_row::read_plain_columns;
 use crate::row_reader::read_fields;
-use bt_record::{Fields, FieldsRef};
+use bt_record::FieldsRef;
 use bt_row::{Arithmetic, MOST_OPS, Op, Ops, Row, SET_WORD, Schema, find_column};
 use bt_value::{Collected, Kind, Refusal, plain_group, read_int, read_value};
 use std::alloc::{AllocError, Global};
@@ -138,8 +138,13 @@ fn read_groups(
     Ok(reading)
 }
 
-// The operations that the record of an upsert encodes.
-fn read_ops_record(
+/// The operations that the record of an upsert encodes: the fields of the key, then 1 to 16 groups of a word, the name of a column
+/// and an argument. The words are `set`, `add`, `max` and `min`.
+///
+/// `BadLength` if the number of fields is different. An operation has one fault, the first of: the word (`BadField`), a column that does
+/// not exist or is a key column (`NoSuchColumn`), an arithmetic word at a column that is not int (`NotInt`), the argument (`BadField`).
+/// If several operations have faults, the lowest refusal is returned.
+pub(crate) fn read_ops_record(
     alloc: Global,
     schema: &Schema,
     item: u64,
@@ -153,19 +158,6 @@ fn read_ops_record(
     }
     let reading = read_groups(alloc, schema, item, fields)?;
     reading.finish()
-}
-
-/// The operations that the record of an upsert encodes: the fields of the key, then 1 to 16 groups of a word, the name of a column
-/// and an argument. The words are `set`, `add`, `max` and `min`.
-///
-/// `BadLength` if the number of fields is different. An operation has one fault, the first of: the word (`BadField`), a column that does
-/// not exist or is a key column (`NoSuchColumn`), an arithmetic word at a column that is not int (`NotInt`), the argument (`BadField`).
-/// If several operations have faults, the least is returned.
-pub fn read_ops(alloc: Global, schema: &Schema, item: u64, fields: &Fields) -> Result<Ops, Refusal>
-    ensures answer { Answers (spec.ops_as schema.now item fields.now) result }
-    ensures certain { spec.is_upsert schema.now.keys (length fields.now) ≡ false → result ≡ Err (Refusal.BadLength item) }
-{
-    read_ops_record(alloc, schema, item, &fields.as_ref())
 }
 
 /// The key and the operation that a text encodes, if all fields are plain, the key is a row that keeps its values in itself, and there is
@@ -192,8 +184,8 @@ pub(crate) fn read_plain_upsert(
     }
 }
 
-/// The key and the operations that the record of an upsert encodes. They are refused as in [`read_ops`], or as `BadField` for a field of
-/// the key. If both are at fault, the smaller refusal is returned.
+/// The key and the operations that the record of an upsert encodes. They are refused as in [`read_ops_record`], or as `BadField` for a field
+/// of the key. If both are at fault, the lower refusal is returned.
 pub(crate) fn read_upsert(
     alloc: Global,
     schema: &Schema,

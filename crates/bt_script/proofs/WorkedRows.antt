@@ -2,7 +2,7 @@
 use Rattle.std.proofs.Common.{[], ◌∷◌, ◌≡◌, refl, codes}
 use Rattle.std.specs.Prelude.{Err, None, Ok, Some}
 use Rattle.bt_value.specs.declared.refusal.Refusal.TheVariants.{Syntax, Unfinished}
-use Rattle.bt_row.specs.declared.filter.Test.TheVariants as test
+use Rattle.bt_row.specs.declared.rows.filter.Test.TheVariants as test
 use Rattle.bt_value.specs.declared.value.Kind.TheVariants as kind
 use Rattle.bt_value.proofs.offered.OnLiterals.{values_on_literals}
 use Rattle.bt_script.specs.Commands.{build_command, closing_of, command_of, commands, commands_from, column_of, filter_of, table_from, index_command, index_from, line_step, names_of, table_command}

@@ -5,12 +5,12 @@ use Rattle.std.specs.List.{slice_split}
 use Rattle.std.specs.Cmp.Lexicographic.{pointwise}
 use Rattle.bt_value.specs.Kinds.{kind_of_word}
 use Rattle.bt_record.specs.Records.{record_of}
-use Rattle.bt_row.specs.declared.filter.Filter.{Filter}
-use Rattle.bt_row.specs.declared.filter.Test.{Test}
-use Rattle.bt_row.specs.declared.filter.Test.TheVariants as test
+use Rattle.bt_row.specs.declared.rows.filter.Filter.{Filter}
+use Rattle.bt_row.specs.declared.rows.filter.Test.{Test}
+use Rattle.bt_row.specs.declared.rows.filter.Test.TheVariants as test
 use Rattle.bt_value.specs.declared.refusal.Refusal.{Refusal}
 use Rattle.bt_value.specs.declared.refusal.Refusal.TheVariants.{Syntax, Unfinished}
-use Rattle.bt_row.specs.declared.schema.Column.{Column}
+use Rattle.bt_row.specs.declared.rows.schema.Column.{Column}
 use Rattle.bt_script.specs.Lines.{after_words, is_blank, is_name, lines, name_of_word, number_of_word, text_of_lines, without_return, without_spaces, words}
 use Rattle.bt_script.specs.declared.command.Capacity.{Capacity}
 use Rattle.bt_script.specs.declared.command.Capacity.TheVariants.{Bytes, Messages}

@@ -13,11 +13,6 @@ pub const SCRIPT_LIMIT: usize = 67_108_864;
 // The number of bytes that one read asks for.
 const PIECE_SIZE: usize = 8_192;
 
-// The number of bytes that are allocated for a piece, although only a piece of them is used. The C library gives the end of its heap back to the system if
-// more is free than twice the largest block that it mapped on its own and gave back, 32 MiB at most. Without such a block it does so after each batch, and the
-// next batch has to get the pages again.
-const ROOM_SIZE: usize = 33_488_896;
-
 /// Why a run ends early.
 #[derive(Debug, Drop, Error)]
 #[error("{text}", text = self.text())]
@@ -68,9 +63,9 @@ pub fn read_script<R: Read>(alloc: Global, reader: &mut Counted<R>) -> Result<Ve
     ensures write { IsErrOf result RunFault.Write → ⊥ }
 {
     let mut script = Vec::new(alloc);
-    let mut room = Vec::with_capacity(alloc, ROOM_SIZE)?;
-    room.resize(PIECE_SIZE, 0)?;
-    let piece = room.as_mut_slice();
+    let mut buffer = Vec::with_capacity(alloc, PIECE_SIZE)?;
+    buffer.resize(PIECE_SIZE, 0)?;
+    let piece = buffer.as_mut_slice();
     'pieces: loop {
         let left = SCRIPT_LIMIT - script.len();
         let asked = piece.len().min(left + 1);

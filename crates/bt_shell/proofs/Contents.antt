@@ -13,7 +13,7 @@ use Rattle.bt_row.specs.Schemas.{Schema, is_schema}
 use Rattle.bt_rowtype.specs.declared.item.Item.{Item}
 use Rattle.bt_value.specs.declared.refusal.Refusal.{Refusal}
 use Rattle.bt_value.specs.declared.refusal.Refusal.TheVariants.{AlreadyComplete, BadSchema, BadShape, NameTaken, NoSuchTree, TableExists, TooMany}
-use Rattle.bt_row.specs.declared.schema.Column.{Column}
+use Rattle.bt_row.specs.declared.rows.schema.Column.{Column}
 use Rattle.bt_value.specs.declared.value.Value.{Value}
 use Rattle.bt_keycode.specs.Codes.{code_of}
 use Rattle.bt_keycode.specs.Keys.{Key, key_cmp}

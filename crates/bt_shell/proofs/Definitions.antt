@@ -1,4 +1,4 @@
--- The definition of a new index, or its smallest refusal. Serves the command that creates one.
+-- The definition of a new index, or its lowest refusal. Serves the command that creates one.
 use Rattle.std.proofs.Common.{◌≡◌, None, Some, OnOk, IfErr, Option, Result, Ok, Err, ap, refl, subst}
 use Rattle.bt_value.specs.Answers.{Answers}
 use Rattle.bt_value.specs.Refusals.{lowest}

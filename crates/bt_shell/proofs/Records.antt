@@ -14,9 +14,9 @@ use Rattle.bt_rowtype.specs.declared.item.Item.{Item}
 use Rattle.bt_rowtype.specs.declared.item.Item.TheVariants.{Put, Del, Ups}
 use Rattle.bt_value.specs.declared.refusal.Refusal.{Refusal}
 use Rattle.bt_value.specs.declared.refusal.Refusal.TheVariants.{BadField, BadLength}
-use Rattle.bt_row.specs.declared.schema.Column.{Column}
-use Rattle.bt_row.specs.declared.op.Arithmetic.{Arithmetic}
-use Rattle.bt_row.specs.declared.op.Op.TheVariants.{Set}
+use Rattle.bt_row.specs.declared.rows.schema.Column.{Column}
+use Rattle.bt_row.specs.declared.operations.op.Arithmetic.{Arithmetic}
+use Rattle.bt_row.specs.declared.operations.op.Op.TheVariants.{Set}
 use Rattle.bt_value.specs.declared.value.Kind.{Kind}
 use Rattle.bt_value.specs.declared.value.Kind.TheVariants as kind
 use Rattle.bt_value.specs.declared.value.Value.{Value}

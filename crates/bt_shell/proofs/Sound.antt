@@ -4,7 +4,7 @@ use Rattle.std.proofs.lemmas.Bool.Decides.{nat_tests}
 use Rattle.bt_value.specs.Refusals.{lowest}
 use Rattle.bt_row.specs.Schemas.{is_schema}
 use Rattle.bt_value.specs.Results.{unless, one_if}
-use Rattle.bt_row.specs.declared.schema.Column.{Column}
+use Rattle.bt_row.specs.declared.rows.schema.Column.{Column}
 use Rattle.bt_value.specs.declared.refusal.Refusal.{Refusal}
 use Rattle.bt_value.specs.declared.refusal.Refusal.TheVariants.{BadSchema, BadShape, TableExists}
 use Rattle.bt_script.specs.Commands.{Answer}

@@ -4,7 +4,7 @@ use Rattle.std.specs.Prelude.{Ok, Some, None, pos}
 use Rattle.std.specs.Char.{encode_utf8}
 use Rattle.std.specs.Str.{chars, is_utf8}
 use Rattle.bt_row.specs.Schemas.{Schema}
-use Rattle.bt_row.specs.declared.op.Op.TheVariants as op
+use Rattle.bt_row.specs.declared.operations.op.Op.TheVariants as op
 use Rattle.bt_value.specs.declared.value.Kind.TheVariants as kind
 use Rattle.bt_value.specs.declared.value.Value.TheVariants as value
 use Rattle.bt_value.proofs.offered.OnLiterals.{values_on_literals}
@@ -203,7 +203,7 @@ pub grouped_sums : run (codes "table 4 3 2 2 g:int id:int qty:int\nbatch\nput 1,
 unfolding replies commands_from line_step closing_of command_of bounds_of sums_command items_of item_of_line column_of table_command eight_bytes values_on_literals
 grouped_sums = refl
 
--- refusals of ranges and sums: the smallest refusal of the bounds comes first; for the columns, `NoSuchColumn` comes before `NotInt`
+-- refusals of ranges and sums: the lowest refusal of the bounds comes first; for the columns, `NoSuchColumn` comes before `NotInt`
 pub refusals_of_ranges : run (codes "table 4 3 2 1 id:int city:text qty:int\nsums primary 1 city\ngo\nsums primary 2 qty\ngo\nsums primary 0 city\ngo\nsums primary 1 nope\ngo\nsums primary 9 nope\nto x\ngo\nscan primary\nfrom 1,2\ngo\nscan primary\nto x\ngo\nscan primary\nfrom 1,2\nto x\ngo\nscan nope\nto x\ngo\nscan primary\nto 1\nfrom 1\ngo\n")
     ≡ codes "table 3\nrefused 16 NotInt\nrefused 15 NoSuchColumn\nrefused 15 NoSuchColumn\nrefused 15 NoSuchColumn\nrefused 6 BadField 2\nrefused 7 BadLength 1\nrefused 6 BadField 2\nrefused 6 BadField 2\nrefused 8 NoSuchTree\nrefused 1 Syntax\n"
 unfolding replies commands_from line_step closing_of command_of bounds_of sums_command items_of item_of_line column_of table_command eight_bytes values_on_literals

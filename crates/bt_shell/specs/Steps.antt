@@ -61,11 +61,11 @@ call_outcome after = map_ok (λ step. (Some step.0, reply_text step.1)) after
 abbrev pub read_outcome : TableState → Result (List ℕ) Refusal → Result Done Refusal
 read_outcome state text = map_ok (λ text. (Some state, text)) text
 
--- a definition, or the smallest refusal of it and of its name
+-- a definition, or the lowest refusal of it and of its name
 abbrev pub definition_or_lowest : Result Definition Refusal → Option Refusal → Result Definition Refusal
 definition_or_lowest def refusal = map_ok (λ both. both.1) (both_read {S = Unit {0}} (unless refusal tt) def)
 
--- the definition of a new index of a table, or the smallest refusal of its name and of its parts
+-- the definition of a new index of a table, or the lowest refusal of its name and of its parts
 abbrev pub definition_of : TableState → IndexForm → Result Definition Refusal
 definition_of Lost form = Err Failed
 definition_of (Intact table) form = definition_or_lowest (definition_as table.schema form.on form.include form.filter) (lowest (name_refusals table form.name))
@@ -75,7 +75,7 @@ abbrev pub creation_outcome : TableState → List ℕ → Result Definition Refu
 creation_outcome state name (Ok def) = call_outcome (step state (call.CreateIndex name def))
 creation_outcome state name (Err refusal) = Err refusal
 
--- A command: the table after it and its reply, or the smallest refusal that applies. `NoTable` comes before any refusal of a table.
+-- A command: the table after it and its reply, or the lowest refusal that applies. `NoTable` comes before any refusal of a table.
 abbrev pub outcome : State → Command → Result Done Refusal
 outcome state (Table form) = unless_any (form_refusals state form) (Some (table_of form), count_line (codes "table ") (length form.columns))
 outcome None command = Err NoTable

@@ -1,7 +1,7 @@
 //! Scripts of table commands: the reply to each command, and the run of a script from the bytes of a reader to the bytes of a writer.
 //!
 //! A script is any list of bytes. It is cut into lines, and the lines into commands. Each command gets one reply: its result, or the
-//! smallest refusal that applies; a refused command changes nothing. It is proved that a run writes `run` of the script, a definition over
+//! lowest refusal that applies; a refused command changes nothing. It is proved that a run writes `run` of the script, a definition over
 //! lines, commands and a map of rows.
 //!
 //! ```text
@@ -16,7 +16,6 @@
 #![tactic(auto)]
 
 mod check;
-mod context;
 mod log;
 mod program_run;
 mod replies;
@@ -25,7 +24,7 @@ mod script_run;
 mod turn;
 mod workforce;
 
-pub use bt_gang::{Crew, Gate, NoGate};
+pub use bt_gang::{Context, Crew, Gate, NoGate};
 pub use bt_script::{
     BlockText, Bounds, Capacity, Command, Counted, IndexForm, Items, Parsed, RunFault,
     SCRIPT_LIMIT, SumsForm, TableForm, Words, WordsError, parse_command, read_words,

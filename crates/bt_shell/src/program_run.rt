@@ -9,9 +9,8 @@ ghost use Rattle.bt_shell.specs.declared.program_run.ProgramFault.{ProgramFault}
 ghost use Rattle.bt_table.specs.Standing.{CompleteIndexesHold, IsSound};
 ghost use Rattle.std.specs.declared.option.Option.TheVariants.{None};
 
-use crate::context::Context;
 use crate::script_run::{RunMemory, flush_output};
-use bt_gang::{Crew, NoGate};
+use bt_gang::{Context, Crew, NoGate};
 use bt_script::{Counted, RunFault, Words, WordsError, read_words, write_error, write_text};
 use bt_value::Texts;
 use std::alloc::AllocError;

@@ -4,7 +4,7 @@ ghost use Rattle.bt_shell.specs.Replies.{count_line, item_text, refused_text, ro
 ghost use Rattle.bt_shell.specs.Replies as spec;
 ghost use Rattle.bt_shell.specs.inside.Lines.{lines_as_one, with_line, with_lines};
 
-use crate::reply_text::ReplyText;
+use crate::reply_text::{ReplyRoom, ReplyText};
 use bt_keycode::Key;
 use bt_node::{ForkVisitor, Visitor};
 use bt_row::{Row, write_row};
@@ -26,25 +26,16 @@ pub(crate) fn write_count(out: &mut Vec<u8>, word: &[u8], count: usize) -> Resul
     Ok(())
 }
 
-// The memory of a list, without its bytes.
-fn cleared(room: Vec<u8>) -> Vec<u8>
-    ensures { result.items ≡ [] }
-{
-    let mut text = room;
-    text.clear();
-    text
-}
-
 /// The reply that is a word, a number and a line end. Like each reply here, it is written into the memory of a list, whose bytes are dropped.
 pub(crate) fn count_reply(
     alloc: Global,
     word: &[u8],
     count: usize,
-    room: Vec<u8>,
+    room: ReplyRoom,
 ) -> Result<ReplyText, AllocError>
     ensures { IfOk result (λ text. text ≡ count_line word.now count) }
 {
-    let mut text = cleared(room);
+    let mut text = room.into_text();
     write_count(&mut text, word, count)?;
     Ok(ReplyText::new(alloc, text))
 }
@@ -59,10 +50,10 @@ fn write_row_line(out: &mut Vec<u8>, row: &Row) -> Result<(), AllocError>
 }
 
 // The reply that is the row of a key, if there is one.
-fn row_reply(alloc: Global, row: Option<Row>, room: Vec<u8>) -> Result<ReplyText, AllocError>
+fn row_reply(alloc: Global, row: Option<Row>, room: ReplyRoom) -> Result<ReplyText, AllocError>
     ensures { IfOk result (λ text. text ≡ spec.row_reply row) }
 {
-    let mut text = cleared(room);
+    let mut text = room.into_text();
     let Some(row) = row else {
         text.extend_from_slice(b"none\n")?;
         return Ok(ReplyText::new(alloc, text));
@@ -96,11 +87,11 @@ fn batch_reply(
     alloc: Global,
     count: usize,
     sent: &[SentCount],
-    room: Vec<u8>,
+    room: ReplyRoom,
 ) -> Result<ReplyText, AllocError>
     ensures { IfOk result (λ text. text ≡ spec.batch_reply count sent.now) }
 {
-    let mut text = cleared(room);
+    let mut text = room.into_text();
     text.extend_from_slice(b"batch ")?;
     write_number(&mut text, count as u64)?;
     write_each_sent(&mut text, sent)?;
@@ -113,11 +104,11 @@ fn name_reply(
     alloc: Global,
     word: &[u8],
     name: &Text,
-    room: Vec<u8>,
+    room: ReplyRoom,
 ) -> Result<ReplyText, AllocError>
     ensures { IfOk result (λ text. text ≡ spec.name_line word.now name.now) }
 {
-    let mut text = cleared(room);
+    let mut text = room.into_text();
     text.extend_from_slice(word)?;
     text.extend_from_slice(name.as_bytes())?;
     text.push(b'\n')?;
@@ -130,11 +121,11 @@ fn build_reply(
     name: &Text,
     read: usize,
     complete: bool,
-    room: Vec<u8>,
+    room: ReplyRoom,
 ) -> Result<ReplyText, AllocError>
     ensures { IfOk result (λ text. text ≡ spec.build_line name.now read complete) }
 {
-    let mut text = cleared(room);
+    let mut text = room.into_text();
     text.extend_from_slice(b"build ")?;
     text.extend_from_slice(name.as_bytes())?;
     text.push(b' ')?;
@@ -152,7 +143,7 @@ fn build_reply(
 pub(crate) fn reply_text(
     alloc: Global,
     reply: Reply,
-    room: Vec<u8>,
+    room: ReplyRoom,
 ) -> Result<ReplyText, AllocError>
     ensures { IfOk result (λ text. text ≡ spec.reply_text reply) }
 {
@@ -200,11 +191,11 @@ fn write_sum_lines(out: &mut Vec<u8>, sums: &[Sum]) -> Result<(), AllocError>
 pub(crate) fn sums_reply(
     alloc: Global,
     sums: &[Sum],
-    room: Vec<u8>,
+    room: ReplyRoom,
 ) -> Result<ReplyText, AllocError>
     ensures { IfOk result (λ text. text ≡ spec.sums_reply sums.now) }
 {
-    let mut text = cleared(room);
+    let mut text = room.into_text();
     write_sum_lines(&mut text, sums)?;
     write_count(&mut text, b"sums ", sums.len())?;
     Ok(ReplyText::new(alloc, text))
@@ -237,13 +228,13 @@ fn add_count(count: usize, more: usize) -> Result<usize, AllocError>
 }
 
 impl Lines {
-    /// No lines, in the memory of a list, whose bytes are dropped. Allocates nothing.
-    pub fn in_room(alloc: Global, room: Vec<u8>) -> Self
+    /// No lines, in the memory of an earlier reply. Allocates nothing.
+    pub fn in_room(alloc: Global, room: ReplyRoom) -> Self
         ensures { result ≡ ([], 0) }
     {
         Lines {
             pieces: Vec::new(alloc),
-            text: cleared(room),
+            text: room.into_text(),
             count: 0,
         }
     }
@@ -278,7 +269,7 @@ impl ForkVisitor<Row> for Lines {
     ghost joined = { with_lines };
 
     fn fork(&self, alloc: Global) -> Self {
-        Lines::in_room(alloc, Vec::new(alloc))
+        Lines::in_room(alloc, ReplyRoom::new(alloc))
     }
 
     fn join(&mut self, _alloc: Global, following: Self) -> Result<(), AllocError> {

@@ -1,5 +1,5 @@
 //! The text of a reply, in pieces.
-ghost use Rattle.std.specs.Prelude.{◌≡◌, ◌++◌, true, IsErrOf, OnErr, OnOk};
+ghost use Rattle.std.specs.Prelude.{◌≡◌, ◌++◌, [], true, IsErrOf, OnErr, OnOk};
 ghost use Rattle.bt_script.specs.Streams.{Took, TookPrefix, has_failed};
 ghost use Rattle.bt_shell.specs.inside.Pieces.{text_of_pieces};
 
@@ -23,6 +23,30 @@ impl Model for ReplyText {
     ghost Value = { List ℕ };
 
     ghost view = { λ t. text_of_pieces t.pieces.items ++ t.last.items };
+}
+
+/// The memory of an earlier reply, into which a later one is written.
+#[derive(Drop)]
+pub struct ReplyRoom {
+    bytes: Vec<u8>,
+}
+
+impl ReplyRoom {
+    /// No memory yet.
+    pub fn new(alloc: Global) -> Self {
+        ReplyRoom {
+            bytes: Vec::new(alloc),
+        }
+    }
+
+    /// An empty text in this memory.
+    pub fn into_text(self) -> Vec<u8>
+        ensures { result.items ≡ [] }
+    {
+        let ReplyRoom { bytes: mut text } = self;
+        text.clear();
+        text
+    }
 }
 
 // Writes pieces one after the other. If it fails, a prefix of their bytes is written.
@@ -64,9 +88,9 @@ impl ReplyText {
         write_text(writer, self.last.as_slice())
     }
 
-    /// The last piece, so that a later text can be written into its memory.
-    pub fn into_room(self) -> Vec<u8> {
+    /// The memory of the last piece.
+    pub fn into_room(self) -> ReplyRoom {
         let ReplyText { last, .. } = self;
-        last
+        ReplyRoom { bytes: last }
     }
 }

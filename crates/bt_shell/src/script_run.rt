@@ -11,10 +11,11 @@ ghost use Rattle.bt_shell.specs.Steps.{State};
 ghost use Rattle.bt_table.specs.Standing.{CompleteIndexesHold, IsSound, IsSoundUnlessLost};
 ghost use Rattle.bt_table.specs.Tables.{Lost};
 
-use crate::context::Context;
 use crate::log::{CommandLog, NoLog};
+use crate::reply_text::ReplyRoom;
 use crate::turn::next_reply;
 use crate::workforce::ScriptWorkforce;
+use bt_gang::Context;
 use bt_script::{Counted, RunFault, read_script};
 use bt_table::Table;
 use std::alloc::Global;
@@ -72,15 +73,13 @@ fn laws(_script: &[u8])
 /// After a fault the table is the one after the commands with whole replies, the one after one more command, or lost, and the log has commands with whole
 /// replies: all of them, or all but the last. A lost table stays lost, and each command on it except `table` is refused as `Failed`.
 pub fn run_commands<W: Write, L: CommandLog, T, C: ScriptWorkforce<T>>(
-    rt: &T,
-    alloc: Global,
+    context: &Context<'_, T, C>,
     script: &[u8],
     table: &mut Option<Table>,
     writer: &mut Counted<W>,
     log: &mut L,
-    crew: &C,
 ) -> Result<usize, RunFault>
-    requires ready { C.accepts crew.now }
+    requires ready { C.accepts context.now.crew.now }
     ensures ok { OnOk result (Took W.contents writer.old writer.new (replies table.old (commands script.now))) }
     ensures state { OnOk result (table.new ≡ after_commands table.old (commands script.now)) }
     ensures refused { IfOk result (λ count. count ≡ refused_count table.old (commands script.now)) }
@@ -123,11 +122,10 @@ pub fn run_commands<W: Write, L: CommandLog, T, C: ScriptWorkforce<T>>(
 {
     soundness(table);
     laws(script);
-    let context = Context { rt, alloc, crew };
     let mut at = 0;
     let mut refused = 0;
-    let mut room = Vec::new(alloc);
-    'commands: while let Some((reply, next)) = next_reply(&context, script, table, at, room)? {
+    let mut room = ReplyRoom::new(context.alloc);
+    'commands: while let Some((reply, next)) = next_reply(context, script, table, at, room)? {
         reply.text.write_to(writer)?;
         log.add(writer.count(), reply.kind)?;
         refused = count_with(refused, reply.kind.is_refusal());
@@ -151,15 +149,12 @@ pub fn replies_to<T, C: ScriptWorkforce<T>>(
 {
     let mut table = None;
     let mut writer = Counted::new(Vec::new(alloc));
-    match run_commands(
+    let context = Context {
         rt,
         alloc,
-        script,
-        &mut table,
-        &mut writer,
-        &mut NoLog,
-        workforce,
-    ) {
+        crew: workforce,
+    };
+    match run_commands(&context, script, &mut table, &mut writer, &mut NoLog) {
         Ok(_refused) => Ok(writer.into_inner()),
         // A vector takes all bytes if there is memory for them.
         Err(_fault) => Err(RunFault::OutOfMemory),
@@ -205,17 +200,14 @@ impl RunMemory {
         ensures replies { IsErrOf result RunFault.OutOfMemory → WritesReplies W.contents (R.remaining (source_of reader.old)) writer.old writer.new }
         ensures at_most { GaveAtMost R.remaining reader.old reader.new (script_limit + 1) }
     {
-        let Context { rt, alloc, crew } = *context;
-        self.script = read_script(alloc, reader)?;
+        self.script = read_script(context.alloc, reader)?;
         self.table = None;
         run_commands(
-            rt,
-            alloc,
+            context,
             self.script.as_slice(),
             &mut self.table,
             writer,
             &mut NoLog,
-            crew,
         )?;
         Ok(())
     }

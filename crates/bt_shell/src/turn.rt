@@ -12,12 +12,12 @@ ghost use Rattle.bt_value.specs.Answers.{Answers};
 ghost use Rattle.bt_value.specs.Results.{map_ok};
 ghost use Rattle.bt_table.specs.Standing.{Suits};
 
-use crate::context::Context;
 use crate::log::ReplyKind;
 use crate::replies::{Lines, count_reply, refusal_reply, reply_text, sums_reply};
-use crate::reply_text::ReplyText;
+use crate::reply_text::{ReplyRoom, ReplyText};
 use crate::workforce::ScriptWorkforce;
 use bt_fanout::IndexDef;
+use bt_gang::Context;
 use bt_node::Shape;
 use bt_row::Schema;
 use bt_rowtype::both_read;
@@ -42,7 +42,7 @@ pub(crate) fn shape_of(fanout: u32, buffer: Capacity, leaf: u32) -> Result<Shape
 fn call_text(
     alloc: Global,
     reply: Result<Reply, Refusal>,
-    room: Vec<u8>,
+    room: ReplyRoom,
 ) -> Result<ReplyText, Refusal>
     ensures answer { Answers (map_ok spec.reply_text reply) result }
     ensures refused { IfErr reply (IsErrOf result) }
@@ -50,7 +50,7 @@ fn call_text(
     Ok(reply_text(alloc, reply?, room)?)
 }
 
-/// The definition of a new index, or the smallest refusal of its name and of its parts.
+/// The definition of a new index, or the lowest refusal of its name and of its parts.
 pub(crate) fn index_def(alloc: Global, table: &Table, form: &IndexForm) -> Result<IndexDef, Refusal>
     ensures answer { Answers (step.definition_of table.now form.now) result }
     ensures suits { IfOk result (λ def. Suits table.now def) }
@@ -67,7 +67,7 @@ fn create_index(
     alloc: Global,
     table: &mut Table,
     form: IndexForm,
-    room: Vec<u8>,
+    room: ReplyRoom,
 ) -> Result<ReplyText, Refusal>
     ensures done { CarriesOut (Some table.old) (Some table.new) (command.Index form) result }
     ensures memory { IsErrOf result Refusal.OutOfMemory → IsCutShort (Some table.old) (Some table.new) (command.Index form) }
@@ -89,7 +89,7 @@ fn scan<T, C: ScriptWorkforce<T>>(
     table: &Table,
     name: &Text,
     bounds: &Bounds<'_>,
-    room: Vec<u8>,
+    room: ReplyRoom,
 ) -> Result<ReplyText, Refusal>
     requires ready { C.accepts context.now.crew.now }
     ensures { CarriesOut (Some table.now) (Some table.now) (command.Scan name.now bounds.now) result }
@@ -104,7 +104,7 @@ fn sums<T, C: ScriptWorkforce<T>>(
     context: &Context<'_, T, C>,
     table: &Table,
     form: &SumsForm<'_>,
-    room: Vec<u8>,
+    room: ReplyRoom,
 ) -> Result<ReplyText, Refusal>
     requires ready { C.accepts context.now.crew.now }
     ensures { CarriesOut (Some table.now) (Some table.now) (command.Sums form.now) result }
@@ -125,7 +125,7 @@ fn reply_of_table<T, C: ScriptWorkforce<T>>(
     context: &Context<'_, T, C>,
     table: &mut Table,
     command: Command<'_>,
-    room: Vec<u8>,
+    room: ReplyRoom,
 ) -> Result<ReplyText, Refusal>
     requires ready { C.accepts context.now.crew.now }
     ensures done { CarriesOut (Some table.old) (Some table.new) command.entry result }
@@ -163,7 +163,7 @@ fn create_table(
     alloc: Global,
     table: &mut Option<Table>,
     form: TableForm,
-    room: Vec<u8>,
+    room: ReplyRoom,
 ) -> Result<ReplyText, Refusal>
     requires { table.old ≡ None }
     ensures done { CarriesOut table.old table.new (command.Table form) result }
@@ -184,7 +184,7 @@ fn command_reply<T, C: ScriptWorkforce<T>>(
     context: &Context<'_, T, C>,
     table: &mut Option<Table>,
     command: Command<'_>,
-    room: Vec<u8>,
+    room: ReplyRoom,
 ) -> Result<ReplyText, Refusal>
     requires ready { C.accepts context.now.crew.now }
     ensures done { CarriesOut table.old table.new command.entry result }
@@ -241,7 +241,7 @@ fn take_turn<T, C: ScriptWorkforce<T>>(
     context: &Context<'_, T, C>,
     table: &mut Option<Table>,
     command: Command<'_>,
-    room: Vec<u8>,
+    room: ReplyRoom,
 ) -> Result<CommandReply, AllocError>
     requires ready { C.accepts context.now.crew.now }
     ensures text { IfOk result (λ reply. reply.text ≡ (step.turn table.old (Ok command.entry)).1) }
@@ -266,7 +266,7 @@ pub(crate) fn next_reply<T, C: ScriptWorkforce<T>>(
     script: &[u8],
     table: &mut Option<Table>,
     at: usize,
-    room: Vec<u8>,
+    room: ReplyRoom,
 ) -> Result<Option<(CommandReply, usize)>, AllocError>
     requires ready { C.accepts context.now.crew.now }
     ensures step { IfOk result (λ found. IfSome found (λ f. IsTurn table.old table.new (commands (drop at script.now)) (commands (drop f.1 script.now)) f.0.text (logs.is_refusal f.0.kind))) }

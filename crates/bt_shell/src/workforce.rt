@@ -9,7 +9,7 @@ ghost use Rattle.bt_shell.specs.Replies.{row_line};
 ghost use Rattle.bt_shell.specs.inside.Lines.{with_line};
 
 use crate::replies::Lines;
-use bt_gang::{Crew, Gate, NoGate};
+use bt_gang::{Context, Crew, Gate, NoGate};
 use bt_script::{Bounds, SumsForm};
 use bt_table::{Alone, Table, Workforce};
 use bt_value::{Refusal, Sequence, Text};
@@ -95,16 +95,12 @@ impl<T: Threads + Wait + Sync> ScriptWorkforce<T> for Crew<NoGate> {
         lines: Lines,
     ) -> Result<Lines, Refusal> {
         let Bounds { from, to } = bounds;
-        scan(
+        let context = Context {
             rt,
             alloc,
-            table,
-            name,
-            from.as_ref(),
-            to.as_ref(),
-            lines,
-            self,
-        )
+            crew: self,
+        };
+        scan(&context, table, name, from.as_ref(), to.as_ref(), lines)
     }
 
     fn sums(
@@ -115,16 +111,19 @@ impl<T: Threads + Wait + Sync> ScriptWorkforce<T> for Crew<NoGate> {
         form: &SumsForm<'_>,
     ) -> Result<Sequence<Sum>, Refusal> {
         let Bounds { from, to } = &form.bounds;
-        sums(
+        let context = Context {
             rt,
             alloc,
+            crew: self,
+        };
+        sums(
+            &context,
             table,
             &form.tree,
             form.columns,
             &form.column,
             from.as_ref(),
             to.as_ref(),
-            self,
         )
     }
 }
@@ -140,16 +139,12 @@ impl<T: Threads + Wait + Sync> ScriptWorkforce<T> for Crew<&(dyn Gate + Sync)> {
         lines: Lines,
     ) -> Result<Lines, Refusal> {
         let Bounds { from, to } = bounds;
-        scan(
+        let context = Context {
             rt,
             alloc,
-            table,
-            name,
-            from.as_ref(),
-            to.as_ref(),
-            lines,
-            self,
-        )
+            crew: self,
+        };
+        scan(&context, table, name, from.as_ref(), to.as_ref(), lines)
     }
 
     fn sums(
@@ -160,16 +155,19 @@ impl<T: Threads + Wait + Sync> ScriptWorkforce<T> for Crew<&(dyn Gate + Sync)> {
         form: &SumsForm<'_>,
     ) -> Result<Sequence<Sum>, Refusal> {
         let Bounds { from, to } = &form.bounds;
-        sums(
+        let context = Context {
             rt,
             alloc,
+            crew: self,
+        };
+        sums(
+            &context,
             table,
             &form.tree,
             form.columns,
             &form.column,
             from.as_ref(),
             to.as_ref(),
-            self,
         )
     }
 }

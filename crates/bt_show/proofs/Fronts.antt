@@ -19,7 +19,7 @@ use Rattle.bt_show.specs.inside.Entries.{row_of_entry}
 use Rattle.bt_show.specs.inside.Fronts.{IsFront, IsFrontWhereKept, IsLastOf}
 use Rattle.bt_show.specs.inside.Neighbours.{Groups, group_of, grouped, groups_then, with_more}
 use Rattle.bt_show.specs.declared.groups.Sum.{Sum}
-use Rattle.bt_show.proofs.Columnwise.{code-append, in_range-append}
+use Rattle.bt_show.proofs.offered.Columnwise.{code-append, in_range-append}
 
 -- ---- codes in two parts
 

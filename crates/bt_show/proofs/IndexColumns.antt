@@ -5,7 +5,7 @@ use Rattle.std.specs.Cmp.Lexicographic.{pointwise}
 use Rattle.std.specs.Prelude.{option_map}
 use Rattle.bt_row.specs.Ops.{named_from}
 use Rattle.bt_row.specs.Schemas.{Schema}
-use Rattle.bt_row.specs.declared.schema.Column.{Column}
+use Rattle.bt_row.specs.declared.rows.schema.Column.{Column}
 use Rattle.bt_value.specs.declared.value.Kind.{Kind}
 use Rattle.bt_fanout.specs.Entries.{Definition}
 use Rattle.bt_show.specs.Ranges.{column_in, index_schema}

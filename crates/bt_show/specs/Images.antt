@@ -4,8 +4,8 @@ use Rattle.bt_row.specs.RecordTexts.{record_text}
 use Rattle.bt_value.specs.Values.{text_of}
 use Rattle.bt_row.specs.Arithmetic.{action_of}
 use Rattle.bt_row.specs.Ops.{Change, argument_of, place_in, word_in}
-use Rattle.bt_row.specs.declared.op.Op.{Op}
-use Rattle.bt_row.specs.declared.schema.Column.{Column}
+use Rattle.bt_row.specs.declared.operations.op.Op.{Op}
+use Rattle.bt_row.specs.declared.rows.schema.Column.{Column}
 use Rattle.bt_value.specs.declared.value.Value.{Value}
 use Rattle.bt_value.specs.declared.value.Value.TheVariants as value
 use Rattle.bt_value.specs.Hex.{hex_text}

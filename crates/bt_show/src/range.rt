@@ -70,7 +70,7 @@ fn read_bound(
 }
 
 /// The range between two bounds. Each of them encodes at least one of the first of these key columns. If they are refused, with `BadField` or `BadLength` and
-/// item 1 for `from` and 2 for `to`, the smallest refusal is returned. If there is no bound, nothing is allocated.
+/// item 1 for `from` and 2 for `to`, the lowest refusal is returned. If there is no bound, nothing is allocated.
 pub fn read_range(
     alloc: Global,
     columns: &[Column],

@@ -59,7 +59,7 @@ pub new_key : reply_of (after empty (batch ∷ [])) (Get (codes "9" ∷ [])) ≡
 unfolding eight_bytes values_on_literals
 new_key = refl
 
--- the smallest refusal with the smallest item, and then the table does not change
+-- the lowest refusal with the smallest item, and then the table does not change
 abbrev faulty : Call
 faulty = Apply (Put (codes "1" ∷ []) ∷ Put (codes "5" ∷ codes "50" ∷ []) ∷ Put (codes "7" ∷ codes "x" ∷ []) ∷ Put (codes "y" ∷ codes "1" ∷ []) ∷ [])
 

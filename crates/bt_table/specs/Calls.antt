@@ -125,7 +125,7 @@ is_bare tree = is_leaf tree && (length (rows_of tree) == 0)
 abbrev pub load_refusals : List Index → RowTree → List Refusal
 load_refusals indexes tree = one_if (not (list_all is_complete indexes)) Building ++ one_if (not (is_bare tree)) NotEmpty
 
--- the map of the rows of a text, or the smallest refusal: of its header and its records, of the table, of a key that occurs again
+-- the map of the rows of a text, or the lowest refusal: of its header and its records, of the table, of a key that occurs again
 abbrev pub loaded_rows : PlainTable → List ℕ → Result (Rows (List Value)) Refusal
 loaded_rows table text = and_then (map_of table.schema.keys) (and_then (unless_any (load_refusals table.indexes table.tree)) (text_rows table.schema.columns text))
 

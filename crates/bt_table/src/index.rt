@@ -15,6 +15,7 @@ use crate::reply::SentCount;
 use crate::table_loading::TableLoading;
 use crate::workforce::Workforce;
 use bt_fanout::{Cover, IndexDef, IndexTarget, wider};
+use bt_gang::Context;
 use bt_keycode::Key;
 use bt_messages::{Entry, Packet};
 use bt_node::{Shape, Tree, pack};
@@ -154,22 +155,21 @@ fn widest_cover<'a>(cover: &'a Cover, heads: &'a [IndexHead]) -> &'a Cover
 
 /// What a packet of rows sends to the indexes of a table with this tree of rows. A key that none of them covers is not looked up.
 pub(crate) fn fan_out<T, W: Workforce<T>>(
-    rt: &T,
-    alloc: Global,
+    context: &Context<'_, T, W>,
     tree: &Tree<Row>,
     packet: &Packet<Row>,
     heads: &[IndexHead],
-    workforce: &W,
 ) -> Result<FanOut, AllocError>
-    requires ready { W.accepts workforce.now }
+    requires ready { W.accepts context.now.crew.now }
     requires suits { All (λ head. All (SuitsEffect head.def) (effects_of packet.now (holds row_effect tree.now.1))) heads.now }
     ensures packets { IfOk result (λ out. out.packets.items ≡ map (packet_for (effects_of packet.now (holds row_effect tree.now.1))) heads.now) }
     ensures sent { IfOk result (λ out. out.sent ≡ map (count_for (effects_of packet.now (holds row_effect tree.now.1))) heads.now) }
 {
     let nothing = Cover::Nothing;
     let cover = widest_cover(&nothing, heads);
+    let Context { rt, alloc, crew } = *context;
     let targets = targets_of(alloc, heads)?;
-    let packets = workforce.index_packets(rt, alloc, tree, packet, cover, targets.as_slice())?;
+    let packets = crew.index_packets(rt, alloc, tree, packet, cover, targets.as_slice())?;
     let sent = sent_counts(alloc, heads, packets.as_slice())?;
     Ok(FanOut { packets, sent })
 }

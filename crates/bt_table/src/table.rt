@@ -20,6 +20,7 @@ use crate::reply::Reply;
 use crate::trees::{TreeRoom, Trees, put_trees, sunk_all, sunk_one, take_trees};
 use crate::workforce::Workforce;
 use bt_fanout::{BuildStep, IndexDef};
+use bt_gang::Context;
 use bt_keycode::{Key, encode_row};
 use bt_messages::Packet;
 use bt_node::{Shape, Tree};
@@ -119,7 +120,7 @@ impl Table {
     }
 
     /// Applies the messages of a batch in order, to the rows and to each index, and returns their numbers. A lost table returns `Failed`. Otherwise the
-    /// smallest refusal that applies is returned, and the table does not change. After `OutOfMemory` the table is as it was, or lost.
+    /// lowest refusal that applies is returned, and the table does not change. After `OutOfMemory` the table is as it was, or lost.
     #[tactic(auto, using(crate::proofs::offered::Steps::unless_lost_hold, crate::proofs::Steps::is_text_of_messages))]
     pub fn apply<T, W: Workforce<T>>(
         &mut self,
@@ -172,17 +173,16 @@ impl Table {
         };
         let _sorted = packet.iter();
         let count = packet.len();
+        let context = Context { rt, alloc, crew };
         let FanOut { packets, sent } = fan_out(
-            rt,
-            alloc,
+            &context,
             &trees.rows,
             &packet,
             self.heads.as_slice(),
-            crew,
         )?;
         let room = TreeRoom::new(alloc, 1, packets.len())?;
         let trees = take_trees(&mut self.trees);
-        let after = sunk_all(rt, alloc, crew, room, trees, packet, packets)?;
+        let after = sunk_all(&context, room, trees, packet, packets)?;
         put_trees(&mut self.trees, after);
         self.soundness();
         Ok(Reply::Batch { count, sent })
@@ -284,7 +284,7 @@ impl Table {
         let room = TreeRoom::new(alloc, 0, 1)?;
         let Trees { rows, mut entries } = take_trees(&mut self.trees);
         let taken = take_tree(alloc, &mut entries, place);
-        let tree = sunk_one(rt, alloc, crew, room, taken, packet)?;
+        let tree = sunk_one(&Context { rt, alloc, crew }, room, taken, packet)?;
         put_tree(&mut entries, place, tree);
         put_cover(&mut self.heads, place, cover);
         put_trees(&mut self.trees, Trees { rows, entries });

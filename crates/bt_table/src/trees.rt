@@ -7,6 +7,7 @@ ghost use Rattle.bt_table.specs.Calls.{most_indexes};
 ghost use Rattle.bt_table.specs.inside.IndexTrees.{sunk_tree, sunk_trees};
 
 use crate::workforce::Workforce;
+use bt_gang::Context;
 use bt_messages::{Entry, Packet};
 use bt_node::Tree;
 use bt_row::Row;
@@ -76,15 +77,13 @@ fn with_packets(
 
 /// The trees of a table after their packets, all of them in one round.
 pub(crate) fn sunk_all<T, W: Workforce<T>>(
-    rt: &T,
-    alloc: Global,
-    workforce: &W,
+    context: &Context<'_, T, W>,
     room: TreeRoom,
     trees: Trees,
     packet: Packet<Row>,
     packets: Vec<Packet<Entry>>,
 ) -> Result<Trees, AllocError>
-    requires ready { W.accepts workforce.now }
+    requires ready { W.accepts context.now.crew.now }
     requires same { length packets.items ≡ length trees.entries.items }
     requires few { length trees.entries.items ≤ most_indexes }
     requires rows_room { (room.rows.items ≡ []) × (1 ≤ vec_capacity room.rows) }
@@ -102,28 +101,28 @@ pub(crate) fn sunk_all<T, W: Workforce<T>>(
     } = trees;
     rows.push_reserved((tree, packet));
     let entries = with_packets(entries, packets, entry_room);
-    let (mut rows, entries) = workforce.sink(rt, alloc, rows, entries)?;
+    let Context { rt, alloc, crew } = *context;
+    let (mut rows, entries) = crew.sink(rt, alloc, rows, entries)?;
     let rows = rows.pop().unwrap();
     Ok(Trees { rows, entries })
 }
 
 /// A tree of entries after its packet.
 pub(crate) fn sunk_one<T, W: Workforce<T>>(
-    rt: &T,
-    alloc: Global,
-    workforce: &W,
+    context: &Context<'_, T, W>,
     room: TreeRoom,
     tree: Tree<Entry>,
     packet: Packet<Entry>,
 ) -> Result<Tree<Entry>, AllocError>
-    requires ready { W.accepts workforce.now }
+    requires ready { W.accepts context.now.crew.now }
     requires no_rows { room.rows.items ≡ [] }
     requires room { (room.entries.items ≡ []) × (1 ≤ vec_capacity room.entries) }
     ensures tree { IfOk result (λ after. after ≡ sunk_tree tree packet) }
 {
     let TreeRoom { rows, mut entries } = room;
     entries.push_reserved((tree, packet));
-    let (rows, mut entries) = workforce.sink(rt, alloc, rows, entries)?;
+    let Context { rt, alloc, crew } = *context;
+    let (rows, mut entries) = crew.sink(rt, alloc, rows, entries)?;
     drop(rows);
     Ok(entries.pop().unwrap())
 }

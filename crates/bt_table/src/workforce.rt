@@ -22,7 +22,7 @@ use bt_batch::read_packet;
 use bt_fanout::{
     BuildStep, Cover, IndexDef, IndexTarget, build_step, build_step_alone, index_packets,
 };
-use bt_gang::{Crew, Gate, NoGate};
+use bt_gang::{Context, Crew, Gate, NoGate};
 use bt_gather::{MOST_TREES, drain, sink};
 use bt_load::{InThreads, InTurn};
 use bt_messages::{Entry, Packet};
@@ -44,7 +44,7 @@ pub trait Workforce<T> {
     /// What is required of a workforce: of a crew, that its workers may share the runtime.
     ghost accepts: { Self → Type 0 };
 
-    /// The packet of a batch: the messages that its records encode, or the smallest refusal that applies.
+    /// The packet of a batch: the messages that its records encode, or the lowest refusal that applies.
     fn read_packet(
         &self,
         rt: &T,
@@ -144,21 +144,19 @@ const FEW_ROWS: usize = 16_384;
 
 // A step of building by a crew, or by the caller alone if it is small.
 fn crew_step<G: Gate + Sync, T: Threads + Wait + Sync>(
-    rt: &T,
-    alloc: Global,
+    context: &Context<'_, T, Crew<G>>,
     def: &IndexDef,
     cover: &Cover,
     tree: &Tree<Row>,
     count: usize,
-    crew: &Crew<G>,
 ) -> Result<BuildStep, AllocError>
     requires { All (λ row. IsWithin def.now (length row.1)) (holds row_effect tree.now.1) }
     ensures { IfOk result (IsBuildStep def.now count cover.now (holds row_effect tree.now.1)) }
 {
     if count < FEW_ROWS {
-        return build_step_alone(alloc, def, cover, tree, count);
+        return build_step_alone(context.alloc, def, cover, tree, count);
     }
-    build_step(rt, alloc, def, cover, tree, count, crew)
+    build_step(context, def, cover, tree, count)
 }
 
 // Loads by at most this many threads of a runtime, or by the caller alone.
@@ -206,7 +204,12 @@ impl<T: Threads + Wait + Sync> Workforce<T> for Crew<NoGate> {
         cover: &Cover,
         indexes: &[IndexTarget<'_>],
     ) -> Result<Vec<Packet<Entry>>, AllocError> {
-        index_packets(rt, alloc, tree, packet, cover, indexes, self)
+        let context = Context {
+            rt,
+            alloc,
+            crew: self,
+        };
+        index_packets(&context, tree, packet, cover, indexes)
     }
 
     fn build_step(
@@ -218,7 +221,12 @@ impl<T: Threads + Wait + Sync> Workforce<T> for Crew<NoGate> {
         tree: &Tree<Row>,
         count: usize,
     ) -> Result<BuildStep, AllocError> {
-        crew_step(rt, alloc, def, cover, tree, count, self)
+        let context = Context {
+            rt,
+            alloc,
+            crew: self,
+        };
+        crew_step(&context, def, cover, tree, count)
     }
 
     fn sink(
@@ -297,7 +305,12 @@ impl<T: Threads + Wait + Sync> Workforce<T> for Crew<&(dyn Gate + Sync)> {
         cover: &Cover,
         indexes: &[IndexTarget<'_>],
     ) -> Result<Vec<Packet<Entry>>, AllocError> {
-        index_packets(rt, alloc, tree, packet, cover, indexes, self)
+        let context = Context {
+            rt,
+            alloc,
+            crew: self,
+        };
+        index_packets(&context, tree, packet, cover, indexes)
     }
 
     fn build_step(
@@ -309,7 +322,12 @@ impl<T: Threads + Wait + Sync> Workforce<T> for Crew<&(dyn Gate + Sync)> {
         tree: &Tree<Row>,
         count: usize,
     ) -> Result<BuildStep, AllocError> {
-        crew_step(rt, alloc, def, cover, tree, count, self)
+        let context = Context {
+            rt,
+            alloc,
+            crew: self,
+        };
+        crew_step(&context, def, cover, tree, count)
     }
 
     fn sink(

@@ -1,4 +1,4 @@
-//! Reading several things in order: all their values, or the least refusal.
+//! Reading several things in order: all their values, or the lowest refusal.
 ghost use Rattle.std.specs.Prelude.{◌≡◌, ◌≢◌, ◌++◌, [], Err, IfOk, None, OnOk};
 ghost use Rattle.std.specs.Option.{option_to_list};
 ghost use Rattle.std.specs.Result.{result_err, result_ok};
@@ -14,7 +14,7 @@ use std::alloc::{AllocError, Global};
 pub struct Collected<T> {
     /// The values, in order.
     pub values: Sequence<T>,
-    /// The least of the refusals, if there are any.
+    /// The lowest of the refusals, if there are any.
     pub refusal: Option<Refusal>,
 }
 
@@ -59,7 +59,7 @@ impl<T: Drop> Collected<T> {
         }
     }
 
-    /// All values, or the least refusal if there is one.
+    /// All values, or the lowest refusal if there is one.
     pub fn finish(self) -> Result<Sequence<T>, Refusal>
         ensures { result ≡ unless self.refusal self.values }
     {

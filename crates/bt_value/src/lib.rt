@@ -5,7 +5,7 @@
 //! kind is in one file, `value.rt`.
 //!
 //! A call is refused with a [`Refusal`]: a number, a name and, for some, the item at fault. [`Collected`] gathers the results of
-//! several reads: all values, or the least refusal.
+//! several reads: all values, or the lowest refusal.
 //!
 //! ```text
 //! let value = read_field(alloc, Kind::Int, b"007")?;          // Value::Int(7)

@@ -21,7 +21,7 @@ use Rattle.bt_view.specs.Groups.{groups_of, most_rows, number_in}
 use Rattle.bt_show.specs.inside.Neighbours.{Ascend, Groups, NoneBefore, group_of, grouped, groups_then}
 use Rattle.bt_show.specs.declared.groups.Sum.{Sum}
 use Rattle.bt_view.proofs.GroupRows.{added_to, and_row, groups_by_rows}
-use Rattle.bt_show.proofs.LastGroup.{last_then}
+use Rattle.bt_show.proofs.offered.LastGroup.{last_then}
 
 -- a group at the end of a list
 abbrev listed : List Sum → Sum → List Sum

@@ -12,7 +12,7 @@ use Rattle.std.specs.declared.cmp.Ordering.{Ordering}
 use Rattle.std.specs.declared.cmp.Ordering.TheVariants.{Less, Equal, Greater}
 use Rattle.bt_value.specs.Values.{AreInRange, fits_kind}
 use Rattle.bt_row.specs.Schemas.{Schema, fit_columns}
-use Rattle.bt_row.specs.declared.schema.Column.{Column}
+use Rattle.bt_row.specs.declared.rows.schema.Column.{Column}
 use Rattle.bt_value.specs.declared.value.Kind.{Kind}
 use Rattle.bt_value.specs.declared.value.Value.{Value}
 use Rattle.bt_keycode.specs.Codes.{code_of, kind_of}
@@ -27,8 +27,8 @@ use Rattle.bt_table.specs.Standing.{AllStand, Stands}
 use Rattle.bt_table.proofs.offered.Kinds.{key_kinds}
 use Rattle.bt_show.specs.inside.Entries.{index_kinds, row_of_entry}
 use Rattle.bt_view.specs.Ranges.{column_in, index_row, index_schema}
-use Rattle.bt_show.proofs.SelectedRows.{AreShown, IsShown, shown-with}
-use Rattle.bt_show.proofs.Columnwise.{code-append, fit-append, fit-picked, fit-take, in_range-append, in_range-picked}
+use Rattle.bt_show.proofs.offered.SelectedRows.{AreShown, IsShown, shown-with}
+use Rattle.bt_show.proofs.offered.Columnwise.{code-append, fit-append, fit-picked, fit-take, in_range-append, in_range-picked}
 
 -- ---- rows of an index
 

@@ -6,7 +6,7 @@ use Rattle.bt_row.specs.Schemas.{Schema}
 use Rattle.bt_value.specs.declared.refusal.Refusal.{Refusal}
 use Rattle.bt_value.specs.Results.{or_refused, and_then, map_ok}
 use Rattle.bt_value.specs.declared.refusal.Refusal.TheVariants.{Building, OutOfMemory, TooMany}
-use Rattle.bt_row.specs.declared.schema.Column.{Column}
+use Rattle.bt_row.specs.declared.rows.schema.Column.{Column}
 use Rattle.bt_value.specs.declared.value.Value.{Value}
 use Rattle.bt_form.specs.Flushes.{holds}
 use Rattle.bt_form.specs.Messages.{Rows, between}
@@ -25,7 +25,7 @@ use Rattle.bt_show.specs.inside.Neighbours.{after_row}
 use Rattle.bt_view.specs.Ranges.{index_row, index_schema, page_of, range_as, rows_within, scan_with_keys_of, when_whole}
 use Rattle.bt_show.specs.declared.groups.Sum.{Sum}
 use Rattle.bt_show.specs.declared.range.KeyRange.{KeyRange}
-use Rattle.bt_show.proofs.SelectedRows.{shown-between, shown-rows, shown-take}
+use Rattle.bt_show.proofs.offered.SelectedRows.{shown-between, shown-rows, shown-take}
 use Rattle.bt_view.proofs.IndexRows.{all_rise, all_shown, all_stand}
 use Rattle.bt_view.proofs.RowOrder.{ascend}
 use Rattle.bt_view.proofs.Summing.{of_rows}

@@ -8,7 +8,7 @@ use Rattle.bt_show.specs.inside.Entries.{after_entry, rows_of_entries}
 use Rattle.bt_show.specs.inside.EntryParts.{shown}
 use Rattle.bt_view.specs.inside.Shown.{rows_shown}
 use Rattle.bt_view.specs.declared.shown.Shown.{Shown}
-use Rattle.bt_show.proofs.SelectedRows.{gone-along}
+use Rattle.bt_show.proofs.offered.SelectedRows.{gone-along}
 
 pub gone-through : {S : Type 0} (visited : S → Key × List Value → S) (rows : Shown) (visitor : S) (kinds : List Kind) (entries : Rows (List Value)) (old new
     : List Kind × S) → rows_shown rows ≡ rows_of_entries kinds entries

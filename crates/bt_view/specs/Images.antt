@@ -1,7 +1,7 @@
 -- A tree of a table as text.
 use Rattle.std.specs.Prelude.{ℕ, List, map, Result}
 use Rattle.bt_value.specs.declared.refusal.Refusal.{Refusal}
-use Rattle.bt_row.specs.declared.schema.Column.{Column}
+use Rattle.bt_row.specs.declared.rows.schema.Column.{Column}
 use Rattle.bt_value.specs.declared.value.Value.TheVariants as value
 use Rattle.bt_messages.specs.declared.message.Message.TheVariants as message
 use Rattle.bt_form.specs.Trees.{Tree}

@@ -6,11 +6,12 @@
 //! clauses.
 //!
 //! ```text
-//! let rows = scan(&rt, alloc, &table, &name, Some(&from), None, RowList::new(alloc), &crew)?;     // the rows from the key that `from` encodes
-//! let rows = page(alloc, &table, &name, &range, 100, RowList::new(alloc))?;                        // the first 100 rows of a range of keys
-//! let sums = sums(&rt, alloc, &table, &name, 1, &column, None, None, &crew)?;                     // one Sum for each value of the first column
-//! let sums = sums_between(alloc, &table, &name, &range, 1, &column)?;                              // the same for a range of keys
-//! let text = image(alloc, &table, &name)?;                                                        // the nodes of the tree, line by line
+//! let context = Context { rt: &rt, alloc, crew: &crew };
+//! let rows = scan(&context, &table, &name, Some(&from), None, RowList::new(alloc))?;      // the rows from the key that `from` encodes
+//! let rows = page(alloc, &table, &name, &range, 100, RowList::new(alloc))?;               // the first 100 rows of a range of keys
+//! let sums = sums(&context, &table, &name, 1, &column, None, None)?;                      // one Sum for each value of the first column
+//! let sums = sums_between(alloc, &table, &name, &range, 1, &column)?;                     // the same for a range of keys
+//! let text = image(alloc, &table, &name)?;                                                // the nodes of the tree, line by line
 //! ```
 //!
 //! `specs` has the definitions: `Ranges` defines the rows of a range, `Groups` groups and their sums,

@@ -17,7 +17,7 @@ ghost use Rattle.bt_view.specs.inside.Shown.{AnswersRows, AnswersSums, rows_show
 
 use crate::range_sums::group_entries;
 use bt_fanout::{Cover, IndexDef};
-use bt_gang::{Crew, Gate};
+use bt_gang::{Context, Crew, Gate};
 use bt_messages::Entry;
 use bt_node::{ForkVisitor, Tree, Visitor};
 use bt_portions::read;
@@ -96,18 +96,16 @@ pub(crate) fn show_alone<S: Visitor<Row>>(
 
 /// Shows the rows, by a crew.
 pub(crate) fn show<S: ForkVisitor<Row> + Send, G: Gate + Sync, T: Threads + Wait + Sync>(
-    rt: &T,
-    alloc: Global,
+    context: &Context<'_, T, Crew<G>>,
     shown: Shown<'_>,
     visitor: S,
-    crew: &Crew<G>,
 ) -> Result<S, AllocError>
     ensures { IfOk result (λ after. after ≡ fold S.visited visitor (rows_shown shown.entry)) }
 {
     match shown {
         Shown::Rows { tree, range } => {
             let (from, to) = range.bounds();
-            read(rt, alloc, tree, from, to, visitor, crew)
+            read(context, tree, from, to, visitor)
         }
         Shown::Entries { tree, kinds, range } => {
             let (from, to) = range.bounds();
@@ -115,7 +113,7 @@ pub(crate) fn show<S: ForkVisitor<Row> + Send, G: Gate + Sync, T: Threads + Wait
                 kinds: kinds.as_slice(),
                 visitor,
             };
-            let EntryRows { visitor, .. } = read(rt, alloc, tree, from, to, rows, crew)?;
+            let EntryRows { visitor, .. } = read(context, tree, from, to, rows)?;
             Ok(visitor)
         }
     }
@@ -136,10 +134,8 @@ pub(crate) fn sum_alone(alloc: Global, summed: Summed<'_>) -> Result<Grouping, A
 
 /// The groups of the rows, by a crew.
 pub(crate) fn sum<G: Gate + Sync, T: Threads + Wait + Sync>(
-    rt: &T,
-    alloc: Global,
+    context: &Context<'_, T, Crew<G>>,
     summed: Summed<'_>,
-    crew: &Crew<G>,
 ) -> Result<Grouping, AllocError>
     ensures { IfOk result (λ groups. groups ≡ fold after_row summed.entry.groups (rows_shown summed.entry.shown)) }
 {
@@ -148,10 +144,10 @@ pub(crate) fn sum<G: Gate + Sync, T: Threads + Wait + Sync>(
         Shown::Entries { tree, kinds, range } => {
             let entries = EntryGroups::new(kinds.as_slice(), groups);
             let (from, to) = range.bounds();
-            let entries = read(rt, alloc, tree, from, to, entries, crew)?;
+            let entries = read(context, tree, from, to, entries)?;
             Ok(entries.into_groups())
         }
-        rows => show(rt, alloc, rows, groups, crew),
+        rows => show(context, rows, groups),
     }
 }
 
@@ -247,7 +243,7 @@ fn scan_index<'a>(
 /// The rows that a scan of the tree of this name shows: those at or after the key that `from` encodes and before the one that `to` encodes. A bound is a record
 /// of at least one of the first columns of the tree's key; one that is absent does not limit the range.
 ///
-/// Refused with the first that applies: `Failed`, `NoSuchTree`, the smallest of `BadField` and `BadLength` with item 1 for `from` and 2 for `to`, `Building`.
+/// Refused with the first that applies: `Failed`, `NoSuchTree`, the lowest of `BadField` and `BadLength` with item 1 for `from` and 2 for `to`, `Building`.
 /// `Failed` and `NoSuchTree`, and also `Building` if there is no bound, come before anything is allocated.
 pub(crate) fn rows_to_show<'a>(
     alloc: Global,

@@ -12,7 +12,7 @@ ghost use Rattle.bt_view.specs.Usage as usages;
 use crate::pages::{page_of_index, page_of_rows};
 use crate::range_sums::{sums_of_index, sums_of_rows};
 use crate::shown::{rows_to_show, rows_to_sum, show, show_alone, sum, sum_alone};
-use bt_gang::{Crew, Gate};
+use bt_gang::{Context, Crew, Gate};
 use bt_node::{ForkVisitor, Visitor};
 use bt_record::RecordLine;
 use bt_row::Row;
@@ -27,24 +27,22 @@ use std::thread::Threads;
 /// `to` encodes, in ascending order of their keys; each is shown with its key. A bound is a record of at least one of the first columns of the tree's key; one
 /// that is absent does not limit the range.
 ///
-/// Refused with the first that applies: `Failed`, `NoSuchTree`, the smallest of `BadField` and `BadLength` with item 1 for `from` and 2 for `to`, `Building`.
+/// Refused with the first that applies: `Failed`, `NoSuchTree`, the lowest of `BadField` and `BadLength` with item 1 for `from` and 2 for `to`, `Building`.
 /// `Failed` and `NoSuchTree`, and also `Building` if there is no bound, come before anything is allocated. Only subtrees that overlap the range are read.
 pub fn scan<S: ForkVisitor<Row> + Send, G: Gate + Sync, T: Threads + Wait + Sync>(
-    rt: &T,
-    alloc: Global,
+    context: &Context<'_, T, Crew<G>>,
     table: &Table,
     name: &Text,
     from: Option<&RecordLine<'_>>,
     to: Option<&RecordLine<'_>>,
     visitor: S,
-    crew: &Crew<G>,
 ) -> Result<S, Refusal>
     ensures answer { Answers (map_ok (fold S.visited visitor) (spec.scan_with_keys table.now name.now (option_copied from.entry) (option_copied to.entry))) result }
     ensures certain { IfErr (tree_named table.now name.now) (IsErrOf result) }
     ensures unbounded { from.entry ≡ None → to.entry ≡ None → IfErr (spec.scan table.now name.now None None) (IsErrOf result) }
 {
-    let shown = rows_to_show(alloc, table, name, from, to)?;
-    Ok(show(rt, alloc, shown, visitor, crew)?)
+    let shown = rows_to_show(context.alloc, table, name, from, to)?;
+    Ok(show(context, shown, visitor)?)
 }
 
 /// The same, by the caller without workers.
@@ -110,22 +108,20 @@ pub fn page<S: Visitor<Row>>(
 /// Refused like `scan`, and after that with `NoSuchColumn` if a group has no columns or more than the key, or if there is no column of this name, with `NotInt`
 /// if it is not int, and with `TooMany` if a group has more than 2^64 - 1 rows. If there is no bound, all but the last come before anything is allocated.
 pub fn sums<G: Gate + Sync, T: Threads + Wait + Sync>(
-    rt: &T,
-    alloc: Global,
+    context: &Context<'_, T, Crew<G>>,
     table: &Table,
     name: &Text,
     grouping: u32,
     column: &Text,
     from: Option<&RecordLine<'_>>,
     to: Option<&RecordLine<'_>>,
-    crew: &Crew<G>,
 ) -> Result<Sequence<Sum>, Refusal>
     ensures answer { Answers (groups.sums table.now name.now grouping column.now (option_copied from.entry) (option_copied to.entry)) result }
     ensures certain { IfErr (tree_named table.now name.now) (IsErrOf result) }
     ensures unbounded { from.entry ≡ None → to.entry ≡ None → IfErr (groups.sums table.now name.now grouping column.now None None) (λ refusal. refusal ≢ Refusal.TooMany → IsErrOf result refusal) }
 {
-    let summed = rows_to_sum(alloc, table, name, grouping, column, from, to)?;
-    sum(rt, alloc, summed, crew)?.finish()
+    let summed = rows_to_sum(context.alloc, table, name, grouping, column, from, to)?;
+    sum(context, summed)?.finish()
 }
 
 /// The same, by the caller without workers.

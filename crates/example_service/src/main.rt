@@ -5,7 +5,7 @@
 use anyhow::Result;
 use bt_batch::Changes;
 use bt_fanout::IndexDef;
-use bt_gang::{Crew, NoGate};
+use bt_gang::{Context, Crew, NoGate};
 use bt_keycode::encode_row;
 use bt_node::Shape;
 use bt_rowtype::{
@@ -166,9 +166,10 @@ impl Service {
 
     // All rows.
     fn all<R: Threads + Wait + Sync>(&self, rt: &R) -> Result<RowList, Fault> {
-        let (alloc, table, rows, crew) = (self.alloc, &self.table, &self.rows, &self.crew);
+        let (alloc, crew) = (self.alloc, &self.crew);
+        let context = Context { rt, alloc, crew };
         let list = RowList::new(alloc);
-        Ok(scan(rt, alloc, table, rows, None, None, list, crew)?)
+        Ok(scan(&context, &self.table, &self.rows, None, None, list)?)
     }
 }
 

@@ -2,7 +2,7 @@
 use crate::gates::{Counting, Meeting};
 use crate::tables::{EIGHT_MESSAGES, SIX_ROWS, primary, table_after};
 use bt_fanout::{Cover, Effect, effects};
-use bt_gang::{Crew, Gate};
+use bt_gang::{Context, Crew, Gate};
 use bt_keycode::{Key, encode};
 use bt_messages::{Message, Packet};
 use bt_node::Copies;
@@ -115,15 +115,18 @@ fn scanned<R: Threads + Wait + Sync>(
 ) -> Result<Vec<i64>, Refusal> {
     let crew = Crew::new(2, 1, 65_536, gate)?;
     let (from, to) = (RecordLine::new(from), RecordLine::new(to));
-    let copies = scan(
+    let context = Context {
         rt,
         alloc,
+        crew: &crew,
+    };
+    let copies = scan(
+        &context,
         table,
         &primary(alloc)?,
         from.as_ref(),
         to.as_ref(),
         Copies::new(alloc),
-        &crew,
     )?;
     let mut found = Vec::new(alloc);
     for (_key, row) in copies.into_rows() {
@@ -162,16 +165,19 @@ fn two_jobs_of_sums(rt: HostRuntime) -> Result<(), Fail> {
     let table = table_after(alloc, &[SIX_ROWS, EIGHT_MESSAGES])?;
     let gate = Meeting::new();
     let crew = Crew::new(2, 1, 65_536, &gate as &(dyn Gate + Sync))?;
-    let groups = sums(
-        &rt,
+    let context = Context {
+        rt: &rt,
         alloc,
+        crew: &crew,
+    };
+    let groups = sums(
+        &context,
         &table,
         &primary(alloc)?,
         1,
         &Text::new(alloc, "qty")?,
         None,
         None,
-        &crew,
     )?;
     assert_eq!(&rt; groups.len(), QUANTITIES.len());
     for (sum, quantity) in groups.as_slice().iter().zip(QUANTITIES) {

@@ -14,8 +14,8 @@ use Rattle.bt_row.specs.Arithmetic.{Action, Makes, Sets, action_of}
 use Rattle.bt_row.specs.Ops.{action_fault, after_ops, checked_ops, default_row, fault_of, most_ops, open_kind, set_fault, upsert_as}
 use Rattle.bt_row.specs.Fits.{OpsFit, OpsInRange}
 use Rattle.bt_row.specs.Schemas.{Schema, checked_as, fit_columns, read_as}
-use Rattle.bt_row.specs.declared.op.Op.{Op}
-use Rattle.bt_row.specs.declared.schema.Column.{Column}
+use Rattle.bt_row.specs.declared.operations.op.Op.{Op}
+use Rattle.bt_row.specs.declared.rows.schema.Column.{Column}
 use Rattle.bt_row.proofs.offered.Fits.{after_ops_fits, after_ops_key, default_row_fits, default_row_key, read_fits, upsert_fits}
 use Rattle.bt_keycode.specs.Codes.{code_of}
 use Rattle.bt_keycode.specs.Keys.{is_before}

@@ -17,8 +17,8 @@ use Rattle.bt_value.proofs.offered.Tests.{both_true, first_true, second_true}
 use Rattle.bt_row.specs.Fits.{OpsFit}
 use Rattle.bt_row.specs.Ops.{checked_ops, fault_of, is_upsert, key_as, most_ops, ops_as, ops_of, upsert_as}
 use Rattle.bt_row.specs.Schemas.{Schema, checked_as, fit_columns, read_as}
-use Rattle.bt_row.specs.declared.op.Op.{Op}
-use Rattle.bt_row.specs.declared.schema.Column.{Column}
+use Rattle.bt_row.specs.declared.operations.op.Op.{Op}
+use Rattle.bt_row.specs.declared.rows.schema.Column.{Column}
 use Rattle.bt_row.proofs.offered.Fits.{read_fits, upsert_fits}
 use Rattle.bt_rowtype.specs.declared.item.Item.TheVariants.{Put, Del, Ups}
 use Rattle.bt_batch.specs.Batches.{del_of, put_of, read_key, read_message, ups_of}

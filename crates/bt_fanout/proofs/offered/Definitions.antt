@@ -3,7 +3,7 @@ use Rattle.std.proofs.Common.{ℕ, ◌≡◌, ◌≤◌, List, Option, Result, O
 use Rattle.std.specs.Result.{result_map_both}
 use Rattle.bt_value.specs.Results.{both_read}
 use Rattle.bt_row.specs.Schemas.{Schema}
-use Rattle.bt_row.specs.declared.filter.Filter.{Filter}
+use Rattle.bt_row.specs.declared.rows.filter.Filter.{Filter}
 use Rattle.bt_value.specs.declared.refusal.Refusal.{Refusal}
 use Rattle.bt_fanout.specs.Definitions.{chosen, condition_in, definition_as, kinds_of}
 use Rattle.bt_fanout.specs.Entries.{Definition, SuitsKinds}

@@ -2,7 +2,7 @@
 use Rattle.std.proofs.Common.{◌≡◌, ◌&&◌, ◌∙◌, Bool, true, false, List, [], ◌∷◌, ap, map, refl, sym, take, true≢false}
 use Rattle.bt_row.specs.Schemas.{Schema, fit_columns}
 use Rattle.bt_value.specs.Values.{fits_kind}
-use Rattle.bt_row.specs.declared.schema.Column.{Column}
+use Rattle.bt_row.specs.declared.rows.schema.Column.{Column}
 use Rattle.bt_value.specs.declared.value.Value.{Value}
 use Rattle.bt_value.proofs.offered.Kinds.{fits_kind_of}
 use Rattle.bt_keycode.specs.Codes.{code_of, kind_of}

@@ -15,12 +15,12 @@ use Rattle.bt_value.specs.Results.{all_read, both_read, unless, or_refused}
 use Rattle.bt_value.specs.Values.{AreInRange, IsInRange, default_of, value_of}
 use Rattle.bt_row.specs.Schemas.{read_as, values_of, with_first, Schema}
 use Rattle.bt_value.specs.Refusals.{lowest}
-use Rattle.bt_row.specs.declared.op.Arithmetic.{Arithmetic}
-use Rattle.bt_row.specs.declared.op.Op.{Op}
-use Rattle.bt_row.specs.declared.op.Op.TheVariants.{Set}
+use Rattle.bt_row.specs.declared.operations.op.Arithmetic.{Arithmetic}
+use Rattle.bt_row.specs.declared.operations.op.Op.{Op}
+use Rattle.bt_row.specs.declared.operations.op.Op.TheVariants.{Set}
 use Rattle.bt_value.specs.declared.refusal.Refusal.{Refusal}
 use Rattle.bt_value.specs.declared.refusal.Refusal.TheVariants.{BadField, BadLength}
-use Rattle.bt_row.specs.declared.schema.Column.{Column}
+use Rattle.bt_row.specs.declared.rows.schema.Column.{Column}
 use Rattle.bt_value.specs.declared.value.Kind.{Kind}
 use Rattle.bt_value.specs.declared.value.Kind.TheVariants as kind
 use Rattle.bt_value.specs.declared.value.Value.{Value}

@@ -9,7 +9,7 @@ use Rattle.bt_rowtype.specs.Loads.{is_header}
 use Rattle.bt_value.specs.Results.{all_read, unless}
 use Rattle.bt_record.specs.Records.{has_mark}
 use Rattle.bt_value.specs.declared.refusal.Refusal.TheVariants.{BadSchema, DuplicateKey}
-use Rattle.bt_row.specs.declared.schema.Column.{Column}
+use Rattle.bt_row.specs.declared.rows.schema.Column.{Column}
 use Rattle.bt_value.specs.declared.value.Value.{Value}
 use Rattle.bt_keycode.specs.Keys.{key_cmp}
 use Rattle.bt_keycode.specs.Standing.{AllAreUnder, AreOf, RowMap}

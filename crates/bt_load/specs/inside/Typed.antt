@@ -4,11 +4,11 @@ use Rattle.std.specs.List.{filter_map}
 use Rattle.std.specs.Result.{result_err, result_ok}
 use Rattle.bt_value.specs.Refusals.{lowest}
 use Rattle.bt_value.specs.declared.collected.Collected.{Collected}
-use Rattle.bt_row.specs.declared.schema.Column.{Column}
+use Rattle.bt_row.specs.declared.rows.schema.Column.{Column}
 use Rattle.bt_value.specs.declared.value.Value.{Value}
 use Rattle.bt_load.specs.Loads.{typed_from}
 
--- the result of reading records, the first of them as this item: their rows, and the least refusal
+-- the result of reading records, the first of them as this item: their rows, and the lowest refusal
 pub record IsReadingOf (columns : List Column) (item : ℕ) (records : List (List (List ℕ))) (read : Collected (List Value)) : Type 0 where
   pub values : read.values ≡ filter_map result_ok (typed_from columns item records)
   pub refusal : read.refusal ≡ lowest (filter_map result_err (typed_from columns item records))

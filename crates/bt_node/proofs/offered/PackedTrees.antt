@@ -9,11 +9,11 @@ use Rattle.bt_form.specs.Messages.{Meaning, Rows}
 use Rattle.bt_form.specs.Trees.{Shape, Tree}
 use Rattle.bt_form.specs.declared.mode.Mode.TheVariants.{Drain}
 use Rattle.bt_node.proofs.lemmas.crowns.CrownedRows.{crown-fits, crown-holds}
-use Rattle.bt_form.proofs.lemmas.flushes.Groups.{leaves-hold}
-use Rattle.bt_flush.proofs.lemmas.flushes.Laws.{fit_there, hold_rows_after, leaves-fit}
+use Rattle.bt_form.proofs.offered.flushes.Groups.{leaves-hold}
+use Rattle.bt_flush.proofs.offered.Laws.{fit_there, hold_rows_after, leaves-fit}
 use Rattle.bt_node.proofs.offered.ShapedTrees.{holds-sorted}
 -- the crown of siblings without pending messages has none, and neither have drained siblings
-pub use Rattle.bt_flush.proofs.lemmas.flushes.Drains.{crown-dry, drain-dry}
+pub use Rattle.bt_flush.proofs.offered.Drains.{crown-dry, drain-dry}
 
 module _ {V M : Type 0} (weigh : Key × M → ℕ) (shape : Shape) (roomy : IsRoomy shape) (rows : Rows V) (sorted : T (is_sorted key_cmp rows)) where
   -- a packed tree fits

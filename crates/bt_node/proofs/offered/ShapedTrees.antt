@@ -9,10 +9,10 @@ use Rattle.bt_flush.specs.Laws.{FitThere}
 use Rattle.bt_form.specs.Trees.{Shape, Tree, Siblings, inner, nodes}
 use Rattle.bt_form.specs.declared.mode.Mode.TheVariants.{Absorb}
 use Rattle.bt_node.proofs.lemmas.crowns.CrownedRows.{crown-fits, crown-holds}
-use Rattle.bt_form.proofs.lemmas.flushes.Groups.{children-nodes}
-use Rattle.bt_flush.proofs.lemmas.flushes.Laws.{anywhere, fit_there, hold_rows_after}
-use Rattle.bt_form.proofs.lemmas.flushes.RowsKept.{holds-lie}
-use Rattle.bt_form.proofs.lemmas.rows.RowsAfter.{rows-sorted}
+use Rattle.bt_form.proofs.offered.flushes.Groups.{children-nodes}
+use Rattle.bt_flush.proofs.offered.Laws.{anywhere, fit_there, hold_rows_after}
+use Rattle.bt_form.proofs.offered.flushes.RowsKept.{holds-lie}
+use Rattle.bt_form.proofs.offered.rows.RowsAfter.{rows-sorted}
 
 module _ {V M : Type 0} (weigh : Key × M → ℕ) (shape : Shape) (t : Tree V M) (has : HasShape weigh shape t) where
   -- its keys are in order

@@ -7,6 +7,5 @@ pub mod LookupPath
 pub mod PivotSearch
 pub mod PortionSteps
 pub mod RowsLimited
-pub mod RowsOfChildren
 pub mod RowsShown
 pub mod Together

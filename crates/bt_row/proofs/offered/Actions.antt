@@ -3,10 +3,10 @@ use Rattle.std.proofs.Common.{◌≡◌, ℕ, ℤ, pos, negsuc, Bool, true, fals
 use Rattle.std.specs.Int.{saturate_to_bits, w64}
 use Rattle.std.specs.Prelude.{FitsSigned, ◌+ℤ◌, cond, int_lt}
 use Rattle.bt_row.specs.Arithmetic.{Makes, Sets, action_of, new_number, op_making}
-use Rattle.bt_row.specs.declared.op.Arithmetic.{Arithmetic}
-use Rattle.bt_row.specs.declared.op.Arithmetic.TheVariants as arithmetic
-use Rattle.bt_row.specs.declared.op.Op.{Op}
-use Rattle.bt_row.specs.declared.op.Op.TheVariants.{Add, Max, Min, Set}
+use Rattle.bt_row.specs.declared.operations.op.Arithmetic.{Arithmetic}
+use Rattle.bt_row.specs.declared.operations.op.Arithmetic.TheVariants as arithmetic
+use Rattle.bt_row.specs.declared.operations.op.Op.{Op}
+use Rattle.bt_row.specs.declared.operations.op.Op.TheVariants.{Add, Max, Min, Set}
 use Rattle.bt_value.specs.declared.value.Value.{Value}
 
 pub action_making : (how : Arithmetic) (place : ℕ) (n : ℤ) → action_of (op_making how place n) ≡ Makes how place n

@@ -9,9 +9,9 @@ use Rattle.bt_row.specs.Fits.{OpsFit}
 use Rattle.bt_value.specs.Refusals.{lowest}
 use Rattle.bt_row.specs.Schemas.{Schema, fit_columns, read_as, values_of}
 use Rattle.bt_value.specs.Values.{fits_kind, default_of, value_of}
-use Rattle.bt_row.specs.declared.op.Op.{Op}
+use Rattle.bt_row.specs.declared.operations.op.Op.{Op}
 use Rattle.bt_value.specs.declared.refusal.Refusal.TheVariants.{BadField, BadLength}
-use Rattle.bt_row.specs.declared.schema.Column.{Column}
+use Rattle.bt_row.specs.declared.rows.schema.Column.{Column}
 use Rattle.bt_value.specs.declared.value.Value.{Value}
 use Rattle.bt_value.proofs.offered.Results.{some_read, both_ok, unless_ok}
 use Rattle.bt_value.proofs.offered.Tests.{both_true, first_true, second_true}

@@ -1,7 +1,7 @@
 -- The remaining arguments of operations.
 use Rattle.std.specs.Prelude.{List, ◌∷◌, map, Option, Some, None, ℤ}
 use Rattle.bt_row.specs.Ops.{argument_of}
-use Rattle.bt_row.specs.declared.op.Op.{Op}
+use Rattle.bt_row.specs.declared.operations.op.Op.{Op}
 use Rattle.bt_value.specs.declared.value.Value.{Value}
 use Rattle.bt_value.specs.declared.value.Value.TheVariants as value
 

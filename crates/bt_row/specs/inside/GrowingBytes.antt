@@ -1,7 +1,7 @@
 -- Bytes that grow, which are kept in the value itself if they are few.
 use Rattle.std.specs.Prelude.{ℕ, ◌≤◌, List, take}
-use Rattle.bt_row.specs.declared.growing_bytes.GrowingStorage.{GrowingStorage}
-use Rattle.bt_row.specs.declared.growing_bytes.GrowingStorage.TheVariants.{Short, Long}
+use Rattle.bt_row.specs.declared.rows.growing_bytes.GrowingStorage.{GrowingStorage}
+use Rattle.bt_row.specs.declared.rows.growing_bytes.GrowingStorage.TheVariants.{Short, Long}
 
 -- the most bytes that are kept in the value itself
 abbrev pub most_inline : ℕ

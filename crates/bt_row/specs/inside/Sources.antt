@@ -2,8 +2,8 @@
 use Rattle.std.specs.Prelude.{List}
 use Rattle.bt_row.specs.inside.Packing.{IsPacked, unpacked}
 use Rattle.bt_value.specs.declared.value.Value.{Value}
-use Rattle.bt_row.specs.declared.values.Source.{Source}
-use Rattle.bt_row.specs.declared.values.Source.TheVariants.{Listed, Packed}
+use Rattle.bt_row.specs.declared.rows.values.Source.{Source}
+use Rattle.bt_row.specs.declared.rows.values.Source.TheVariants.{Listed, Packed}
 
 -- the remaining values
 abbrev pub values_left : Source → List Value

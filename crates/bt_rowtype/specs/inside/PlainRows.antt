@@ -3,7 +3,7 @@ use Rattle.std.specs.List.{list_any}
 use Rattle.std.specs.Prelude.{ℕ, ◌≡◌, List, Some, drop, length, take}
 use Rattle.bt_value.specs.PlainFields.{fields_from, is_special, parts_of}
 use Rattle.bt_row.specs.Schemas.{values_of}
-use Rattle.bt_row.specs.declared.schema.Column.{Column}
+use Rattle.bt_row.specs.declared.rows.schema.Column.{Column}
 use Rattle.bt_value.specs.declared.value.Value.{Value}
 
 -- the first fields of a text, one for each column, encode a row and have no special byte; the other fields begin at a place

@@ -2,7 +2,7 @@
 use Rattle.std.proofs.Common.{◌≡◌, ℕ, Bool, true, false, ◌&&◌, List, [], ◌∷◌, refl, map, take, suc, zero}
 use Rattle.bt_row.specs.Schemas.{fit_columns}
 use Rattle.bt_value.specs.Values.{fits_kind}
-use Rattle.bt_row.specs.declared.schema.Column.{Column}
+use Rattle.bt_row.specs.declared.rows.schema.Column.{Column}
 use Rattle.bt_value.specs.declared.value.Value.{Value}
 use Rattle.bt_value.proofs.offered.Kinds.{fits_kind_of}
 use Rattle.bt_keycode.specs.Codes.{kind_of}

@@ -20,7 +20,7 @@ pub with_value : {T : Type 0} (values after : List T) (read : Result T Refusal) 
 with_value values after (Ok value) others is = rw is (sym (append_assoc values (value ∷ []) (filter_map result_ok others)))
 with_value values after (Err e) others is = rw (is, append-nil values) refl
 
--- the least refusal so far, including one more
+-- the lowest refusal so far, including one more
 pub with_refusal : {T : Type 0} (found after : Option Refusal) (read : Result T Refusal) (others : List (Result T Refusal)) → after ≡ lowest_from found (option_to_list (result_err read))
     → lowest_from found (filter_map result_err (read ∷ others)) ≡ lowest_from after (filter_map result_err others)
 with_refusal found after (Ok value) others is = rw is refl

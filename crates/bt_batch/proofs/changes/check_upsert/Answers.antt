@@ -1,6 +1,6 @@
 use Rattle.std.proofs.Common.{List, OnOk, subst}
 use Rattle.bt_row.specs.Fits.{OpsInRange}
-use Rattle.bt_row.specs.declared.op.Op.{Op}
+use Rattle.bt_row.specs.declared.operations.op.Op.{Op}
 use Rattle.bt_batch.proofs.CheckedChanges.{both_on_ok}
 use Rattle.bt_batch.proofs.changes.check_upsert.Goals as goal
 

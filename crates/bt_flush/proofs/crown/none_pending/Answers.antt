@@ -1,6 +1,6 @@
 use Rattle.std.proofs.Common.{◌++◌, ◌∙◌, ap, refl}
 use Rattle.bt_form.specs.Children.{after_pivot}
-use Rattle.bt_form.proofs.lemmas.code.ChildLists.{after_pivot-nothing}
+use Rattle.bt_form.proofs.offered.code.ChildLists.{after_pivot-nothing}
 use Rattle.bt_flush.proofs.crown.none_pending.Goals as goal
 
 pub same-siblings : goal.same-siblings

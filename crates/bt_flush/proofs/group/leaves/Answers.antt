@@ -4,8 +4,8 @@ use Rattle.std.proofs.lemmas.List.{nil_from_length}
 use Rattle.bt_messages.specs.declared.message.Message.{Message}
 use Rattle.bt_form.specs.Deals.{deal}
 use Rattle.bt_flush.proofs.lemmas.code.GroupLoops.{leaves_done, more_leaves, one_leaf}
-use Rattle.bt_form.proofs.lemmas.deals.Parts.{NonEmpty}
-use Rattle.bt_form.proofs.lemmas.flushes.Groups.{as_leaf, deal-some}
+use Rattle.bt_form.proofs.offered.deals.Parts.{NonEmpty}
+use Rattle.bt_form.proofs.offered.flushes.Groups.{as_leaf, deal-some}
 use Rattle.bt_flush.proofs.group.leaves.Goals as goal
 
 pub returns-then-len-most : goal.returns-then-len-most

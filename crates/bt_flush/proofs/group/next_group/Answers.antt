@@ -1,8 +1,8 @@
 use Rattle.std.proofs.Common.{◌≡◌, ◌∙◌, ◌-◌, ◌++◌, ap, arith, drop, length, subst, sym, take, take-append-drop}
 use Rattle.bt_form.specs.Children.{AreDivided}
 use Rattle.bt_form.specs.Flushes.{gathered}
-use Rattle.bt_form.proofs.lemmas.code.DealLoop.{all_moved, all_passed, item_moved, item_passed}
-use Rattle.bt_form.proofs.lemmas.flushes.Divisions.{divided-first, length-first}
+use Rattle.bt_form.proofs.offered.code.DealLoop.{all_moved, all_passed, item_moved, item_passed}
+use Rattle.bt_form.proofs.offered.flushes.Divisions.{divided-first, length-first}
 use Rattle.bt_flush.proofs.group.next_group.Goals as goal
 
 pub loop-init : goal.loop-init

@@ -2,7 +2,7 @@ use Rattle.std.proofs.Common.{◌≡◌, ◌∙◌, ◌-◌, ◌++◌, ap, arith
 use Rattle.std.specs.Bool.{IsTrue}
 use Rattle.std.specs.FinMap.{is_sorted}
 use Rattle.bt_keycode.specs.Keys.{key_cmp}
-use Rattle.bt_form.proofs.lemmas.code.DealLoop.{all_moved, all_passed, item_moved, item_passed}
+use Rattle.bt_form.proofs.offered.code.DealLoop.{all_moved, all_passed, item_moved, item_passed}
 use Rattle.bt_flush.proofs.leaf_sources.next_rows.Goals as goal
 
 pub loop-init : goal.loop-init

@@ -5,7 +5,7 @@ use Rattle.bt_form.specs.Flushes.{pivot_first}
 use Rattle.bt_flush.specs.inside.KeyedLeaves.{keyed_leaves}
 use Rattle.bt_form.specs.Plans.{total}
 use Rattle.bt_flush.proofs.lemmas.code.SourceLeaves.{all_left, all_made, leaf_made, next_fits, next_size, next_sorted, none_left, rest_left, some_leaves}
-use Rattle.bt_form.proofs.lemmas.deals.Parts.{total-sizes}
+use Rattle.bt_form.proofs.offered.deals.Parts.{total-sizes}
 use Rattle.std.proofs.lemmas.Result.{IfOk-weaker}
 use Rattle.bt_flush.proofs.leaf_sources.source_leaves.Goals as goal
 

@@ -3,7 +3,7 @@ use Rattle.std.proofs.Common.{◌≡◌, ℕ, suc, ◌+◌, ◌<◌, ◌≤◌, 
 use Rattle.std.proofs.lemmas.Bool.{leb-true, leb-false, le-leb, lt-leb, cond-true, cond-false, lt-ltb, le-ltb}
 use Rattle.std.proofs.lemmas.List.{get_or_past}
 use Rattle.bt_form.specs.Plans.{total, most, fullest, planned}
-use Rattle.bt_form.proofs.lemmas.plans.RenewedChoice.{le_or_lt, nothing, most-here, most-later, fullest-here, fullest-later, total-rest, renewed-planned}
+use Rattle.bt_form.proofs.offered.plans.RenewedChoice.{le_or_lt, nothing, most-here, most-later, fullest-here, fullest-later, total-rest, renewed-planned}
 
 -- ---- the fullest
 

@@ -5,8 +5,8 @@ use Rattle.bt_value.specs.Lists.{concatenation}
 use Rattle.bt_form.specs.Children.{AreDivided}
 use Rattle.bt_form.specs.Trees.{Shape, Siblings, Tree}
 use Rattle.bt_form.specs.Flushes.{Child, crown, grouped, none_pending}
-use Rattle.bt_form.proofs.lemmas.flushes.Divisions.{divided-none}
-use Rattle.bt_flush.proofs.lemmas.crowns.Levels.{crown-again, raised-shorter}
+use Rattle.bt_form.proofs.offered.flushes.Divisions.{divided-none}
+use Rattle.bt_flush.proofs.offered.Levels.{crown-again, raised-shorter}
 
 nothing-pending : {V M : Type 0} (xs : Siblings V M) → concatenation (map (λ c. c.pending) (none_pending xs)) ≡ []
 nothing-pending [] = refl

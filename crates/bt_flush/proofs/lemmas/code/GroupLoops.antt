@@ -12,10 +12,10 @@ use Rattle.bt_form.specs.Messages.{Rows}
 use Rattle.bt_form.specs.Trees.{Shape, Siblings, Tree, leaf}
 use Rattle.bt_form.specs.Deals.{deal, even, parted}
 use Rattle.bt_form.specs.Flushes.{Child, first_key, gathered, grouped, leaves, pivot_first}
-use Rattle.bt_form.proofs.lemmas.deals.Parts.{AllPositive, positive-even, total-even}
-use Rattle.bt_form.proofs.lemmas.deals.PartSizes.{Each, deal-one, enough-parts, even-at_most, length-even}
-use Rattle.bt_form.proofs.lemmas.flushes.Groups.{as_leaf}
-use Rattle.bt_form.proofs.lemmas.flushes.Divisions.{divided-rest}
+use Rattle.bt_form.proofs.offered.deals.Parts.{AllPositive, positive-even, total-even}
+use Rattle.bt_form.proofs.offered.deals.PartSizes.{Each, deal-one, enough-parts, even-at_most, length-even}
+use Rattle.bt_form.proofs.offered.flushes.Groups.{as_leaf}
+use Rattle.bt_form.proofs.offered.flushes.Divisions.{divided-rest}
 
 -- ---- groups of children
 

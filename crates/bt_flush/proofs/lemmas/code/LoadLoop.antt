@@ -21,11 +21,11 @@ use Rattle.bt_form.specs.Marks.{flush_marks, has_room}
 use Rattle.bt_form.specs.Trees.{Shape, Siblings, pivots_of}
 use Rattle.bt_form.specs.declared.mode.Mode.{Mode}
 use Rattle.bt_form.specs.declared.mode.Mode.TheVariants.{Absorb, Drain}
-use Rattle.bt_form.proofs.lemmas.flushes.Divisions.{bins-length, loads-are}
-use Rattle.bt_flush.proofs.lemmas.flushes.EmptyPackets.{all_pending-shared}
-use Rattle.bt_flush.proofs.lemmas.flushes.NodeSizes.{total-loads}
-use Rattle.bt_form.proofs.lemmas.flushes.Shares.{length-shared}
-use Rattle.bt_form.proofs.lemmas.plans.Marks.{all-marked}
+use Rattle.bt_form.proofs.offered.flushes.Divisions.{bins-length, loads-are}
+use Rattle.bt_flush.proofs.offered.EmptyPackets.{all_pending-shared}
+use Rattle.bt_flush.proofs.offered.NodeSizes.{total-loads}
+use Rattle.bt_form.proofs.offered.flushes.Shares.{length-shared}
+use Rattle.bt_form.proofs.offered.plans.Marks.{all-marked}
 
 -- the first messages are no more than all
 part-within : {X : Type 0} (ns : List ℕ) (ms : List X) (i : ℕ) → length (get_or (parted ns ms) i []) ≤ length ms

@@ -27,20 +27,20 @@ use Rattle.bt_flush.specs.Steps.{IsKept, IsOpened, IsStep}
 use Rattle.bt_form.specs.Trees.{Shape, Siblings, Tree, height, height_below, inner, nodes, pivots_of}
 use Rattle.bt_form.specs.inside.Flushing.{AreReady, IsReady, with_shares}
 use Rattle.bt_form.specs.Passes.{after_pass}
-use Rattle.bt_form.proofs.lemmas.deals.Parts.{NonEmpty}
-use Rattle.bt_form.proofs.lemmas.flushes.Children.{ChildrenLie}
-use Rattle.bt_form.proofs.lemmas.flushes.Divisions.{bins-length, divided-lie, divided-none, joined-pending, length-with_pending, shares-length}
-use Rattle.bt_form.proofs.lemmas.flushes.Divisions.{stripped-with_pending, with_pending-ready, with_shares-shared}
-use Rattle.bt_flush.proofs.lemmas.flushes.Drains.{all_pending-flushed}
-use Rattle.bt_flush.proofs.lemmas.flushes.EmptyPackets.{still-here}
-use Rattle.bt_form.proofs.lemmas.flushes.Groups.{children-nodes, led-full, some_length, stripped}
-use Rattle.bt_flush.proofs.lemmas.flushes.Laws.{anywhere}
-use Rattle.bt_form.proofs.lemmas.flushes.Passes.{Keeps, after_pass-lie, flushed-slots, names-slots, slots}
-use Rattle.bt_flush.proofs.lemmas.flushes.Recursion.{flush-led, flush_recurs}
-use Rattle.bt_form.proofs.lemmas.flushes.RowsKept.{flush-keeps}
-use Rattle.bt_form.proofs.lemmas.flushes.Shares.{length-shared, shared-lie}
-use Rattle.bt_form.proofs.lemmas.flushes.Widest.{siblings_widest}
-use Rattle.bt_form.proofs.lemmas.plans.Marks.{length-flush_marks}
+use Rattle.bt_form.proofs.offered.deals.Parts.{NonEmpty}
+use Rattle.bt_form.proofs.offered.flushes.Children.{ChildrenLie}
+use Rattle.bt_form.proofs.offered.flushes.Divisions.{bins-length, divided-lie, divided-none, joined-pending, length-with_pending, shares-length}
+use Rattle.bt_form.proofs.offered.flushes.Divisions.{stripped-with_pending, with_pending-ready, with_shares-shared}
+use Rattle.bt_flush.proofs.offered.Drains.{all_pending-flushed}
+use Rattle.bt_flush.proofs.offered.EmptyPackets.{still-here}
+use Rattle.bt_form.proofs.offered.flushes.Groups.{children-nodes, led-full, some_length, stripped}
+use Rattle.bt_flush.proofs.offered.Laws.{anywhere}
+use Rattle.bt_form.proofs.offered.flushes.Passes.{Keeps, after_pass-lie, flushed-slots, names-slots, slots}
+use Rattle.bt_flush.proofs.offered.Recursion.{flush-led, flush_recurs}
+use Rattle.bt_form.proofs.offered.flushes.RowsKept.{flush-keeps}
+use Rattle.bt_form.proofs.offered.flushes.Shares.{length-shared, shared-lie}
+use Rattle.bt_form.proofs.offered.flushes.Widest.{siblings_widest}
+use Rattle.bt_form.proofs.offered.plans.Marks.{length-flush_marks}
 
 -- one pass over children with marks
 abbrev pub pass : {V D : Type 0} → Meaning V (Message V D) → Mode → Shape → List (Child V (Message V D) × Bool) → List (Child V (Message V D))

@@ -12,11 +12,11 @@ use Rattle.bt_flush.specs.inside.KeyedLeaves.{all_leaves, keyed_leaves, leaf_cou
 use Rattle.bt_form.specs.Messages.{Rows}
 use Rattle.bt_form.specs.Plans.{total}
 use Rattle.bt_form.specs.Trees.{Shape, Siblings, leaf}
-use Rattle.bt_form.proofs.lemmas.code.RowPass.{AllSorted, sorted_parted}
+use Rattle.bt_form.proofs.offered.code.RowPass.{AllSorted, sorted_parted}
 use Rattle.bt_flush.proofs.lemmas.deals.Division.{take-add}
-use Rattle.bt_form.proofs.lemmas.deals.Parts.{total-append, total-sizes}
-use Rattle.bt_form.proofs.lemmas.deals.PartSizes.{length-even, lengths-deal}
-use Rattle.bt_form.proofs.lemmas.flushes.Groups.{as_leaf}
+use Rattle.bt_form.proofs.offered.deals.Parts.{total-append, total-sizes}
+use Rattle.bt_form.proofs.offered.deals.PartSizes.{length-even, lengths-deal}
+use Rattle.bt_form.proofs.offered.flushes.Groups.{as_leaf}
 
 -- ---- how many leaves there are
 

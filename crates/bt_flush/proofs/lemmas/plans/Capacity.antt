@@ -4,8 +4,8 @@ use Rattle.std.proofs.lemmas.Bool.{le-leb, lt-leb, cond-true, cond-false, eqb-tr
 use Rattle.bt_form.specs.Plans.{total, most, place_of, fullest}
 use Rattle.bt_form.specs.Loops.{after_turns, opened_at}
 use Rattle.bt_form.specs.Passes.{IsLight}
-use Rattle.bt_form.proofs.lemmas.plans.RenewedChoice.{le_or_lt, nothing}
-use Rattle.bt_form.proofs.lemmas.plans.OnePass.{after_turns-planned, total-light}
+use Rattle.bt_form.proofs.offered.plans.RenewedChoice.{le_or_lt, nothing}
+use Rattle.bt_form.proofs.offered.plans.OnePass.{after_turns-planned, total-light}
 
 module _ {X : Type 0} (weight : X → ℕ) (parts : X → List X) (light : (x : X) → IsLight weight (parts x)) where
   total-opened : (m : ℕ) (xs : List X) → m ≤ most (map weight xs) → 0 < m → most (map weight xs) ≤ m

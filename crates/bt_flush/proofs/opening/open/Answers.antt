@@ -5,11 +5,11 @@ use Rattle.bt_messages.specs.Shares.{AreShares, counts, share_of}
 use Rattle.bt_messages.specs.Weights.{load, weigh_of}
 use Rattle.bt_messages.specs.declared.share.Share.{Share}
 use Rattle.std.proofs.lemmas.List.{length-map}
-use Rattle.bt_form.proofs.lemmas.flushes.Divisions.{each-long}
+use Rattle.bt_form.proofs.offered.flushes.Divisions.{each-long}
 use Rattle.bt_form.specs.Fits.{IsLed}
 use Rattle.bt_form.specs.Trees.{inner, nodes}
 use Rattle.bt_flush.proofs.lemmas.code.LoadLoop.{Come, after_joined, after_lie, at_pivots, bin_each, has_room-absorb, has_room-drain, marks_all, marks_planned, room_test, share_each, shares_weighed}
-use Rattle.bt_form.proofs.lemmas.code.SiblingParts.{with_pivots-led}
+use Rattle.bt_form.proofs.offered.code.SiblingParts.{with_pivots-led}
 use Rattle.bt_flush.proofs.opening.open.Goals as goal
 use Rattle.bt_flush.proofs.opening.open.Goals.{in-Absorb+in_ok-loads-in-Absorb+else-len-fanout}
 use Rattle.bt_flush.proofs.opening.open.Goals.{else-len-fanout-via-then-len-fanout+else-are_within, else-len-fanout-via-else-len-fanout}

@@ -2,7 +2,7 @@ use Rattle.std.proofs.Common.{◌≡◌, ◌∙◌, ap, false, length, subst, sy
 use Rattle.std.proofs.lemmas.List.{length-replicate}
 use Rattle.bt_form.specs.Plans.{planned}
 use Rattle.bt_form.specs.inside.Marks.{set_all}
-use Rattle.bt_form.proofs.lemmas.plans.Marks.{marks-words}
+use Rattle.bt_form.proofs.offered.plans.Marks.{marks-words}
 use Rattle.bt_flush.proofs.lemmas.plans.PlanSizes.{AllBelow, below-planned}
 use Rattle.bt_flush.proofs.opening.planned_marks.Goals as goal
 

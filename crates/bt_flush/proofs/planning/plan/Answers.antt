@@ -1,6 +1,6 @@
 use Rattle.std.proofs.Common.{◌≡◌, ◌∙◌, ap, arith, sym, le_refl, rules}
 use Rattle.bt_form.specs.Plans.{planned, total}
-use Rattle.bt_form.proofs.lemmas.plans.RenewedChoice.{renewed-planned}
+use Rattle.bt_form.proofs.offered.plans.RenewedChoice.{renewed-planned}
 use Rattle.bt_flush.proofs.lemmas.plans.PlanSizes.{room-left}
 use Rattle.bt_flush.proofs.planning.plan.Goals as goal
 

@@ -1,5 +1,5 @@
 use Rattle.std.proofs.Common.{◌≡◌, ◌-◌, ◌+◌, ◌++◌, ◌∷◌, [], ◌∙◌, suc, ap, append-nil, append_assoc, arith, replicate, sym}
-use Rattle.bt_form.proofs.lemmas.code.ChildLists.{replicate-more}
+use Rattle.bt_form.proofs.offered.code.ChildLists.{replicate-more}
 use Rattle.bt_form.proofs.children.push_bins.Goals as goal
 
 pub loop-init : goal.loop-init

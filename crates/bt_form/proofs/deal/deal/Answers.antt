@@ -2,8 +2,8 @@ use Rattle.std.proofs.Common.{◌∙◌, map, ap, sym, arith}
 use Rattle.std.proofs.lemmas.Grind.{common_steps}
 use Rattle.std.proofs.lemmas.List.{map-append}
 use Rattle.bt_form.specs.Deals.{even}
-use Rattle.bt_form.proofs.lemmas.code.DealLoop.{all_dealt, none_dealt, part_dealt}
-use Rattle.bt_form.proofs.lemmas.deals.PartSizes.{deal-one}
+use Rattle.bt_form.proofs.offered.code.DealLoop.{all_dealt, none_dealt, part_dealt}
+use Rattle.bt_form.proofs.offered.deals.PartSizes.{deal-one}
 use Rattle.bt_form.proofs.deal.deal.Goals as goal
 
 pub returns-then-count-most : goal.returns-then-count-most

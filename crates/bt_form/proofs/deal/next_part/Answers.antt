@@ -1,7 +1,7 @@
 use Rattle.std.proofs.Common.{◌≡◌, ◌∙◌, ◌-◌, length, ap, rules, arith}
 use Rattle.std.proofs.lemmas.Grind.{common_steps}
 use Rattle.std.specs.Vec.Iter.{into_iter_items}
-use Rattle.bt_form.proofs.lemmas.code.DealLoop.{dropped_from_none, item_moved, item_passed, taken_from_none}
+use Rattle.bt_form.proofs.offered.code.DealLoop.{dropped_from_none, item_moved, item_passed, taken_from_none}
 use Rattle.bt_form.proofs.deal.next_part.Goals as goal
 use Rattle.bt_form.proofs.deal.next_part.Goals.{in-Some, in_default}
 

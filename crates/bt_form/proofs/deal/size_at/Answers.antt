@@ -1,5 +1,5 @@
 use Rattle.std.proofs.Common.{arith}
-use Rattle.bt_form.proofs.lemmas.deals.SizeAtPlace.{longer_part, shorter_part}
+use Rattle.bt_form.proofs.offered.deals.SizeAtPlace.{longer_part, shorter_part}
 use Rattle.bt_form.proofs.deal.size_at.Goals as goal
 
 pub returns-then-place-items : goal.returns-then-place-items

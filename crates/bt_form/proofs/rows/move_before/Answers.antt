@@ -1,6 +1,6 @@
 use Rattle.std.proofs.Common.{◌≡◌, ◌∙◌, ◌++◌, false, append-nil, ap, arith, length, sym, rules}
 use Rattle.bt_keycode.specs.Keys.{is_before}
-use Rattle.bt_form.proofs.lemmas.code.RowPass.{stops_at}
+use Rattle.bt_form.proofs.offered.code.RowPass.{stops_at}
 use Rattle.bt_form.proofs.rows.move_before.Goals as goal
 
 pub returns-then-ne-clause-moved : goal.returns-then-ne-clause-moved

@@ -1,7 +1,7 @@
 use Rattle.std.proofs.Common.{◌≡◌, rules}
 use Rattle.std.specs.declared.cmp.Ordering.TheVariants.{Equal}
 use Rattle.bt_keycode.specs.Keys.{key_cmp}
-use Rattle.bt_form.proofs.lemmas.code.RowPass.{first_kept_at, first_of_rows}
+use Rattle.bt_form.proofs.offered.code.RowPass.{first_kept_at, first_of_rows}
 use Rattle.bt_form.proofs.rows.split_first.Goals as goal
 
 pub returns-then-ne-clause-value : goal.returns-then-ne-clause-value

@@ -1,6 +1,6 @@
 use Rattle.std.proofs.Common.{◌∙◌, arith, ap, length, length-drop}
 use Rattle.std.proofs.lemmas.List.{take_rest}
-use Rattle.bt_form.proofs.lemmas.code.RowSearch.{sorted_rest}
+use Rattle.bt_form.proofs.offered.code.RowSearch.{sorted_rest}
 use Rattle.bt_form.proofs.search.part_from.Goals as goal
 
 pub returns : goal.returns

@@ -5,7 +5,7 @@ use Rattle.bt_value.specs.Refusals.{lowest, lowest_from}
 use Rattle.bt_load.specs.Loads.{typed_from}
 use Rattle.bt_load.proofs.typing.type_in_turn.Given as goal
 
--- the rows so far and the least refusal so far are those of the records before this one
+-- the rows so far and the lowest refusal so far are those of the records before this one
 abbrev pub invariant-loop-place : goal.invariant-loop-place
 invariant-loop-place l = record {
   values : l.reading.values ++ filter_map result_ok (typed_from l.schema.columns (1 + l.place) (drop l.place l.records)) ≡ filter_map result_ok (typed_from l.schema.columns 1 l.records);

@@ -6,7 +6,7 @@ use Rattle.bt_messages.proofs.offered.Loads.{load-none}
 use Rattle.bt_form.specs.Trees.{Shape, Tree, Siblings}
 use Rattle.bt_form.specs.Flushes.{shared, none_pending, grouped, crown_within, crown, holds, all_hold}
 use Rattle.bt_form.specs.Fits.{NodeFits, SiblingsFit, IsRoomy}
-use Rattle.bt_flush.proofs.lemmas.crowns.Levels.{raised-shorter, shared-nothing}
+use Rattle.bt_flush.proofs.offered.Levels.{raised-shorter, shared-nothing}
 use Rattle.bt_node.proofs.lemmas.flushes.Regrouped.{grouped_fits, grouped_holds}
 
 module _ {V M : Type 0} (weigh : Key × M → ℕ) (s : Shape) (roomy : IsRoomy s) where

@@ -10,14 +10,14 @@ use Rattle.bt_form.specs.Trees.{Shape, Siblings, nodes}
 use Rattle.bt_form.specs.Flushes.{shared, grouped, all_hold}
 use Rattle.bt_form.specs.Fits.{AreSized, IsRoomy, SiblingsFit, SiblingsLie}
 use Rattle.bt_flush.specs.Laws.{FitAbove, HoldAllAfter}
-use Rattle.bt_form.proofs.lemmas.rows.RowsAfter.{rows-sorted, rows_after-lie}
-use Rattle.bt_form.proofs.lemmas.rows.Values.{find-rows}
-use Rattle.bt_form.proofs.lemmas.flushes.Children.{ChildrenLie, below, value-below-seen}
-use Rattle.bt_flush.proofs.lemmas.flushes.EmptyPackets.{all_pending-shared, stripped-shared}
-use Rattle.bt_flush.proofs.lemmas.flushes.NodeSizes.{grouped-sized}
-use Rattle.bt_form.proofs.lemmas.flushes.RowsKept.{all_hold-lie}
-use Rattle.bt_form.proofs.lemmas.flushes.Shares.{below-shared, length-shared, shared-lie}
-use Rattle.bt_form.proofs.lemmas.flushes.ValuesKept.{Grouped, groups}
+use Rattle.bt_form.proofs.offered.rows.RowsAfter.{rows-sorted, rows_after-lie}
+use Rattle.bt_form.proofs.offered.rows.Values.{find-rows}
+use Rattle.bt_form.proofs.offered.flushes.Children.{ChildrenLie, below, value-below-seen}
+use Rattle.bt_flush.proofs.offered.EmptyPackets.{all_pending-shared, stripped-shared}
+use Rattle.bt_flush.proofs.offered.NodeSizes.{grouped-sized}
+use Rattle.bt_form.proofs.offered.flushes.RowsKept.{all_hold-lie}
+use Rattle.bt_form.proofs.offered.flushes.Shares.{below-shared, length-shared, shared-lie}
+use Rattle.bt_form.proofs.offered.flushes.ValuesKept.{Grouped, groups}
 
 module _ {V M : Type 0} (weigh : Key × M → ℕ) (s : Shape) (roomy : IsRoomy s) (levels : ℕ) (low high : Option Key) (xs : Siblings V M) (b : Messages M) (several : 2 ≤ length xs)
     (lie : SiblingsLie levels low high xs) (within : AllWithin low high b) (sorted : IsSorted b) where

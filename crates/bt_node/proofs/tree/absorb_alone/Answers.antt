@@ -3,7 +3,7 @@ use Rattle.bt_messages.specs.Meanings.{meaning_of}
 use Rattle.bt_messages.specs.Weights.{weigh_of}
 use Rattle.bt_form.specs.Fits.{IsRoomy}
 use Rattle.bt_node.proofs.lemmas.crowns.ShapedTrees.{has_room}
-use Rattle.bt_flush.proofs.lemmas.flushes.Laws.{chosen_are_planned, flushes_in_turn, stay_without_packet}
+use Rattle.bt_flush.proofs.offered.Laws.{chosen_are_planned, flushes_in_turn, stay_without_packet}
 use Rattle.bt_node.proofs.tree.absorb_alone.Goals as goal
 
 pub returns : goal.returns

@@ -1,5 +1,5 @@
 use Rattle.bt_messages.specs.Meanings.{meaning_of}
-use Rattle.bt_flush.proofs.lemmas.flushes.Drains.{drain_dries}
+use Rattle.bt_flush.proofs.offered.Drains.{drain_dries}
 use Rattle.bt_node.proofs.tree.drain_alone.Goals as goal
 
 pub returns-clause-dry : goal.returns-clause-dry

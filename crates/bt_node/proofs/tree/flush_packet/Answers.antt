@@ -4,7 +4,7 @@ use Rattle.bt_messages.specs.Meanings.{meaning_of}
 use Rattle.bt_form.specs.Fits.{IsRoomy}
 use Rattle.bt_form.specs.Flushes.{flush_in}
 use Rattle.bt_node.proofs.lemmas.crowns.ShapedTrees.{has_room}
-use Rattle.bt_flush.proofs.lemmas.flushes.Laws.{come_by_one_rule, fit_there, hold_rows_after, keep_height}
+use Rattle.bt_flush.proofs.offered.Laws.{come_by_one_rule, fit_there, hold_rows_after, keep_height}
 use Rattle.bt_node.proofs.tree.flush_packet.Goals as goal
 
 pub returns : goal.returns

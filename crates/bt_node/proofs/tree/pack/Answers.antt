@@ -10,9 +10,9 @@ use Rattle.bt_form.specs.Fits.{IsRoomy, SiblingsFit}
 use Rattle.bt_form.specs.Flushes.{all_hold, crown, leaves}
 use Rattle.bt_form.specs.Trees.{nodes}
 use Rattle.bt_node.proofs.lemmas.crowns.ShapedTrees.{has_room}
-use Rattle.bt_flush.proofs.lemmas.flushes.Drains.{crown_dries, dry-leaves}
-use Rattle.bt_form.proofs.lemmas.flushes.Groups.{leaves-hold}
-use Rattle.bt_flush.proofs.lemmas.flushes.Laws.{leaves-fit}
+use Rattle.bt_flush.proofs.offered.Drains.{crown_dries, dry-leaves}
+use Rattle.bt_form.proofs.offered.flushes.Groups.{leaves-hold}
+use Rattle.bt_flush.proofs.offered.Laws.{leaves-fit}
 use Rattle.bt_keycode.proofs.offered.Truths.{t_true}
 use Rattle.bt_node.proofs.tree.pack.Goals as goal
 

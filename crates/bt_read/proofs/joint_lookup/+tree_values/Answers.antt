@@ -7,8 +7,8 @@ use Rattle.bt_form.specs.inside.NodeKinds.{HasBins, tree_of}
 use Rattle.bt_read.specs.inside.ValuesSoFar.{option_of}
 use Rattle.bt_read.specs.inside.Together.{tree_values}
 use Rattle.bt_read.proofs.lemmas.code.PivotSearch.{pivots_rise}
-use Rattle.bt_read.proofs.lemmas.code.RowsOfChildren.{child_in_order, child_lower}
-use Rattle.bt_form.proofs.lemmas.code.SiblingParts.{pivot_within}
+use Rattle.bt_read.proofs.offered.RowsOfChildren.{child_in_order, child_lower}
+use Rattle.bt_form.proofs.offered.code.SiblingParts.{pivot_within}
 use Rattle.bt_read.proofs.lemmas.code.Together.{as_many, from_there, leaf_values, next_run, run_within}
 use Rattle.bt_read.proofs.lemmas.lookups.BinOfKey.{bin-there}
 use Rattle.bt_read.proofs.joint_lookup.+tree_values.Goals as goal

@@ -6,11 +6,11 @@ use Rattle.bt_messages.specs.declared.message.Message.{Message}
 use Rattle.bt_form.specs.Messages.{rows_after}
 use Rattle.bt_read.specs.inside.ValuesSoFar.{option_of}
 use Rattle.bt_read.specs.inside.Limits.{limited}
-use Rattle.bt_form.proofs.lemmas.rows.Between.{rows-in_order}
+use Rattle.bt_form.proofs.offered.rows.Between.{rows-in_order}
 use Rattle.bt_read.proofs.lemmas.code.LeafPass.{fewer_past, from_is, shown_end, shown_step}
 use Rattle.bt_read.proofs.lemmas.code.LentMessages.{past_in_order, rest_in_order}
 use Rattle.bt_read.proofs.lemmas.code.RowsLimited.{none_shown}
-use Rattle.bt_form.proofs.lemmas.code.RowPass.{before_of, sorted_changed, sorted_from}
+use Rattle.bt_form.proofs.offered.code.RowPass.{before_of, sorted_changed, sorted_from}
 use Rattle.bt_read.proofs.leaf_visits.visit_leaf.Goals as goal
 
 pub between-requires : goal.between-requires

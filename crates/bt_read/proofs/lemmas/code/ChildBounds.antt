@@ -8,7 +8,7 @@ use Rattle.bt_read.specs.inside.Lookups.{first_place, pivots_up_to}
 use Rattle.bt_form.specs.Parts.{AreRising}
 use Rattle.bt_read.specs.inside.Bounds.{next_bound, where_before}
 use Rattle.bt_keycode.proofs.offered.Order.{before_later, later_chain, not_after, not_before_itself}
-use Rattle.bt_form.proofs.lemmas.rows.Between.{between_below, between_from}
+use Rattle.bt_form.proofs.offered.rows.Between.{between_below, between_from}
 
 -- ---- the pivots up to a key
 

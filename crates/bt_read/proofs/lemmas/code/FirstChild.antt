@@ -21,14 +21,14 @@ use Rattle.bt_read.specs.inside.Openings.{children_left, pivots_in}
 use Rattle.bt_read.proofs.lemmas.code.ChildBounds.{belongs, next_begins, next_below, next_from, next_within}
 use Rattle.bt_read.proofs.lemmas.code.PivotSearch.{pivots_rise}
 use Rattle.bt_read.proofs.lemmas.code.PortionSteps.{child_inside, on_one_side, owners-append, rest_inside}
-use Rattle.bt_read.proofs.lemmas.code.RowsOfChildren.{child_in_order, child_lower}
+use Rattle.bt_read.proofs.offered.RowsOfChildren.{child_in_order, child_lower}
 use Rattle.bt_read.proofs.lemmas.code.RowsShown.{child_found, last_rows, next_rows, rest_found}
-use Rattle.bt_form.proofs.lemmas.flushes.Groups.{children-nodes}
-use Rattle.bt_form.proofs.lemmas.keys.SortedLists.{sorted-where}
+use Rattle.bt_form.proofs.offered.flushes.Groups.{children-nodes}
+use Rattle.bt_form.proofs.offered.keys.SortedLists.{sorted-where}
 use Rattle.bt_read.proofs.lemmas.lookups.BinOfKey.{bin-between}
-use Rattle.bt_form.proofs.lemmas.rows.Between.{between-within, cut-within, rest-within}
+use Rattle.bt_form.proofs.offered.rows.Between.{between-within, cut-within, rest-within}
 use Rattle.bt_messages.proofs.offered.Placed.{sorted-with_messages}
-use Rattle.bt_form.proofs.lemmas.rows.Buffers.{within-with_messages}
+use Rattle.bt_form.proofs.offered.rows.Buffers.{within-with_messages}
 
 -- a tree between two bounds, with newer messages to it
 abbrev portion_of : {V D : Type 0} → Option Key → Option Key → Tree V (Message V D) → Messages (Message V D) → Portion V (Message V D)

@@ -16,7 +16,7 @@ use Rattle.bt_form.specs.Messages.{Messages, Rows, before, between, from, rows_a
 use Rattle.bt_keycode.proofs.offered.Order.{is_less, neither_before, not_before_itself, total_keys}
 use Rattle.bt_messages.proofs.offered.Rows.{value_before}
 use Rattle.bt_read.proofs.lemmas.code.LentMessages.{ties}
-use Rattle.bt_form.proofs.lemmas.code.RowPass.{above_first, before_of, first_kept, first_stays, first_taken, not_among, not_before_first, same_key_above, sorted_from, split_at}
+use Rattle.bt_form.proofs.offered.code.RowPass.{above_first, before_of, first_kept, first_stays, first_taken, not_among, not_before_first, same_key_above, sorted_from, split_at}
 
 itself : (k : Key) → key_cmp k k ≡ Equal
 itself k = tied_itself total_keys k

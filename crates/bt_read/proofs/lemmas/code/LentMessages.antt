@@ -14,8 +14,8 @@ use Rattle.bt_form.specs.Messages.{Messages, before, between, from, value_after,
 use Rattle.bt_keycode.proofs.offered.Order.{all_within-from, from_earlier, later_chain, neither_before, not_after, not_before_itself, same_key, total_keys}
 use Rattle.bt_messages.proofs.offered.Placed.{alone, first_stays, newer_first}
 use Rattle.bt_messages.proofs.offered.Rows.{value_before}
-use Rattle.bt_form.proofs.lemmas.keys.SortedLists.{sorted-where}
-use Rattle.bt_form.proofs.lemmas.rows.Between.{none-over}
+use Rattle.bt_form.proofs.offered.keys.SortedLists.{sorted-where}
+use Rattle.bt_form.proofs.offered.rows.Between.{none-over}
 
 -- a key equals itself
 pub ties : (k j : Key) → k ≡ j → eq_by_cmp key_cmp k j ≡ true

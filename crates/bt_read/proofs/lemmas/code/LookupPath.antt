@@ -14,7 +14,7 @@ use Rattle.bt_read.specs.inside.Lookups.{pivots_up_to, tree_value, value_below}
 use Rattle.bt_read.specs.inside.ValuesSoFar.{BeginsWith, Resets, start_value, option_of}
 use Rattle.bt_read.specs.declared.value_so_far.ValueSoFar.{ValueSoFar}
 use Rattle.bt_keycode.proofs.offered.Order.{all_within-from, apart_back, not_before_itself, total_keys}
-use Rattle.bt_form.proofs.lemmas.rows.Values.{value-above, value-append}
+use Rattle.bt_form.proofs.offered.rows.Values.{value-above, value-append}
 
 -- a comparison of the keys the other way round
 tied : (k at : Key) (o : Ordering) → o ≡ key_cmp at k → false ≡ not (ordering_index o == 1) → eq_by_cmp key_cmp k at ≡ true

@@ -11,7 +11,7 @@ use Rattle.bt_form.specs.Parts.{AreRising}
 use Rattle.bt_form.specs.Trees.{Siblings, Tree, inner, nodes}
 use Rattle.bt_keycode.proofs.offered.Order.{later_chain, not_after, not_before_itself}
 use Rattle.bt_read.proofs.lemmas.code.ChildBounds.{rest_rises}
-use Rattle.bt_read.proofs.lemmas.code.RowsOfChildren.{siblings_lie}
+use Rattle.bt_read.proofs.offered.RowsOfChildren.{siblings_lie}
 
 not_before_first : (p : Key) (ps : List Key) (j : ℕ) (d : Key) → AreRising (p ∷ ps) → j < length ps → is_before (get_or ps j d) p ≡ false
 not_before_first p [] j d rising within = absurd (omega (arith, within))

@@ -16,8 +16,8 @@ use Rattle.bt_form.specs.Portions.{Chained, Portion, Divide, HaveThere, all_rows
 use Rattle.bt_keycode.proofs.offered.Order.{before_chain}
 use Rattle.bt_read.proofs.lemmas.code.LentMessages.{value_past}
 use Rattle.bt_read.proofs.lemmas.lookups.HeldValues.{tree_value-held}
-use Rattle.bt_form.proofs.lemmas.rows.Values.{find-rows}
-use Rattle.bt_form.proofs.lemmas.rows.Between.{earlier_below, later_from, outside_upper, same_upper}
+use Rattle.bt_form.proofs.offered.rows.Values.{find-rows}
+use Rattle.bt_form.proofs.offered.rows.Between.{earlier_below, later_from, outside_upper, same_upper}
 
 -- ---- owners of a key
 

@@ -11,17 +11,17 @@ use Rattle.bt_form.specs.Flushes.{all_hold, holds}
 use Rattle.bt_read.specs.inside.Lookups.{pivots_up_to, tree_value}
 use Rattle.bt_form.specs.Messages.{Messages, Rows, between, rows_after, value_after, with_messages}
 use Rattle.bt_form.specs.Trees.{Siblings, Tree, children, inner, nodes, pivots_of}
-use Rattle.bt_form.proofs.lemmas.flushes.Groups.{children-nodes}
-use Rattle.bt_form.proofs.lemmas.flushes.RowsKept.{holds-lie}
+use Rattle.bt_form.proofs.offered.flushes.Groups.{children-nodes}
+use Rattle.bt_form.proofs.offered.flushes.RowsKept.{holds-lie}
 use Rattle.bt_read.proofs.lemmas.lookups.HeldValues.{tree_value-held, value_below-held}
-use Rattle.bt_form.proofs.lemmas.lookups.Outside.{nodes_hold-children}
-use Rattle.bt_form.proofs.lemmas.rows.Between.{all-between, between_below, between_from, between-sorted, in_order, rows-between, same-between, split-between, value-inside}
-use Rattle.bt_form.proofs.lemmas.rows.Buffers.{value-with_messages}
-use Rattle.bt_form.proofs.lemmas.rows.RowsAfter.{rows-sorted, rows_after-sorted}
+use Rattle.bt_form.proofs.offered.lookups.Outside.{nodes_hold-children}
+use Rattle.bt_form.proofs.offered.rows.Between.{all-between, between_below, between_from, between-sorted, in_order, rows-between, same-between, split-between, value-inside}
+use Rattle.bt_form.proofs.offered.rows.Buffers.{value-with_messages}
+use Rattle.bt_form.proofs.offered.rows.RowsAfter.{rows-sorted, rows_after-sorted}
 use Rattle.bt_keycode.proofs.offered.Truths.{true_t}
-use Rattle.bt_form.proofs.lemmas.rows.Values.{find-rows}
+use Rattle.bt_form.proofs.offered.rows.Values.{find-rows}
 use Rattle.bt_read.proofs.lemmas.code.LookupPath.{child_at, value_after-later}
-use Rattle.bt_read.proofs.lemmas.code.RowsOfChildren.{child_in_order, siblings_lie}
+use Rattle.bt_read.proofs.offered.RowsOfChildren.{child_in_order, siblings_lie}
 
 module _ {V D : Type 0} (effect : Option V → Message V D → Option V) where
   -- the rows of a tree in order are sorted

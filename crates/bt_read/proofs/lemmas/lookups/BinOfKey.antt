@@ -11,8 +11,8 @@ use Rattle.bt_messages.specs.declared.message.Message.{Message}
 use Rattle.bt_form.specs.Messages.{Messages, between, value_after}
 use Rattle.bt_read.specs.declared.value_so_far.ValueSoFar.{ValueSoFar}
 use Rattle.bt_read.specs.inside.ValuesSoFar.{BeginsWith}
-use Rattle.bt_form.proofs.lemmas.rows.Between.{value-inside}
-use Rattle.bt_form.proofs.lemmas.rows.Values.{value-append}
+use Rattle.bt_form.proofs.offered.rows.Between.{value-inside}
+use Rattle.bt_form.proofs.offered.rows.Values.{value-append}
 
 module _ {V M : Type 0} (effect : Option V → M → Option V) where
   -- messages to keys before a pivot do nothing at or past it

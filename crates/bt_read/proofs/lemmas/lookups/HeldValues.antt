@@ -10,8 +10,8 @@ use Rattle.bt_form.specs.Flushes.{holds, nodes_hold, all_hold}
 use Rattle.bt_form.specs.Fits.{Lies, SiblingsLie}
 use Rattle.bt_read.specs.inside.Lookups.{tree_value, value_below}
 use Rattle.bt_keycode.proofs.offered.Order.{sides}
-use Rattle.bt_form.proofs.lemmas.rows.Values.{find-append, find-rows, or_else, or_else-None}
-use Rattle.bt_form.proofs.lemmas.lookups.Outside.{Outside, nodes_hold-children, tree-outside, all-outside}
+use Rattle.bt_form.proofs.offered.rows.Values.{find-append, find-rows, or_else, or_else-None}
+use Rattle.bt_form.proofs.offered.lookups.Outside.{Outside, nodes_hold-children, tree-outside, all-outside}
 
 module _ {V M : Type 0} (effect : Option V → M → Option V) (q : Key) where
   abbrev Found : ℕ → Type 0

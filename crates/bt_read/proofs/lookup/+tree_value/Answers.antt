@@ -8,8 +8,8 @@ use Rattle.bt_read.specs.inside.Lookups.{tree_value}
 use Rattle.bt_read.specs.inside.ValuesSoFar.{option_of}
 use Rattle.bt_read.proofs.lemmas.code.LookupPath.{along, along_reset, begins_at}
 use Rattle.bt_read.proofs.lemmas.code.PivotSearch.{pivots_rise}
-use Rattle.bt_read.proofs.lemmas.code.RowsOfChildren.{child_in_order, child_lower}
-use Rattle.bt_form.proofs.lemmas.code.SiblingParts.{pivot_within}
+use Rattle.bt_read.proofs.offered.RowsOfChildren.{child_in_order, child_lower}
+use Rattle.bt_form.proofs.offered.code.SiblingParts.{pivot_within}
 use Rattle.bt_read.proofs.lemmas.lookups.BinOfKey.{begins-bin, bin-there}
 use Rattle.bt_read.proofs.lookup.+tree_value.Goals as goal
 

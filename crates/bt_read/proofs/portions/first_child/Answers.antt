@@ -8,7 +8,7 @@ use Rattle.bt_form.specs.inside.NodeKinds.{HasBins, tree_of}
 use Rattle.bt_read.proofs.lemmas.code.ChildBounds.{or_copied, present}
 use Rattle.bt_read.proofs.lemmas.code.FirstChild.{child_and_others, child_meets, first_child, fewer_left, last_child, lower, others_meet}
 use Rattle.bt_read.proofs.lemmas.code.PivotSearch.{pivots_rise}
-use Rattle.bt_form.proofs.lemmas.keys.SortedLists.{sorted-where}
+use Rattle.bt_form.proofs.offered.keys.SortedLists.{sorted-where}
 use Rattle.bt_read.proofs.lemmas.lookups.BinOfKey.{bin-there}
 use Rattle.bt_read.proofs.portions.first_child.Goals as goal
 

@@ -4,7 +4,7 @@ use Rattle.std.specs.List.{filter_map}
 use Rattle.std.specs.Result.{result_err, result_ok}
 use Rattle.bt_row.specs.Ops.{ops_of}
 use Rattle.bt_value.specs.Refusals.{lowest_from}
-use Rattle.bt_row.specs.declared.op.Op.{Op}
+use Rattle.bt_row.specs.declared.operations.op.Op.{Op}
 use Rattle.bt_value.specs.declared.refusal.Refusal.{Refusal}
 use Rattle.bt_value.proofs.offered.Readings.{is_answer, with_refusal, with_value}
 use Rattle.bt_rowtype.proofs.Groups.{op_of_fields, ops_end, ops_more}

@@ -1,7 +1,7 @@
 use Rattle.std.proofs.Common.{List, subst, take}
 use Rattle.std.specs.Prelude.{IfSome}
 use Rattle.bt_rowtype.specs.inside.PlainRows.{HasRead}
-use Rattle.bt_row.specs.declared.schema.Column.{Column}
+use Rattle.bt_row.specs.declared.rows.schema.Column.{Column}
 use Rattle.bt_rowtype.proofs.PlainRows.{upsert_read}
 use Rattle.bt_rowtype.proofs.upsert.read_plain_upsert.Goals as goal
 

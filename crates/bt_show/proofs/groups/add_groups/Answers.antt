@@ -4,7 +4,7 @@ use Rattle.bt_value.specs.Values.{same_values}
 use Rattle.bt_show.specs.inside.GroupParts.{none_then}
 use Rattle.bt_show.specs.inside.Neighbours.{AreBounded, groups_then, with_more}
 use Rattle.bt_show.specs.declared.groups.Sum.{Sum}
-use Rattle.bt_show.proofs.LastGroup.{bounded-append, bounded-set, last-bounded, last_other, last_over, last_same}
+use Rattle.bt_show.proofs.offered.LastGroup.{bounded-append, bounded-set, last-bounded, last_other, last_over, last_same}
 use Rattle.bt_show.proofs.groups.add_groups.Goals as goal
 
 some_are : (following : List Sum) (n : ℕ) (b : Bool) → b ≡ false → b ≡ (n == 0) → n ≡ length following → 0 < length following

@@ -3,7 +3,7 @@ use Rattle.std.specs.Int.{w64}
 use Rattle.bt_show.specs.Groups.{number_in}
 use Rattle.bt_show.specs.inside.Fronts.{IsLastOf}
 use Rattle.bt_show.specs.inside.Neighbours.{AreBounded, group_of, groups_then}
-use Rattle.bt_show.proofs.LastGroup.{bounded-append}
+use Rattle.bt_show.proofs.offered.LastGroup.{bounded-append}
 use Rattle.bt_show.proofs.groups.add_row.Goals as goal
 
 pub returns-then-is_of_last-clause-groups : goal.returns-then-is_of_last-clause-groups

@@ -1,7 +1,7 @@
 use Rattle.std.proofs.Common.{rules, ◌≡◌, ◌∙◌, ◌<◌, ◌-◌, ap, get_or, of_z, to_z}
 use Rattle.std.specs.Int.{w128}
 use Rattle.bt_show.specs.inside.Neighbours.{with_more}
-use Rattle.bt_show.proofs.LastGroup.{begin_last, bounded-set, counted_last, last-bounded}
+use Rattle.bt_show.proofs.offered.LastGroup.{begin_last, bounded-set, counted_last, last-bounded}
 use Rattle.bt_show.proofs.groups.count_in_last.Goals as goal
 
 pub count_rows-requires-clause-own : goal.count_rows-requires-clause-own

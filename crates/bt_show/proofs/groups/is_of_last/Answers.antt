@@ -1,6 +1,6 @@
 use Rattle.std.proofs.Common.{rules, ◌≡◌, ◌∙◌, ◌<◌, ◌-◌, ap, get_or, length, refl, sym, take}
 use Rattle.bt_value.specs.Values.{same_values}
-use Rattle.bt_show.proofs.LastGroup.{after_last, of_last}
+use Rattle.bt_show.proofs.offered.LastGroup.{after_last, of_last}
 use Rattle.bt_show.proofs.groups.is_of_last.Goals as goal
 
 pub returns-in-Some-clause-last : goal.returns-in-Some-clause-last

@@ -4,7 +4,7 @@ use Rattle.bt_form.specs.Messages.{between}
 use Rattle.bt_fanout.specs.Effects.{entry_effect}
 use Rattle.bt_show.specs.inside.Entries.{rows_of_entries}
 use Rattle.bt_show.specs.inside.Neighbours.{after_row}
-use Rattle.bt_show.proofs.SelectedRows.{gone-along}
+use Rattle.bt_show.proofs.offered.SelectedRows.{gone-along}
 use Rattle.bt_view.proofs.range_sums.group_entries.Goals as goal
 
 pub returns : goal.returns

@@ -1,5 +1,5 @@
 use Rattle.std.proofs.Common.{◌∙◌, ap, arith, drop, map, sym}
-use Rattle.bt_form.proofs.lemmas.code.ChildLists.{bins-whole, pivots-whole, trees-whole}
+use Rattle.bt_form.proofs.offered.code.ChildLists.{bins-whole, pivots-whole, trees-whole}
 use Rattle.bt_form.proofs.children.Children.apart.Goals as goal
 
 pub returns-clause-nodes : goal.returns-clause-nodes

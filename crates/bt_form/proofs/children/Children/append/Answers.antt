@@ -1,6 +1,6 @@
 use Rattle.std.proofs.Common.{◌-◌, ◌++◌, ◌∷◌, [], ◌∙◌, ap, arith, replicate}
 use Rattle.bt_form.specs.Children.{after_pivot}
-use Rattle.bt_form.proofs.lemmas.code.ChildLists.{is_next, siblings_more}
+use Rattle.bt_form.proofs.offered.code.ChildLists.{is_next, siblings_more}
 use Rattle.bt_form.proofs.children.Children.append.Goals as goal
 
 pub returns : goal.returns

@@ -3,8 +3,8 @@ use Rattle.bt_messages.specs.Bins.{LieBetween}
 use Rattle.bt_form.specs.Children.{AreDivided}
 use Rattle.bt_form.specs.Flushes.{gathered}
 use Rattle.bt_form.specs.Trees.{pivots_of}
-use Rattle.bt_form.proofs.lemmas.code.ChildLists.{bins_lie, length-whole, node_of_all}
-use Rattle.bt_form.proofs.lemmas.code.SiblingParts.{with_pivots-length}
+use Rattle.bt_form.proofs.offered.code.ChildLists.{bins_lie, length-whole, node_of_all}
+use Rattle.bt_form.proofs.offered.code.SiblingParts.{with_pivots-length}
 use Rattle.bt_form.proofs.children.Children.into_node.Goals as goal
 
 pub inner-requires-clause-divided : goal.inner-requires-clause-divided

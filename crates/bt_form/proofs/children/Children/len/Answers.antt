@@ -1,5 +1,5 @@
 use Rattle.std.proofs.Common.{ap, arith, length}
-use Rattle.bt_form.proofs.lemmas.code.ChildLists.{length-whole}
+use Rattle.bt_form.proofs.offered.code.ChildLists.{length-whole}
 use Rattle.bt_form.proofs.children.Children.len.Goals as goal
 
 pub returns : goal.returns

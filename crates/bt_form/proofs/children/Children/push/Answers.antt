@@ -1,5 +1,5 @@
 use Rattle.std.proofs.Common.{◌++◌, ◌∷◌, [], ◌∙◌, ap, append-nil, arith, length, refl, sym}
-use Rattle.bt_form.proofs.lemmas.code.ChildLists.{is_next, one_more, still_fewer, still_long}
+use Rattle.bt_form.proofs.offered.code.ChildLists.{is_next, one_more, still_fewer, still_long}
 use Rattle.bt_form.proofs.children.Children.push.Goals as goal
 
 pub invariant_of-self : goal.invariant_of-self

@@ -1,5 +1,5 @@
 use Rattle.std.proofs.Common.{ap, arith, length}
-use Rattle.bt_form.proofs.lemmas.code.SiblingParts.{with_pivots-length}
+use Rattle.bt_form.proofs.offered.code.SiblingParts.{with_pivots-length}
 use Rattle.bt_form.proofs.children.Children.with_pending.Goals as goal
 
 pub invariant_of-result : goal.invariant_of-result

@@ -1,5 +1,5 @@
 use Rattle.std.proofs.Common.{◌∙◌, ap, arith, length, rules, sym}
-use Rattle.bt_form.proofs.lemmas.code.SiblingParts.{with_pivots-length, with_pivots-only}
+use Rattle.bt_form.proofs.offered.code.SiblingParts.{with_pivots-length, with_pivots-only}
 use Rattle.bt_form.proofs.node.Siblings.into_only.Goals as goal
 
 pub returns : goal.returns

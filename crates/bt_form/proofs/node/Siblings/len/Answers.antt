@@ -1,6 +1,6 @@
 use Rattle.std.proofs.Common.{ap, arith, length, subst}
 use Rattle.bt_form.specs.Fits.{IsLed}
-use Rattle.bt_form.proofs.lemmas.code.SiblingParts.{with_pivots-led, with_pivots-length}
+use Rattle.bt_form.proofs.offered.code.SiblingParts.{with_pivots-led, with_pivots-length}
 use Rattle.bt_form.proofs.node.Siblings.len.Goals as goal
 
 pub returns-clause-count : goal.returns-clause-count

@@ -1,5 +1,5 @@
 use Rattle.std.proofs.Common.{◌∙◌, ap, map, sym}
-use Rattle.bt_form.proofs.lemmas.code.SiblingParts.{with_pivots-items}
+use Rattle.bt_form.proofs.offered.code.SiblingParts.{with_pivots-items}
 use Rattle.bt_form.proofs.node.Siblings.nodes.Goals as goal
 
 pub returns : goal.returns

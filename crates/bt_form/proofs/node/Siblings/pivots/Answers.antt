@@ -1,5 +1,5 @@
 use Rattle.std.proofs.Common.{◌∙◌, ap, arith, drop, length, map, sym}
-use Rattle.bt_form.proofs.lemmas.code.SiblingParts.{with_pivots-length, with_pivots-pivots}
+use Rattle.bt_form.proofs.offered.code.SiblingParts.{with_pivots-length, with_pivots-pivots}
 use Rattle.bt_form.proofs.node.Siblings.pivots.Goals as goal
 
 pub returns-clause-pivots : goal.returns-clause-pivots

@@ -1,5 +1,5 @@
 use Rattle.std.proofs.Common.{◌∙◌, ◌∷◌, ◌++◌, [], ap}
-use Rattle.bt_form.proofs.lemmas.code.SiblingParts.{one-more}
+use Rattle.bt_form.proofs.offered.code.SiblingParts.{one-more}
 use Rattle.bt_form.proofs.node.Siblings.push.Goals as goal
 
 pub returns : goal.returns

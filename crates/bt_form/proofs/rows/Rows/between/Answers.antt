@@ -1,7 +1,7 @@
 use Rattle.std.proofs.Common.{◌∙◌, ap}
 use Rattle.std.specs.Option.{option_copied}
 use Rattle.bt_form.specs.Messages.{between}
-use Rattle.bt_form.proofs.lemmas.rows.Between.{part-sorted, rows-in_order}
+use Rattle.bt_form.proofs.offered.rows.Between.{part-sorted, rows-in_order}
 use Rattle.bt_form.proofs.rows.Rows.between.Goals as goal
 
 pub between-requires : goal.between-requires

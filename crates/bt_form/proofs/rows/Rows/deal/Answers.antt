@@ -1,6 +1,6 @@
 use Rattle.std.proofs.Common.{◌≡◌, ◌∙◌, ◌∷◌, ◌++◌, [], ap, append_assoc, length, map, subst, sym, rules, arith}
 use Rattle.std.proofs.lemmas.Grind.{common_steps}
-use Rattle.bt_form.proofs.lemmas.code.RowPass.{AllSorted, sorted_deal}
+use Rattle.bt_form.proofs.offered.code.RowPass.{AllSorted, sorted_deal}
 use Rattle.bt_form.proofs.rows.Rows.deal.Goals as goal
 
 pub loop-rows-init : goal.loop-rows-init

@@ -1,6 +1,6 @@
 use Rattle.std.proofs.Common.{◌≡◌, ◌+◌, ◌≤◌, ◌++◌, length, map, vec_len, vec_capacity}
 use Rattle.bt_form.specs.Deals.{deal}
-use Rattle.bt_form.proofs.lemmas.code.RowPass.{AllSorted}
+use Rattle.bt_form.proofs.offered.code.RowPass.{AllSorted}
 use Rattle.bt_form.proofs.rows.Rows.deal.Given as goal
 
 abbrev pub invariant-loop-rows : goal.invariant-loop-rows

@@ -1,9 +1,9 @@
 use Rattle.std.proofs.Common.{◌≡◌, ◌∙◌, true, subst, sym}
 use Rattle.std.specs.FinMap.{is_sorted}
 use Rattle.bt_keycode.specs.Keys.{key_cmp}
-use Rattle.bt_form.proofs.lemmas.code.RowPass.{before_of, sorted_from}
-use Rattle.bt_form.proofs.lemmas.code.RowSearch.{found_from, later_entries}
-use Rattle.bt_form.proofs.lemmas.rows.Between.{rows-in_order}
+use Rattle.bt_form.proofs.offered.code.RowPass.{before_of, sorted_from}
+use Rattle.bt_form.proofs.offered.code.RowSearch.{found_from, later_entries}
+use Rattle.bt_form.proofs.offered.rows.Between.{rows-in_order}
 use Rattle.bt_form.proofs.rows.Rows.find.Goals as goal
 
 pub count_before-requires : goal.count_before-requires

@@ -1,4 +1,4 @@
-use Rattle.bt_flush.proofs.lemmas.flushes.Drains.{crown_dries}
+use Rattle.bt_flush.proofs.offered.Drains.{crown_dries}
 use Rattle.bt_node.proofs.tree.Tree.drain.Goals as goal
 
 pub returns-clause-dry : goal.returns-clause-dry

@@ -6,7 +6,7 @@ use Rattle.bt_messages.specs.Effects.{effect_of}
 use Rattle.bt_messages.specs.Weights.{weigh_of}
 use Rattle.bt_form.specs.Fits.{IsInOrder}
 use Rattle.bt_form.specs.Flushes.{holds}
-use Rattle.bt_read.proofs.lemmas.code.RowsOfChildren.{shape_in_order}
+use Rattle.bt_read.proofs.offered.RowsOfChildren.{shape_in_order}
 use Rattle.bt_node.proofs.tree.Tree.get.Goals as goal
 
 pub get-requires : goal.get-requires

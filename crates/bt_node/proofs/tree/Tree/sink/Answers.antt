@@ -3,7 +3,7 @@ use Rattle.std.specs.declared.option.Option.TheVariants.{None}
 use Rattle.bt_messages.specs.Effects.{effect_of}
 use Rattle.bt_form.specs.Flushes.{holds}
 use Rattle.bt_form.specs.Messages.{rows_after}
-use Rattle.bt_flush.proofs.lemmas.flushes.Laws.{anywhere}
+use Rattle.bt_flush.proofs.offered.Laws.{anywhere}
 use Rattle.bt_node.proofs.tree.Tree.sink.Goals as goal
 
 pub absorb_alone-requires : goal.absorb_alone-requires

@@ -5,7 +5,7 @@ use Rattle.bt_messages.specs.Effects.{effect_of}
 use Rattle.bt_read.specs.inside.ValuesSoFar.{option_of}
 use Rattle.bt_read.proofs.lemmas.code.LentMessages.{in_parts, rest_sorted_from}
 use Rattle.bt_read.proofs.lemmas.code.LookupPath.{left_from, two_parts}
-use Rattle.bt_form.proofs.lemmas.keys.SortedLists.{sorted-back, sorted-prefix}
+use Rattle.bt_form.proofs.offered.keys.SortedLists.{sorted-back, sorted-prefix}
 use Rattle.bt_read.proofs.lent_messages.LentMessages.effect_at.Goals as goal
 
 pub lent_from-earlier-requires : goal.lent_from-earlier-requires

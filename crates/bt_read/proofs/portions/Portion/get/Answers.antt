@@ -5,7 +5,7 @@ use Rattle.bt_form.specs.Flushes.{holds}
 use Rattle.bt_form.specs.Messages.{value_after}
 use Rattle.bt_form.specs.Portions.{value_in}
 use Rattle.bt_read.proofs.lemmas.lookups.HeldValues.{tree_value-held}
-use Rattle.bt_form.proofs.lemmas.rows.Values.{find-rows}
+use Rattle.bt_form.proofs.offered.rows.Values.{find-rows}
 use Rattle.bt_read.proofs.portions.Portion.get.Goals as goal
 
 pub returns : goal.returns

@@ -3,7 +3,7 @@ use Rattle.std.proofs.lemmas.List.{length-map}
 use Rattle.bt_messages.specs.declared.message.Message.{Message}
 use Rattle.bt_keycode.specs.Keys.{Key}
 use Rattle.bt_form.specs.Trees.{Tree}
-use Rattle.bt_form.proofs.lemmas.code.SiblingParts.{children_seen, read_at}
+use Rattle.bt_form.proofs.offered.code.SiblingParts.{children_seen, read_at}
 use Rattle.bt_read.proofs.walk.Walk.child.Goals as goal
 
 pub bounds-nodes-place : goal.bounds-nodes-place

@@ -1,5 +1,5 @@
 use Rattle.std.proofs.Common.{ap, arith, length}
-use Rattle.bt_form.proofs.lemmas.code.SiblingParts.{children_seen}
+use Rattle.bt_form.proofs.offered.code.SiblingParts.{children_seen}
 use Rattle.bt_read.proofs.walk.Walk.child_count.Goals as goal
 
 pub returns-in-Inner : goal.returns-in-Inner

@@ -2,7 +2,7 @@ use Rattle.std.proofs.Common.{◌<◌, ◌-◌, ◌∙◌, ap, arith, length, op
 use Rattle.bt_messages.specs.declared.message.Message.{Message}
 use Rattle.bt_keycode.specs.Keys.{Key}
 use Rattle.bt_form.specs.Trees.{Tree}
-use Rattle.bt_form.proofs.lemmas.code.SiblingParts.{children_seen, pivot_at, pivots_length}
+use Rattle.bt_form.proofs.offered.code.SiblingParts.{children_seen, pivot_at, pivots_length}
 use Rattle.bt_read.proofs.walk.Walk.pivot.Goals as goal
 
 pub bounds-pivots-place : goal.bounds-pivots-place

@@ -6,7 +6,7 @@ use Rattle.bt_keycode.specs.Keys.{key_cmp}
 use Rattle.bt_messages.specs.Effects.{effect_of}
 use Rattle.bt_form.specs.Flushes.{holds}
 use Rattle.bt_form.specs.Portions.{HaveThere, all_rows, owners}
-use Rattle.bt_form.proofs.lemmas.rows.Between.{empty_range, none_between}
+use Rattle.bt_form.proofs.offered.rows.Between.{empty_range, none_between}
 use Rattle.bt_read.proofs.walk.Walk.portions.Goals as goal
 
 pub returns-clause-values : goal.returns-clause-values

@@ -1,2 +1,0 @@
--- One node above siblings.
-pub mod Levels
