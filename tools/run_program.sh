@@ -1,9 +1,9 @@
 # Runs the program for bin/betable and for the betable of a package. They read this file after they have set 'program' to the path of the program and 'home' to
 # the folder that has tools/ and VERSION.
 
-# Large tables then lie in huge pages, if the system gives them to programs that ask, and memory that a batch frees stays with the program.
-malloc=glibc.malloc
-export GLIBC_TUNABLES="${GLIBC_TUNABLES-$malloc.hugetlb=1:$malloc.mmap_threshold=33554432:$malloc.trim_threshold=268435456:$malloc.top_pad=67108864}"
+# Large tables then lie in huge pages, if the system gives them to programs that ask. The heap grows by 64 MiB at a time, and keeps as much that is free, so the
+# memory that a batch frees is there for the next one.
+export GLIBC_TUNABLES="${GLIBC_TUNABLES-glibc.malloc.hugetlb=1:glibc.malloc.top_pad=67108864}"
 
 # Prints the help of the program, and what betable adds to it. The status is that of the program: 1 if it cannot be written.
 print_help() {

@@ -173,9 +173,12 @@ impl Service {
     }
 }
 
-fn serve<R: Print + AllocGlobal + Threads + Wait + Sync>(rt: &R) -> Result<()> {
-    let alloc = rt.alloc();
-    let mut service = Service::new(alloc)?;
+// Counts the events, builds the index meanwhile, and prints what is asked. The service is borrowed: the prover has less to do where a function that can end
+// early has few values to drop.
+fn count_and_print<R: Print + AllocGlobal + Threads + Wait + Sync>(
+    rt: &R,
+    service: &mut Service,
+) -> Result<()> {
     service.count(rt, FIRST)?;
     service.create_index()?;
     for events in [SECOND, THIRD] {
@@ -185,7 +188,12 @@ fn serve<R: Print + AllocGlobal + Threads + Wait + Sync>(rt: &R) -> Result<()> {
     println!(rt; "index complete: {}", service.build_more(rt)?)?;
     println!(rt; "hits of home on day 1: {}", service.hits("home", 1)?)?;
     let text = service.busiest(2)?;
-    print!(rt; "{}", String::from_utf8_lossy(alloc, text.as_bytes())?)?;
+    print!(rt; "{}", String::from_utf8_lossy(rt.alloc(), text.as_bytes())?)?;
+    Ok(())
+}
+
+// Prints how many rows there are, and all their hits.
+fn print_totals<R: Print + Threads + Wait + Sync>(rt: &R, service: &Service) -> Result<()> {
     let list = service.all(rt)?;
     let mut total: i64 = 0;
     for row in list.as_slice() {
@@ -193,6 +201,12 @@ fn serve<R: Print + AllocGlobal + Threads + Wait + Sync>(rt: &R) -> Result<()> {
     }
     println!(rt; "{} rows, {total} hits", list.as_slice().len())?;
     Ok(())
+}
+
+fn serve<R: Print + AllocGlobal + Threads + Wait + Sync>(rt: &R) -> Result<()> {
+    let mut service = Service::new(rt.alloc())?;
+    count_and_print(rt, &mut service)?;
+    print_totals(rt, &service)
 }
 
 fn main(rt: HostRuntime) -> Result<()> {

@@ -76,30 +76,41 @@ fn quantities(
     Ok(found)
 }
 
+// The quantities before and after eight messages, worked out by a crew. The table is borrowed, so that this function has few values to drop where it ends early:
+// with the table of its own, its proof takes minutes.
+fn quantities_by_crew<R: Threads + Wait + Sync>(
+    rt: &R,
+    alloc: Global,
+    table: &Table,
+    gate: &(dyn Gate + Sync),
+) -> Result<Vec<(Option<i64>, Option<i64>)>, Refusal> {
+    let TreeRef::Rows { tree, .. } = table.tree(&primary(alloc)?)? else {
+        return Err(Refusal::NoSuchTree);
+    };
+    let crew = Crew::new(2, 1, 1, gate)?;
+    let packet = packet(alloc)?;
+    let effects = effects(rt, alloc, tree, &packet, &Cover::Whole, &crew)?;
+    Ok(quantities(alloc, effects.as_slice())?)
+}
+
+const BEFORE_AND_AFTER: [(Option<i64>, Option<i64>); 8] = [
+    (None, Some(-10)),
+    (None, Some(0)),
+    (Some(10), Some(11)),
+    (Some(20), Some(21)),
+    (Some(30), Some(31)),
+    (Some(40), Some(41)),
+    (Some(50), Some(51)),
+    (Some(60), Some(61)),
+];
+
 #[test]
 fn two_jobs_of_effects(rt: HostRuntime) -> Result<(), Fail> {
     let alloc = rt.alloc();
     let table = table_after(alloc, &[SIX_ROWS])?;
-    let TreeRef::Rows { tree, .. } = table.tree(&primary(alloc)?)? else {
-        return Err(Fail::new("no tree of rows"));
-    };
     let gate = Meeting::new();
-    let crew = Crew::new(2, 1, 1, &gate as &(dyn Gate + Sync))?;
-    let effects = effects(&rt, alloc, tree, &packet(alloc)?, &Cover::Whole, &crew)?;
-    let wanted = [
-        (None, Some(-10)),
-        (None, Some(0)),
-        (Some(10), Some(11)),
-        (Some(20), Some(21)),
-        (Some(30), Some(31)),
-        (Some(40), Some(41)),
-        (Some(50), Some(51)),
-        (Some(60), Some(61)),
-    ];
-    assert_eq!(&rt;
-        quantities(alloc, effects.as_slice())?.as_slice(),
-        wanted.as_slice()
-    );
+    let found = quantities_by_crew(&rt, alloc, &table, &gate)?;
+    assert_eq!(&rt; found.as_slice(), BEFORE_AND_AFTER.as_slice());
     assert_eq!(&rt; gate.entered(), Some(3));
     Ok(())
 }
@@ -159,30 +170,46 @@ fn no_jobs_of_one_portion(rt: HostRuntime) -> Result<(), Fail> {
     Ok(())
 }
 
+// The numbers of rows and the sums of all groups of one key, by a crew.
+fn sums_by_crew<R: Threads + Wait + Sync>(
+    rt: &R,
+    alloc: Global,
+    table: &Table,
+    gate: &(dyn Gate + Sync),
+) -> Result<Vec<(u64, i128)>, Refusal> {
+    let crew = Crew::new(2, 1, 65_536, gate)?;
+    let context = Context {
+        rt,
+        alloc,
+        crew: &crew,
+    };
+    let (tree, column) = (primary(alloc)?, Text::new(alloc, "qty")?);
+    let groups = sums(&context, table, &tree, 1, &column, None, None)?;
+    let mut found = Vec::new(alloc);
+    for sum in groups.as_slice() {
+        found.push((sum.count, sum.total))?;
+    }
+    Ok(found)
+}
+
+const SUMS: [(u64, i128); 8] = [
+    (1, -10),
+    (1, 0),
+    (1, 11),
+    (1, 21),
+    (1, 31),
+    (1, 41),
+    (1, 51),
+    (1, 61),
+];
+
 #[test]
 fn two_jobs_of_sums(rt: HostRuntime) -> Result<(), Fail> {
     let alloc = rt.alloc();
     let table = table_after(alloc, &[SIX_ROWS, EIGHT_MESSAGES])?;
     let gate = Meeting::new();
-    let crew = Crew::new(2, 1, 65_536, &gate as &(dyn Gate + Sync))?;
-    let context = Context {
-        rt: &rt,
-        alloc,
-        crew: &crew,
-    };
-    let groups = sums(
-        &context,
-        &table,
-        &primary(alloc)?,
-        1,
-        &Text::new(alloc, "qty")?,
-        None,
-        None,
-    )?;
-    assert_eq!(&rt; groups.len(), QUANTITIES.len());
-    for (sum, quantity) in groups.as_slice().iter().zip(QUANTITIES) {
-        assert_eq!(&rt; (sum.count, sum.total), (1, i128::from(quantity)));
-    }
+    let found = sums_by_crew(&rt, alloc, &table, &gate)?;
+    assert_eq!(&rt; found.as_slice(), SUMS.as_slice());
     assert_eq!(&rt; gate.entered(), Some(4));
     Ok(())
 }
