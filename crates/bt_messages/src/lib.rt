@@ -24,7 +24,6 @@
 #![tactic(auto)]
 
 mod batch_places;
-mod beginnings;
 mod bins;
 mod bounds;
 mod buffer;
