@@ -125,3 +125,14 @@ lengths_decide (suc n) (x ∷ xs) (y ∷ ys) few less same =
     let lengths : nat_cmp (length (x ∷ xs)) (length (y ∷ ys)) ≡ nat_cmp (length xs) (length ys) =
     sym (nat_cmp_is _ _ _ (counted (length xs) (length ys) (nat_cmp (length xs) (length ys)) (ranks (length xs) (length ys)))) in
     rw tied (lengths ∙ lengths_decide n xs ys (omega arith) (omega arith) rest)
+
+-- Of a short list and a longer one that are the same up to a length, with zeros after the short one, the short one comes first.
+pub short_before_long : (n : ℕ) (xs ys : List ℕ) → length xs ≤ n → n < length ys → padded n xs ≡ padded n ys → slice_cmp nat_cmp xs ys ≡ Less
+short_before_long n xs [] few more same = absurd (omega (arith, more))
+short_before_long n [] (y ∷ ys) few more same = refl
+short_before_long zero (x ∷ xs) (y ∷ ys) few more same = absurd (omega (arith, few))
+short_before_long (suc n) (x ∷ xs) (y ∷ ys) few more same =
+    let first : x ≡ y = cc in
+    let rest : padded n xs ≡ padded n ys = cc in
+    let tied : nat_cmp x y ≡ Equal = sym (nat_cmp_is x y Equal first) in
+    rw tied (short_before_long n xs ys (omega arith) (omega arith) rest)

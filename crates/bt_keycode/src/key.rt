@@ -158,6 +158,20 @@ impl Key {
         self.number_at(0)
     }
 
+    /// The next eight bytes as a number, with missing bytes as zero.
+    pub fn second_number(&self) -> u64
+        ensures { eight_bytes result ≡ first_eight (drop 8 self.now) }
+    {
+        self.number_at(8)
+    }
+
+    /// The eight bytes from place 14 on as a number, with missing bytes as zero. The three numbers determine the first 22 bytes.
+    pub fn third_number(&self) -> u64
+        ensures { eight_bytes result ≡ first_eight (drop 14 self.now) }
+    {
+        self.number_at(LAST_EIGHT)
+    }
+
     // The eight bytes from a place on as a number. Missing bytes count as zero.
     fn number_at(&self, place: usize) -> u64
         requires { place ≤ LAST_EIGHT }

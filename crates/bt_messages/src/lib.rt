@@ -24,6 +24,7 @@
 #![tactic(auto)]
 
 mod batch_places;
+mod beginnings;
 mod bins;
 mod bounds;
 mod buffer;

@@ -6,12 +6,13 @@ ghost use Rattle.bt_messages.specs.Effects.{DoTheSame, effect_of};
 ghost use Rattle.bt_messages.specs.Messages.{sorted_batch, with_messages};
 ghost use Rattle.bt_messages.specs.inside.Runs.{AreRuns, AreSome};
 
-use crate::batch_places::packet_by_places;
+use crate::batch_places::{packet_by, packet_by_ordered_ties};
+use crate::beginnings::ThreeNumbers;
 use crate::buffer::Buffer;
 use crate::buffer_messages::BufferMessages;
 use crate::message::{Merge, Message};
 use crate::message_runs::runs_of;
-use crate::sorting;
+use crate::sorting::{self, Sorting};
 use crate::stream::Stream;
 use crate::two_streams::{count_of_both, merge_both};
 use bt_keycode::Key;
@@ -54,17 +55,19 @@ fn sorted_by_messages<V: Merge>(
     Ok(Packet::from_runs(Buffer::new(alloc), runs, count))
 }
 
-// The packet of a batch, sorted by moving its messages or by sorting their places.
+// The packet of a batch, sorted in the cheapest way.
 fn sorted_packet<V: Merge>(
     alloc: Global,
     batch: Vec<(Key, Message<V>)>,
 ) -> Result<Packet<V>, AllocError>
     ensures { IfOk result (λ packet. packet ≡ sorted_batch batch.items) }
 {
-    if sorting::is_short_or_sorted(batch.as_slice()) {
-        return sorted_by_messages(alloc, batch);
+    match sorting::sorting_of(alloc, batch.as_slice())? {
+        Sorting::Messages => sorted_by_messages(alloc, batch),
+        Sorting::FirstNumbers => packet_by::<V, u64>(alloc, batch),
+        Sorting::OrderedTies => packet_by_ordered_ties(alloc, batch),
+        Sorting::ThreeNumbers => packet_by::<V, ThreeNumbers>(alloc, batch),
     }
-    packet_by_places(alloc, batch)
 }
 
 impl<V: Merge> Packet<V> {
