@@ -34,5 +34,6 @@ pub use check::check_commands;
 pub use log::{CommandLog, NoLog, ReplyKind};
 pub use program_run::{ProgramFault, program};
 pub use replies::Lines;
+pub use reply_text::ReplyRoom;
 pub use script_run::{replies_to, run_commands, run_script};
 pub use workforce::ScriptWorkforce;

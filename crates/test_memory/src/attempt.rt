@@ -8,7 +8,7 @@ use anyhow::{Result, bail};
 use bt_fanout::IndexDef;
 use bt_rowtype::Refusal;
 use bt_script::{Command, IndexForm, Parsed, parse_command};
-use bt_shell::{Lines, ScriptWorkforce};
+use bt_shell::{Lines, ReplyRoom, ScriptWorkforce};
 use bt_table::{Reply, Table};
 use bt_view::image;
 use std::alloc::Global;
@@ -85,7 +85,7 @@ fn call<R: AllocGlobal, C: ScriptWorkforce<R>>(
     let alloc = rt.alloc();
     match command {
         Command::Scan(name, bounds) => {
-            let lines = Lines::in_room(alloc, Vec::new(alloc));
+            let lines = Lines::in_room(alloc, ReplyRoom::new(alloc));
             Ok(Answer::Lines(crew.scan(rt, alloc, table, &name, &bounds, lines)?))
         }
         Command::Sums(form) => Ok(Answer::Sums(crew.sums(rt, alloc, table, &form)?)),
