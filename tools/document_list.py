@@ -1,11 +1,10 @@
-"""A list that a tool makes from the sources and keeps in a document, between two lines of comment."""
+"""What the tools share that print a list of what is in the sources, which bin/site makes a page of."""
 
 import argparse
 import sys
 import textwrap
-from collections.abc import Callable, Iterable, Iterator
+from collections.abc import Callable, Iterator
 from pathlib import Path
-from typing import NamedTuple
 
 WIDTH = 160
 TOP = Path(__file__).resolve().parents[1]
@@ -13,26 +12,6 @@ TOP = Path(__file__).resolve().parents[1]
 
 class Fault(Exception):
     """Why a list cannot be made."""
-
-
-class Place(NamedTuple):
-    """Where a list is: the document, and the comments around the list."""
-
-    document: str
-    opening: str
-    ending: str
-
-    def with_list(self, text: str, lines: Iterable[str]) -> str:
-        """The text of the document with these lines between its comments."""
-        before, opening, rest = text.partition(self.opening)
-        _, ending, after = rest.partition(self.ending)
-        if not ending:
-            raise Fault(f"{self.document} has no lines {self.opening} and {self.ending}")
-        return "\n".join([before + opening, "", *lines, ""]) + ending + after
-
-    def write(self, top: Path, lines: Iterable[str]) -> None:
-        path = top / self.document
-        path.write_text(self.with_list(path.read_text(), lines))
 
 
 def item(text: str) -> Iterator[str]:

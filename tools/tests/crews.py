@@ -1,4 +1,5 @@
-"""Tests of the program by crews: worked scripts by all crews, which threads a batch and a load start, and a deep tree on the stack of a worker."""
+"""Tests of the program by crews: worked scripts, and those that a loop makes, by all crews; which threads a batch and a load start; and a deep tree on the
+stack of a worker."""
 
 import os
 import shutil
@@ -8,7 +9,8 @@ from functools import cache
 from pathlib import Path
 from typing import NamedTuple
 
-from common import expect, PROGRAM, run, SECONDS
+import long_scripts
+from common import expect, imported, PROGRAM, run, SECONDS, TOP
 
 HERE = Path(__file__).resolve().parent
 TABLE = "table 4 1 2 1 id:int qty:int"
@@ -26,6 +28,48 @@ class Started(NamedTuple):
 def worked_scripts_have_the_same_replies_by_all_crews():
     status, text, errors = run("tools/every_crew", "examples", "crates/test_scripts/data", seconds=1800)
     expect((status, errors, text.splitlines()[-1].split(", ")[-1]), (0, "", "0 faults"))
+
+
+def long_scripts_have_the_replies_of_the_model_by_all_crews():
+    model = imported("tools/fuzz/model.py")
+    with tempfile.TemporaryDirectory() as folder:
+        for lines in long_scripts.ALL:
+            script = long_scripts.script_of(lines)
+            (Path(folder) / lines.__name__).write_bytes(script)
+            (Path(folder) / f"{lines.__name__}.stdout").write_bytes(model.replies(script))
+        status, text, errors = run("tools/every_crew", folder, seconds=1800)
+    count = len(long_scripts.ALL)
+    expect((status, errors, text.splitlines()[-1]), (0, "", f"{count} scripts, {30 * count} runs, 0 faults"))
+
+
+def long_scripts_reach_what_they_are_made_for():
+    """Seven levels, refusals far from the start of a load, and indexes that are complete only at the end, as the model says."""
+    model = imported("tools/fuzz/model.py")
+    replies = {lines.__name__: model.replies(long_scripts.script_of(lines)).decode().splitlines() for lines in long_scripts.ALL}
+    heights = {name: max((int(line.split()[-1]) for line in lines if line.startswith("image primary ")), default=0) for name, lines in replies.items()}
+    deep = ("deep_tree_of_upserts", "flush_through_seven_levels", "six_levels", "random_texts", "random_compound_keys")
+    expect([heights[name] for name in deep], [7, 7, 6, 6, 5])
+    refused = {name: [line for line in lines if line.startswith("refused ")] for name, lines in replies.items()}
+    expect(refused.pop("load_of_many_records"), ["refused 6 BadField 1090", "refused 14 DuplicateKey 1030"])
+    expect({name: lines for name, lines in refused.items() if lines}, {})
+    built = [line for line in replies["built_between_batches"] if line.startswith("build ")]
+    expect((len(built), [line.endswith(" complete") for line in built[-3:]]), (10, [False, True, True]))
+
+
+def long_scripts_are_flushed_in_pieces():
+    """By crates/test_cuts, which cuts each flush at each depth, runs the jobs in both orders and by crews, and compares the tree with that of the whole flush."""
+    program = TOP / "crates/test_cuts/out/test_cuts"
+    if not program.exists():
+        print("crates/test_cuts is not built, which only the gate does (rt ci), so long scripts are not flushed in pieces")
+        return
+    names = [lines.__name__ for lines in long_scripts.FOR_CUTS]
+    with tempfile.TemporaryDirectory() as folder:
+        for lines in long_scripts.FOR_CUTS:
+            (Path(folder) / lines.__name__).write_bytes(long_scripts.script_of(lines))
+        ended = subprocess.run([program, *names], cwd=folder, capture_output=True, text=True, timeout=SECONDS)
+    expect((ended.returncode, ended.stderr), (0, ""))
+    expect([line.split(":")[0] for line in ended.stdout.splitlines() if not line.startswith(" ")], names)
+    expect("  cut at 6: /0/0/0/0/0/2 with 3, /0/1/3/0/0/1 with 2,\n" in ended.stdout, True)
 
 
 def every_crew_finds_other_replies():
@@ -203,8 +247,13 @@ def a_crew_frees_what_it_takes():
     expect((ended.returncode, ended.stderr.decode(), ended.stdout.decode() == alone), (0, "", True))
 
 
+# Needs no program.
+TESTS_OF_TEXTS = [long_scripts_reach_what_they_are_made_for]
+
 TESTS = [
     worked_scripts_have_the_same_replies_by_all_crews,
+    long_scripts_have_the_replies_of_the_model_by_all_crews,
+    long_scripts_are_flushed_in_pieces,
     every_crew_finds_other_replies,
     a_load_with_quotes_and_line_breaks_has_the_same_rows_by_all_crews,
     pieces_of_a_batch_are_worked_by_two_threads,

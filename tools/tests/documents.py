@@ -5,6 +5,7 @@ import shutil
 import subprocess
 import tempfile
 import xml.etree.ElementTree as xml
+from collections import Counter
 from functools import cache
 from importlib import import_module
 from pathlib import Path
@@ -138,10 +139,12 @@ def first_lines_of_the_documents_say_whom_they_are_for():
 
 
 def decisions_are_numbered():
+    """No two have one number. That of a decision that was removed is not used again."""
     parts = list(paragraphs(text_of("docs/DECISIONS.md")))[1:]
     numbers = [re.match(r"\*\*(\d+)\. \S", lines[0]) for lines in parts]
     expect([lines[0] for lines, number in zip(parts, numbers) if number is None], [])
-    expect(sorted(int(number[1]) for number in numbers), list(range(1, len(parts) + 1)))
+    expect([number for number, count in Counter(int(number[1]) for number in numbers).items() if count > 1], [])
+    expect(len(parts) > 60, True)
 
 
 def decisions_are_in_the_sections_of_the_table():

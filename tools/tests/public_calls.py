@@ -7,7 +7,7 @@ from pathlib import Path
 from typing import Any
 
 from callers import House
-from common import expect, expect_within, imported, run, TOP
+from common import expect, imported, run, TOP
 
 promises: Any = imported("tools/promises")
 
@@ -16,6 +16,7 @@ UNCALLED: dict[str, str] = {
     "bt_batch::Changes::is_empty": "stands beside `len`, as on the lists of the standard library",
     "bt_batch::Changes::len": "for callers in Rattle who collect changes: how many there are so far",
     "bt_messages::Packet::is_empty": "stands beside `len`, as on the lists of the standard library",
+    "bt_value::Collected::new": "stands beside `with_capacity`, as on the lists of the standard library",
     "bt_record::Fields::is_empty": "stands beside `len`, as on the lists of the standard library",
     "bt_show::KeyRange::after": "the rest of a range after a page, for callers in Rattle; the library for C takes packed bounds instead",
 }
@@ -85,11 +86,10 @@ LAWS = "pub use self::law;\npub fn law()\n    ensures law { true }\n{}\n"
 PROGRAM = "use lists::{List, used};\nfn main() { used(&List::new()); List::new().show() }\n"
 DEFINITIONS = {"Lib.antt": "-- None.\n", "inside.antt": "-- None.\n", "Sizes.antt": "use Lists\n-- None.\n",
                "Lists.antt": "-- Lists of one kind,\n-- and what they hold. More.\nuse Sizes\n-- None.\n"}  # fmt: skip
-DOCUMENT = "Before.\n\n<!-- promises -->\nold\n<!-- end of the promises -->\n\nAfter.\n"
 
 
 def repository(folder: str) -> Path:
-    """Three crates, one of them not a library, and the document."""
+    """Three crates, one of them not a library."""
     top = Path(folder)
     (top / "crates.txt").write_text("# Three crates.\nlists:\nlaws: lists\nprogram: lists\n")
     for crate, file, code in (("lists", "lib.rt", LIBRARY), ("laws", "lib.rt", LAWS), ("program", "main.rt", PROGRAM)):
@@ -99,8 +99,6 @@ def repository(folder: str) -> Path:
     for name, text in DEFINITIONS.items():
         (top / "crates/lists/specs" / name).parent.mkdir(exist_ok=True)
         (top / "crates/lists/specs" / name).write_text(text)
-    (top / "docs").mkdir()
-    (top / "docs/CONTRACTS.md").write_text(DOCUMENT)
     return top
 
 
@@ -208,28 +206,11 @@ def each_public_function_is_listed_with_its_clauses() -> None:
         expect(run("tools/promises", "--top", repository(folder)), (0, LINES, ""))
 
 
-def promises_are_put_between_their_two_lines() -> None:
-    with tempfile.TemporaryDirectory() as folder:
-        top = repository(folder)
-        expect(run("tools/promises", "--write", "--top", top), (0, "", ""))
-        expect((top / "docs/CONTRACTS.md").read_text(), DOCUMENT.replace("old\n", f"\n{LINES}"))
-        (top / "docs/CONTRACTS.md").write_text(DOCUMENT.replace("<!-- end", "<!-- the end"))
-        status, _, errors = run("tools/promises", "--write", "--top", top)
-        expect(status, 1)
-        expect_within("docs/CONTRACTS.md has no lines <!-- promises --> and", errors)
-
-
-def promises_of_the_document() -> str:
-    return (TOP / "docs/CONTRACTS.md").read_text().split("<!-- promises -->\n")[1].split("<!-- end of the promises -->")[0]
-
-
-def promises_of_the_document_are_those_of_the_sources() -> None:
-    expect(promises_of_the_document().strip().splitlines(), list(promises.lines_of(TOP)))
-
-
-def the_document_names_each_file_of_definitions_and_each_public_function() -> None:
-    """In the section of its crate, everything that tools/promises finds."""
-    sections = {title: text for title, _, text in (part.partition("\n") for part in promises_of_the_document().split("\n### ")[1:])}
+def the_list_names_each_file_of_definitions_and_each_public_function() -> None:
+    """In the section of its crate, in lines of at most 160 letters, found by patterns of this test."""
+    lines = list(promises.lines_of(TOP))
+    expect([line for line in lines if len(line) > 160], [])
+    sections = {title: text for title, _, text in (part.partition("\n") for part in "\n".join(lines).split("\n### ")[1:])}
     files = {(path.parents[1].name, path.stem) for path in TOP.glob("crates/bt_*/specs/*.antt") if path.stem not in ("Lib", "inside")}
     expect(sorted((crate, name) for crate, name in files if f"`{name}`" not in sections[crate].split("\n- `src/")[0]), [])
     found = {(path.relative_to(TOP).parts[1], name) for path in TOP.glob("crates/bt_*/src/**/*.rt")
@@ -242,7 +223,7 @@ def the_document_names_each_file_of_definitions_and_each_public_function() -> No
 def contracts_that_a_page_quotes_are_those_of_the_sources() -> None:
     """Line by line, without the indentation of a method, and up to its body."""
     codes = [re.sub(r"(?m)^    ", "", path.read_text()) for path in TOP.glob("crates/bt_*/src/**/*.rt")]
-    quoted = re.findall(r"```text\n(pub fn .*?)```", (TOP / "docs/CONTRACTS.md").read_text(), flags=re.DOTALL)
+    quoted = re.findall(r"```text\n(pub fn .*?)```", (TOP / "docs/VERIFYING.md").read_text(), flags=re.DOTALL)
     expect((len(quoted) > 0, [contract for contract in quoted if not any(f"{contract}{{\n" in code for code in codes)]), (True, []))
 
 
@@ -254,9 +235,7 @@ TESTS_OF_TEXTS = [
     the_type_of_a_receiver_is_found,
     a_function_is_reached_by_each_program_that_calls_what_calls_it,
     each_public_function_is_listed_with_its_clauses,
-    promises_are_put_between_their_two_lines,
-    promises_of_the_document_are_those_of_the_sources,
-    the_document_names_each_file_of_definitions_and_each_public_function,
+    the_list_names_each_file_of_definitions_and_each_public_function,
     contracts_that_a_page_quotes_are_those_of_the_sources,
 ]
 

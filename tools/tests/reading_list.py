@@ -10,7 +10,6 @@ from common import expect, expect_within, run, run_forked, TOP
 # Two crates, and a function `answer` with the clauses that the list begins with. No definition named `unused` counts.
 LISTED = {
     "crates.txt": "# Two crates.\nupper: lower\nlower: csv\n",
-    "docs/CONTRACTS.md": "Before.\n\n<!-- reading list -->\nold\n<!-- end of the reading list -->\n\nBehind.\n",
     "crates/upper/src/run.rt": """ghost use Rattle.std.specs.Prelude.{◌≡◌, IfOk};
 ghost use Rattle.upper.specs.Answers.{answer_of, unused};
 ghost use Rattle.lower.specs.Weights as spec;
@@ -145,7 +144,7 @@ Of the libraries:
 
 
 def reading_list(*words, file="crates.txt", old="", new=""):
-    """The status, output and errors of tools/reading_list on the two crates, with a text of a file changed, and the document then."""
+    """The status, output and errors of tools/reading_list on the two crates, with a text of a file changed."""
     with tempfile.TemporaryDirectory() as folder:
         for name, text in LISTED.items():
             path = Path(folder) / name
@@ -153,28 +152,20 @@ def reading_list(*words, file="crates.txt", old="", new=""):
             path.write_text(text)
         expect_within(old, LISTED[file])
         (Path(folder) / file).write_text(LISTED[file].replace(old, new))
-        ended = run_forked("tools/reading_list", "--top", folder, *words, "upper/src/run.rt:answer")
-        return *ended, (Path(folder) / "docs/CONTRACTS.md").read_text()
+        return run_forked("tools/reading_list", "--top", folder, *words, "upper/src/run.rt:answer")
 
 
-def listed_in_the_document():
-    """The list in docs/CONTRACTS.md."""
-    return (TOP / "docs/CONTRACTS.md").read_text().split("<!-- reading list -->\n")[1].split("<!-- end of the reading list -->")[0]
-
-
-def reading_list_is_that_of_the_document():
+def reading_list_of_the_theorem_is_made():
+    """In lines of at most 160 letters."""
     status, text, errors = run("tools/reading_list")
     expect((status, errors), (0, ""))
-    expect(listed_in_the_document().strip().splitlines(), text.strip().splitlines())
-
-
-def lines_of_the_reading_list_are_at_most_160_letters_long():
-    expect([line for line in listed_in_the_document().splitlines() if len(line) > 160], [])
+    expect([line for line in text.splitlines() if len(line) > 160], [])
+    expect(int(text.split()[0]) > 400, True)
 
 
 def reading_list_follows_each_form_of_a_name():
     """Fields, constructors, blocks, helpers, names passed on, renamed or after a module, ghost members, models; and no bound name."""
-    status, text, errors, _ = reading_list()
+    status, text, errors = reading_list()
     expect((status, errors), (0, ""))
     expect(text.strip().splitlines(), LIST.strip().splitlines())
 
@@ -200,7 +191,7 @@ def reading_list_finds_a_changed_definition():
         (weights, "Short : Cell", "Short : Row", listed.replace("`Cell`, ", "")),
         (weights, "Cell = records", "Cell = (unused : Row) × weight_of unused", listed),
     ):
-        status, text, errors, _ = reading_list(file=file, old=old, new=new)
+        status, text, errors = reading_list(file=file, old=old, new=new)
         expect(status, 0 if expected else 1)
         expect_within(expected or "reading_list: ", text + errors)
 
@@ -209,29 +200,21 @@ def reading_list_follows_a_member_to_the_trait_above():
     run_file = "crates/upper/src/run.rt"
     source = LISTED[run_file]
     changed = source.replace("V: Merge", "V: Ordered").replace("{LIMIT, Merge}", "{LIMIT, Ordered}")
-    status, text, errors, _ = reading_list(file=run_file, old=source, new=changed)
+    status, text, errors = reading_list(file=run_file, old=source, new=changed)
     expect((status, errors), (0, ""))
     expect(text.strip().splitlines(), LIST.strip().splitlines())
 
 
 def reading_list_names_what_nothing_explains():
-    status, text, errors, _ = reading_list(file="crates/lower/specs/Weights.antt", old="suc (total n)", new="suc (totals n)")
+    status, text, errors = reading_list(file="crates/lower/specs/Weights.antt", old="suc (total n)", new="suc (totals n)")
     expect((status, text, errors), (1, "", "reading_list: lower/specs/Weights: more: nothing explains totals\n"))
 
 
 def reading_list_names_two_definitions_of_one_name():
-    status, text, errors, _ = reading_list("--doubles")
+    status, text, errors = reading_list("--doubles")
     expect((status, errors, text.splitlines()[0]), (1, "", "total: lower/specs/Weights, upper/specs/Answers"))
-    status, text, errors, _ = reading_list("--doubles", file="crates/lower/specs/Weights.antt", old="total", new="count")
+    status, text, errors = reading_list("--doubles", file="crates/lower/specs/Weights.antt", old="total", new="count")
     expect((status, text.splitlines()), (0, ["0 names stand for two definitions"]))
-
-
-def reading_list_is_put_between_its_two_lines():
-    status, text, errors, document = reading_list("--write")
-    expect((status, text, errors), (0, "", ""))
-    expect(document, f"Before.\n\n<!-- reading list -->\n\n{LIST}\n<!-- end of the reading list -->\n\nBehind.\n")
-    status, text, errors, document = reading_list("--write", file="docs/CONTRACTS.md", old="<!-- end", new="<!-- the end")
-    expect((status, "old" in document), (1, True))
 
 
 def definitions_of(*roots):
@@ -275,14 +258,12 @@ def names_of_the_theorem_are_defined_in_their_files():
 
 # Those that ask for no program.
 TESTS_OF_TEXTS = [
-    reading_list_is_that_of_the_document,
-    lines_of_the_reading_list_are_at_most_160_letters_long,
+    reading_list_of_the_theorem_is_made,
     reading_list_follows_each_form_of_a_name,
     reading_list_finds_a_changed_definition,
     reading_list_follows_a_member_to_the_trait_above,
     reading_list_names_what_nothing_explains,
     reading_list_names_two_definitions_of_one_name,
-    reading_list_is_put_between_its_two_lines,
     steps_of_reading_have_each_file_of_the_list_once,
     steps_of_reading_have_their_numbers_of_lines,
     sum_of_the_steps_of_reading_is_that_of_the_document,

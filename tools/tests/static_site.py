@@ -1,4 +1,4 @@
-"""Tests of bin/site: each page is there, each link leads somewhere, and what is searched for is found."""
+"""Tests of bin/site: each page is there, each link leads somewhere, what is searched for is found, and the page of contracts has both lists."""
 
 import json
 import re
@@ -11,8 +11,11 @@ from pathlib import Path, PurePosixPath
 from typing import Any
 
 from common import expect, expect_within, imported, run, SECONDS, TOP
+from documents import faulty_links
 
-PAGES = sorted(path.relative_to(TOP) for folder in (".", "docs", "bench", "examples") for path in (TOP / folder).glob("*.md"))
+# The page of contracts is made from the sources.
+CONTRACTS = Path("docs/CONTRACTS.md")
+PAGES = sorted([*(path.relative_to(TOP) for folder in (".", "docs", "bench", "examples") for path in (TOP / folder).glob("*.md")), CONTRACTS])
 
 
 class Elements(HTMLParser):
@@ -119,6 +122,19 @@ def searched(browser: str, folder: Path, words: str) -> str:
     return ended.stdout.split('<ol id="site-results"')[1].split("</ol>")[0]
 
 
+def the_page_of_contracts_has_the_lists_of_the_tools() -> None:
+    """Under their headings, with links to headings of pages that are there."""
+    site: Any = imported("bin/site")
+    text = site.contracts_text()
+    definitions, functions = text.split("\n## Definitions of the theorem\n")[1].split("\n## Public functions\n")
+    for tool, part in (("tools/reading_list", definitions), ("tools/promises", functions)):
+        status, printed, errors = run(tool)
+        expect((tool, status, errors), (tool, 0, ""))
+        expect_within(printed.strip(), part)
+    expect(faulty_links(CONTRACTS, text), [])
+    expect(str(CONTRACTS) in {str(page) for page in site.pages()}, True)
+
+
 def a_link_to_nothing_is_a_fault_of_the_site() -> None:
     site: Any = imported("bin/site")
     with tempfile.TemporaryDirectory() as folder:
@@ -141,6 +157,7 @@ TESTS_OF_TEXTS = [
     site_has_each_page_and_its_links_lead_somewhere,
     each_page_of_the_site_leads_to_all_others,
     sections_of_the_site_can_be_searched,
+    the_page_of_contracts_has_the_lists_of_the_tools,
     a_link_to_nothing_is_a_fault_of_the_site,
 ]
 

@@ -8,7 +8,7 @@ use Rattle.bt_row.specs.Schemas.{Schema, checked_as}
 use Rattle.bt_row.specs.declared.operations.op.Op.{Op}
 use Rattle.bt_keycode.specs.Codes.{code_of}
 use Rattle.bt_keycode.specs.Keys.{Key}
-use Rattle.bt_messages.specs.declared.message.Message.TheVariants as message
+use Rattle.bt_message.specs.declared.message.Message.TheVariants as message
 use Rattle.bt_batch.specs.Batches.{KeyedMessage, del_of, put_of, ups_of}
 use Rattle.bt_batch.specs.Changes.{Changes, after_del, after_put, after_ups, both_checked, checked_key, next_item, with_change}
 

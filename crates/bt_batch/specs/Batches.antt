@@ -11,8 +11,8 @@ use Rattle.bt_value.specs.declared.refusal.Refusal.TheVariants.{TooMany}
 use Rattle.bt_value.specs.declared.value.Value.{Value}
 use Rattle.bt_keycode.specs.Codes.{code_of}
 use Rattle.bt_keycode.specs.Keys.{Key}
-use Rattle.bt_messages.specs.declared.message.Message.{Message}
-use Rattle.bt_messages.specs.declared.message.Message.TheVariants as message
+use Rattle.bt_message.specs.declared.message.Message.{Message}
+use Rattle.bt_message.specs.declared.message.Message.TheVariants as message
 use Rattle.bt_rowtype.specs.declared.item.Item.{Item}
 use Rattle.bt_rowtype.specs.declared.item.Item.TheVariants.{Put, Del, Ups}
 

@@ -7,7 +7,7 @@ use Rattle.bt_row.specs.declared.operations.op.Op.{Op}
 use Rattle.bt_value.specs.declared.refusal.Refusal.{Refusal}
 use Rattle.bt_value.specs.declared.value.Value.{Value}
 use Rattle.bt_keycode.specs.Standing.{Stands}
-use Rattle.bt_messages.specs.Effects.{effect_of}
+use Rattle.bt_message.specs.Effects.{effect_of}
 use Rattle.bt_batch.specs.Batches.{KeyedMessage, RowMessages, del_of, put_of, ups_of}
 
 -- ---- messages of a schema

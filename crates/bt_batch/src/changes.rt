@@ -1,6 +1,6 @@
 //! Changes of rows that are given by values.
 ghost use Rattle.std.specs.Prelude.{◌≡◌, ◌≢◌, ◌==◌, IfErr, IfOk, IsErrOf, Ok, Err, OnErr, OnOk, length};
-ghost use Rattle.bt_messages.specs.Messages.{sorted_batch};
+ghost use Rattle.bt_message.specs.Messages.{sorted_batch};
 ghost use Rattle.bt_row.specs.Fits.{OpsInRange};
 ghost use Rattle.bt_row.specs.Ops.{checked_ops};
 ghost use Rattle.bt_value.specs.Values.{AreInRange};

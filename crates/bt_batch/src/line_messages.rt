@@ -56,7 +56,7 @@ pub(crate) fn read_lines(
     ensures refusal { IfOk result (λ read. read.refusal ≡ lowest (filter_map result_err (spec.read_batch schema.now (before + 1) lines.now))) }
 {
     let mut reader = RecordReader::new(alloc);
-    let mut reading = Collected::new(alloc);
+    let mut reading = Collected::with_capacity(alloc, lines.len())?;
     for (place, line) in lines.iter().enumerate() {
         let item = before as u64 + place as u64 + 1;
         reading.add(read_message(alloc, &mut reader, schema, item, line))?;

@@ -9,10 +9,10 @@ use Rattle.bt_row.specs.contracts.operations.change.Change as Change
 use Rattle.bt_row.specs.contracts.rows.row.Row as Row
 use Rattle.bt_keycode.proofs.key.Key.TheSendSync as key
 use Rattle.bt_messages.proofs.bins.Bins.TheSendSync as bins
-use Rattle.bt_messages.proofs.entry.Entry.TheSendSync as entry
-use Rattle.bt_messages.specs.contracts.entry.Entry as Entry
-use Rattle.bt_messages.specs.contracts.entry.EntryMerge.TheImpl as EntryMerge
-use Rattle.bt_messages.specs.contracts.message.RowMerge.TheImpl as RowMerge
+use Rattle.bt_message.proofs.entry.Entry.TheSendSync as entry
+use Rattle.bt_message.specs.contracts.entry.Entry as Entry
+use Rattle.bt_message.specs.contracts.entry.EntryMerge.TheImpl as EntryMerge
+use Rattle.bt_message.specs.contracts.message.RowMerge.TheImpl as RowMerge
 use Rattle.bt_form.proofs.node.Node.TheLaws.TheKnot as knot
 use Rattle.bt_form.proofs.rows.Rows.TheSendSync as rows
 use Rattle.bt_form.proofs.shape.Shape.TheSendSync as shape_of_nodes

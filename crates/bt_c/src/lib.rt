@@ -18,7 +18,7 @@ ghost use Rattle.bt_script.specs.Commands.{commands};
 ghost use Rattle.bt_shell.specs.Faults.{StopsBetweenReplies, StopsWithinReply, lost_reply};
 ghost use Rattle.bt_shell.specs.Runs.{AreOneRun, EndsBetweenCommands, after_commands, refused_count, replies};
 ghost use Rattle.bt_shell.specs.Steps.{State};
-ghost use Rattle.bt_table.specs.Standing.{CompleteIndexesHold, IsSound, IsSoundUnlessLost};
+ghost use Rattle.bt_table.specs.Standing.{IsConsistent, IsSound};
 ghost use Rattle.bt_table.specs.Tables.{Lost};
 ghost use Rattle.bt_packed.specs.Calls.{columns_reply, get_reply, page_reply, sums_reply, usage_reply};
 ghost use Rattle.bt_c.specs.Replies.{checked_marks, marks_of, reply_at};
@@ -93,8 +93,7 @@ pub extern "C" fn betable_run(alloc: Global, handle: &mut Handle, script: &[u8])
     ensures lost { is_some (session_of handle.old) ≡ true → StaysOpen handle.old handle.new (λ old new. old.table ≡ Some Lost → (new.table ≡ Some Lost) × (replies old.table (commands script.now) ≡ flat_map lost_reply (commands script.now))) }
 
     // After any result the table is sound unless it is lost, and so each complete index holds exactly the entries that its definition selects from the rows.
-    ensures sound { IfSome (session_of handle.new) (λ session. IfSome session.table IsSoundUnlessLost) }
-    ensures complete { IfSome (session_of handle.new) (λ session. IfSome session.table CompleteIndexesHold) }
+    ensures consistent { IfSome (session_of handle.new) (λ session. IfSome session.table IsConsistent) }
 
     // A run that is done loses no table.
     ensures kept { result ≡ code_of status.Done → StaysOpen handle.old handle.new (λ old new. IfSome old.table IsSound → IfSome new.table IsSound) }
@@ -216,8 +215,7 @@ pub extern "C" fn betable_apply(
     ensures unanswered { IfSome (session_of handle.new) (λ session. session.text.items ≡ []) }
     ensures unmarked { IfSome (session_of handle.new) IsUnmarked }
     ensures certain { IfSome (session_of handle.old) (λ session. session.table ≡ None → result ≡ code_of status.Refused) }
-    ensures sound { IfSome (session_of handle.new) (λ session. IfSome session.table IsSoundUnlessLost) }
-    ensures complete { IfSome (session_of handle.new) (λ session. IfSome session.table CompleteIndexesHold) }
+    ensures consistent { IfSome (session_of handle.new) (λ session. IfSome session.table IsConsistent) }
 {
     let Some(mut session) = handle.take(alloc) else {
         return Status::NotOpen.code();

@@ -3,7 +3,7 @@ ghost use Rattle.std.specs.Prelude.{◌≡◌, ◌≢◌, ◌-◌, ◌++◌, [],
 ghost use Rattle.bt_script.specs.Commands.{commands};
 ghost use Rattle.bt_shell.specs.Faults.{StopsBetweenReplies, StopsWithinReply, lost_reply};
 ghost use Rattle.bt_shell.specs.Runs.{after_commands, refused_count, replies};
-ghost use Rattle.bt_table.specs.Standing.{CompleteIndexesHold, IsSound, IsSoundUnlessLost};
+ghost use Rattle.bt_table.specs.Standing.{IsConsistent, IsSound};
 ghost use Rattle.bt_table.specs.Tables.{Lost};
 ghost use Rattle.bt_c.specs.Replies.{checked_marks, marks_of};
 ghost use Rattle.bt_c.specs.Sessions.{StaysOrIsLostIn, answer_of, applied_to, is_lost, no_table, reply_from};
@@ -44,8 +44,7 @@ fn run_into(
     ensures write { IsErrOf result RunFault.Write → StopsWithinReply (λ bytes. text.new.items ≡ text.old.items ++ bytes) table.old table.new script.now }
     ensures memory { IsErrOf result RunFault.OutOfMemory → StopsBetweenReplies (λ bytes. text.new.items ≡ text.old.items ++ bytes) table.old table.new script.now }
     ensures lost { table.old ≡ Some Lost → (table.new ≡ Some Lost) × (replies table.old (commands script.now) ≡ flat_map lost_reply (commands script.now)) }
-    ensures sound { IfSome table.new IsSoundUnlessLost }
-    ensures complete { IfSome table.new CompleteIndexesHold }
+    ensures consistent { IfSome table.new IsConsistent }
     ensures kept { IfSome table.old IsSound → OnOk result (IfSome table.new IsSound) }
 {
     let mut writer = Counted::new(mem::replace(text, Vec::new(alloc)));
@@ -133,8 +132,7 @@ impl Session {
         ensures write { IsErrOf result RunFault.Write → StopsWithinReply (λ bytes. self.new.text.items ≡ bytes) self.old.table self.new.table script.now }
         ensures memory { IsErrOf result RunFault.OutOfMemory → StopsBetweenReplies (λ bytes. self.new.text.items ≡ bytes) self.old.table self.new.table script.now }
         ensures lost { self.old.table ≡ Some Lost → (self.new.table ≡ Some Lost) × (replies self.old.table (commands script.now) ≡ flat_map lost_reply (commands script.now)) }
-        ensures sound { IfSome self.new.table IsSoundUnlessLost }
-        ensures complete { IfSome self.new.table CompleteIndexesHold }
+        ensures consistent { IfSome self.new.table IsConsistent }
         ensures kept { IfSome self.old.table IsSound → OnOk result (IfSome self.new.table IsSound) }
     {
         self.clear();
@@ -172,8 +170,7 @@ impl Session {
         ensures text { self.new.text.items ≡ [] }
         ensures refused { self.new.refused ≡ 0 }
         ensures marks { self.new.marks.items ≡ [] }
-        ensures sound { IfSome self.new.table IsSoundUnlessLost }
-        ensures complete { IfSome self.new.table CompleteIndexesHold }
+        ensures consistent { IfSome self.new.table IsConsistent }
     {
         self.clear();
         match &mut self.table {

@@ -3,9 +3,9 @@ use Rattle.std.proofs.Common.{◌≡◌, ℕ, Bool, true, false, cond, T, List, 
 use Rattle.std.specs.Ordering.{eq_by_cmp, is_eq}
 use Rattle.std.specs.FinMap.{find}
 use Rattle.std.specs.FinMap.Entries.{find-put, find-where_key, is_sorted, is_sorted-where_key}
-use Rattle.bt_messages.specs.Effects.{Rows, effect_of, rows_after, value_after}
+use Rattle.bt_message.specs.Effects.{Rows, effect_of, rows_after, value_after}
 use Rattle.bt_keycode.specs.Keys.{key_cmp}
-use Rattle.bt_messages.specs.Messages.{Messages, sorted_batch}
+use Rattle.bt_message.specs.Messages.{Messages, sorted_batch}
 use Rattle.bt_keycode.proofs.offered.Order.{same_key, total_keys}
 use Rattle.bt_messages.proofs.offered.Rows.{find-rows_after, rows_after-sorted_batch, sorted-rows_after}
 use Rattle.bt_fanout.specs.Selections.{AreApart, EachStands, between, covered, entry_changes, entry_in, index_messages, named, select}

@@ -2,8 +2,8 @@
 use Rattle.std.proofs.Common.{List, ap, ◌∙◌}
 use Rattle.bt_value.specs.declared.value.Value.{Value}
 use Rattle.bt_value.proofs.offered.SameValues.{same_values-sound}
-use Rattle.bt_messages.specs.Effects.{Rows, merged_entry, rows_after}
-use Rattle.bt_messages.specs.Messages.{sorted_batch}
+use Rattle.bt_message.specs.Effects.{Rows, merged_entry, rows_after}
+use Rattle.bt_message.specs.Messages.{sorted_batch}
 use Rattle.bt_fanout.specs.Covers.{puts_of}
 use Rattle.bt_fanout.specs.Effects.{entry_effect}
 use Rattle.bt_fanout.specs.Entries.{Definition, StandsUnder, entry_of, same_values}

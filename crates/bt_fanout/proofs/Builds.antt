@@ -6,9 +6,9 @@ use borrow.Author.Tests.{ltb-true}
 use Rattle.std.specs.Ordering.{eq_by_cmp}
 use Rattle.std.specs.FinMap.{find}
 use Rattle.std.specs.FinMap.Entries.{below_all, is_sorted, is_sorted-where_key}
-use Rattle.bt_messages.specs.Effects.{Rows, effect_of, rows_after}
+use Rattle.bt_message.specs.Effects.{Rows, effect_of, rows_after}
 use Rattle.bt_keycode.specs.Keys.{is_before, key_cmp}
-use Rattle.bt_messages.specs.Messages.{sorted_batch}
+use Rattle.bt_message.specs.Messages.{sorted_batch}
 use Rattle.bt_keycode.proofs.offered.Order.{apart as apart_keys, before_chain, neither_before, not_after, not_before_itself, same_key}
 use Rattle.bt_keycode.proofs.offered.Truths.{t_both, t_first, t_second, t_true, true_t}
 use Rattle.bt_messages.proofs.offered.Rows.{rows_after-sorted_batch}

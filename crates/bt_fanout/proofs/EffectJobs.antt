@@ -8,8 +8,8 @@ use Rattle.std.specs.Ordering.{eq_by_cmp}
 use Rattle.bt_value.specs.Lists.{concatenation}
 use Rattle.bt_value.specs.declared.value.Value.{Value}
 use Rattle.bt_keycode.specs.Keys.{IsSorted, Key, key_cmp}
-use Rattle.bt_messages.specs.Effects.{Rows}
-use Rattle.bt_messages.specs.Messages.{Messages}
+use Rattle.bt_message.specs.Effects.{Rows}
+use Rattle.bt_message.specs.Messages.{Messages}
 use Rattle.bt_form.specs.Parts.{AreRising}
 use Rattle.bt_fanout.specs.Covers.{is_covered}
 use Rattle.bt_fanout.specs.Effects.{RowMessage, effects_within, row_effect}

@@ -8,8 +8,8 @@ use Rattle.std.specs.List.{filter}
 use Rattle.bt_value.specs.declared.value.Value.{Value}
 use Rattle.bt_keycode.specs.Keys.{IsSorted, key_cmp}
 use Rattle.bt_keycode.proofs.offered.Order.{not_after, not_before_itself}
-use Rattle.bt_messages.specs.Effects.{Rows}
-use Rattle.bt_messages.specs.Messages.{Messages}
+use Rattle.bt_message.specs.Effects.{Rows}
+use Rattle.bt_message.specs.Messages.{Messages}
 use Rattle.bt_form.specs.Parts.{AreRising}
 use Rattle.bt_keycode.proofs.offered.Truths.{t_first, t_second, true_t}
 use Rattle.bt_fanout.specs.Covers.{is_covered}

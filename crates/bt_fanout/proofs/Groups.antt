@@ -9,9 +9,9 @@ use Rattle.std.specs.Cmp.{tied_itself}
 use Rattle.std.specs.FinMap.{find, put}
 use Rattle.std.specs.FinMap.Entries.{below_all, by_order, is_sorted}
 use Rattle.bt_value.specs.declared.value.Value.{Value}
-use Rattle.bt_messages.specs.Effects.{Rows, rows_after, value_after}
+use Rattle.bt_message.specs.Effects.{Rows, rows_after, value_after}
 use Rattle.bt_keycode.specs.Keys.{AllFrom, IsSorted, is_before, key_cmp}
-use Rattle.bt_messages.specs.Messages.{Messages}
+use Rattle.bt_message.specs.Messages.{Messages}
 use Rattle.bt_keycode.proofs.offered.Order.{apart as apart_keys, before_later, is_less, neither_before, not_before_itself, same_key, total_keys}
 use Rattle.bt_keycode.proofs.offered.Truths.{t_first, t_second, true_t}
 use Rattle.bt_messages.proofs.offered.Rows.{find-rows_after, value_before}

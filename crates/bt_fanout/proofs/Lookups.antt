@@ -6,7 +6,7 @@ use Rattle.std.specs.FinMap.Entries.{below_all, find-put, is_sorted, is_sorted-p
 use Rattle.std.specs.Cmp.{tied_itself}
 use Rattle.std.specs.declared.cmp.Ordering.{Ordering}
 use Rattle.std.specs.declared.cmp.Ordering.TheVariants.{Less, Equal, Greater}
-use Rattle.bt_messages.specs.Effects.{Rows}
+use Rattle.bt_message.specs.Effects.{Rows}
 use Rattle.bt_keycode.specs.Keys.{key_cmp}
 use Rattle.bt_keycode.proofs.offered.Order.{same_key, total_keys}
 use Rattle.bt_keycode.proofs.offered.Truths.{t_first, t_second}

@@ -4,8 +4,8 @@ use Rattle.std.proofs.Math.Seq.{take-nil}
 use Rattle.std.proofs.lemmas.List.Elements.{filter_agree}
 use Rattle.bt_keycode.specs.Keys.{is_before, is_between}
 use Rattle.bt_keycode.proofs.offered.NextKeys.{past}
-use Rattle.bt_messages.specs.Effects.{Rows}
-use Rattle.bt_messages.specs.Messages.{messages_between}
+use Rattle.bt_message.specs.Effects.{Rows}
+use Rattle.bt_message.specs.Messages.{messages_between}
 use Rattle.bt_fanout.specs.Covers.{is_covered, next_rows}
 use Rattle.bt_fanout.specs.declared.cover.Cover.{Cover}
 use Rattle.bt_fanout.specs.declared.cover.Cover.TheVariants.{Nothing, UpTo, Whole}

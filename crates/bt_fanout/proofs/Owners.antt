@@ -1,6 +1,6 @@
 -- Each key of an index belongs to one key of the rows.
 use Rattle.std.proofs.Common.{◌≡◌, ℕ, true, false, List, [], ◌∷◌, refl, sym, ◌∙◌, ◌⊎◌, inl, inr, Option, Some, None, true≢false}
-use Rattle.bt_messages.specs.Effects.{Rows}
+use Rattle.bt_message.specs.Effects.{Rows}
 use Rattle.bt_keycode.proofs.offered.Order.{same_key}
 use Rattle.bt_fanout.specs.Selections.{AreApart, EachStands}
 use Rattle.bt_fanout.proofs.Lookups.{IsOwner, is_at}

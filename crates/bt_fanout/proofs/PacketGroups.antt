@@ -4,7 +4,7 @@ use Rattle.std.proofs.lemmas.List.{length-map, map-append}
 use Rattle.std.proofs.lemmas.List.Elements.{All-cons, All-nil}
 use Rattle.std.specs.List.{All, flat_map}
 use Rattle.bt_value.specs.Lists.{concatenation}
-use Rattle.bt_messages.specs.Messages.{Messages, sorted_batch}
+use Rattle.bt_message.specs.Messages.{Messages, sorted_batch}
 use Rattle.bt_fanout.specs.Effects.{EntryMessage, SuitsEffect}
 use Rattle.bt_fanout.specs.Targets.{SuitAll, packet_of}
 use Rattle.bt_fanout.specs.declared.effect.Effect.{Effect}

@@ -4,7 +4,7 @@ use mathlib.Core.List.{map-map}
 use Rattle.std.proofs.lemmas.List.Elements.{All-cons, All-head, All-nil, All-tail}
 use Rattle.std.specs.List.{All, flat_map}
 use Rattle.bt_value.specs.Lists.{concatenation}
-use Rattle.bt_messages.specs.Messages.{Messages, sorted_batch}
+use Rattle.bt_message.specs.Messages.{Messages, sorted_batch}
 use Rattle.bt_messages.proofs.offered.Pieces.{sorted_batch-pieces}
 use Rattle.bt_fanout.specs.Effects.{EntryMessage, sent_for, sent_for_all}
 use Rattle.bt_fanout.specs.Entries.{Definition}

@@ -6,7 +6,7 @@ use Rattle.std.proofs.lemmas.Bool.Decides.{nat_tests}
 use Rattle.bt_keycode.specs.Keys.{is_before, key_cmp}
 use Rattle.bt_keycode.proofs.offered.Order.{not_after, not_before_itself}
 use Rattle.bt_keycode.proofs.offered.Truths.{t_first, t_second, true_t}
-use Rattle.bt_messages.specs.Effects.{Rows}
+use Rattle.bt_message.specs.Effects.{Rows}
 use Rattle.bt_fanout.specs.Covers.{cover_after, is_covered, last_key, moved_to, next_rows, uncovered}
 use Rattle.bt_fanout.specs.declared.cover.Cover.{Cover}
 use Rattle.bt_fanout.specs.declared.cover.Cover.TheVariants.{Nothing, UpTo, Whole}

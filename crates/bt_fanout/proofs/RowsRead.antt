@@ -8,8 +8,8 @@ use Rattle.std.proofs.lemmas.List.{length-take}
 use Rattle.std.proofs.lemmas.List.Elements.{All-head, All-tail, All-weaker, All-filter, All-take}
 use Rattle.std.proofs.lemmas.List.Sums.{AllPass-from_list_all, list_all-from_AllPass}
 use Rattle.bt_value.specs.declared.value.Value.{Value}
-use Rattle.bt_messages.specs.Effects.{Rows}
-use Rattle.bt_messages.specs.Messages.{Messages}
+use Rattle.bt_message.specs.Effects.{Rows}
+use Rattle.bt_message.specs.Messages.{Messages}
 use Rattle.bt_fanout.specs.Covers.{cover_after, is_covered, last_key, next_cover, next_rows, put_of_entry, puts_of, uncovered}
 use Rattle.bt_fanout.specs.Effects.{EntryMessage}
 use Rattle.bt_fanout.specs.Entries.{Definition, HasPlace, IsWithin, entry_of, has_place, is_within}

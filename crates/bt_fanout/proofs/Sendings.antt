@@ -4,10 +4,10 @@ use Rattle.std.specs.Ordering.{eq_by_cmp}
 use Rattle.std.specs.FinMap.{find}
 use Rattle.std.specs.FinMap.Entries.{is_sorted}
 use Rattle.std.specs.Cmp.{eq_by_cmp_equiv}
-use Rattle.bt_messages.specs.Effects.{Rows, effect_of, rows_after, value_after}
+use Rattle.bt_message.specs.Effects.{Rows, effect_of, rows_after, value_after}
 use Rattle.bt_keycode.specs.Keys.{key_cmp}
-use Rattle.bt_messages.specs.Messages.{Messages}
-use Rattle.bt_messages.specs.declared.message.Message.TheVariants.{Put, Del}
+use Rattle.bt_message.specs.Messages.{Messages}
+use Rattle.bt_message.specs.declared.message.Message.TheVariants.{Put, Del}
 use Rattle.bt_keycode.proofs.offered.Order.{same_key, total_keys}
 use Rattle.bt_messages.proofs.offered.Rows.{find-rows_after, same_rows, sorted-rows_after}
 use Rattle.bt_fanout.specs.Selections.{between, entry_changes, entry_in, select}

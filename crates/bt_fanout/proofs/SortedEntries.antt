@@ -16,8 +16,8 @@ use Rattle.bt_value.specs.declared.value.Value.{Value}
 use Rattle.bt_keycode.specs.Keys.{AllFrom, IsSorted, is_before, key_cmp}
 use Rattle.bt_keycode.proofs.offered.Order.{not_after}
 use Rattle.bt_keycode.proofs.offered.Truths.{t_first, t_second, true_t}
-use Rattle.bt_messages.specs.Effects.{Rows}
-use Rattle.bt_messages.specs.Messages.{sorted_batch}
+use Rattle.bt_message.specs.Effects.{Rows}
+use Rattle.bt_message.specs.Messages.{sorted_batch}
 use Rattle.bt_messages.proofs.offered.Stable.{earlier, stable_is_sorted_batch, tied_key}
 use Rattle.bt_fanout.specs.Entries.{Definition, StandsUnder, entry_of}
 use Rattle.bt_fanout.specs.Promises.{SuitsRows}

@@ -5,9 +5,9 @@ use Rattle.std.proofs.Math.ListN.{drop_of_length-le}
 use Rattle.std.specs.FinMap.{find}
 use Rattle.bt_value.specs.declared.value.Value.{Value}
 use Rattle.bt_value.proofs.offered.SameValues.{same_values-sound}
-use Rattle.bt_messages.specs.Effects.{Rows, merged_entry, rows_after}
+use Rattle.bt_message.specs.Effects.{Rows, merged_entry, rows_after}
 use Rattle.bt_keycode.specs.Keys.{key_cmp}
-use Rattle.bt_messages.specs.Messages.{Messages, sorted_batch}
+use Rattle.bt_message.specs.Messages.{Messages, sorted_batch}
 use Rattle.bt_fanout.specs.Covers.{is_covered}
 use Rattle.bt_fanout.specs.Effects.{EntryMessage, effects_at, entry_effect, row_effect, sent_for, sent_for_all}
 use Rattle.bt_fanout.specs.Entries.{Definition, StandsUnder, entry_of, same_values}

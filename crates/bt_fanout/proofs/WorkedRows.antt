@@ -6,9 +6,9 @@ use Rattle.bt_value.specs.declared.value.Kind.TheVariants as kind
 use Rattle.bt_value.specs.declared.value.Value.{Value}
 use Rattle.bt_value.specs.declared.value.Value.TheVariants as value
 use Rattle.bt_keycode.specs.Codes.{code_of, eight_bytes}
-use Rattle.bt_messages.specs.Effects.{Rows, rows_after}
-use Rattle.bt_messages.specs.Messages.{Messages, messages_between, sorted_batch}
-use Rattle.bt_messages.specs.declared.message.Message.TheVariants.{Put, Del}
+use Rattle.bt_message.specs.Effects.{Rows, rows_after}
+use Rattle.bt_message.specs.Messages.{Messages, messages_between, sorted_batch}
+use Rattle.bt_message.specs.declared.message.Message.TheVariants.{Put, Del}
 use Rattle.bt_fanout.specs.Covers.{cover_after, is_covered, next_rows, puts_of}
 use Rattle.bt_fanout.specs.Effects.{EntryMessage, RowMessage, entry_effect, row_effect, effects_of, sent_for_all}
 use Rattle.bt_fanout.specs.Entries.{Definition, StandsUnder, SuitsKinds, entry_of, same_values}

@@ -1,10 +1,10 @@
 -- Which keys an index covers, and how a step of building widens that.
 use Rattle.std.specs.Prelude.{ℕ, Bool, true, false, not, [], ◌∷◌, ◌++◌, take, length, nat_lt, Option, Some, None, if◌then◌else◌}
 use Rattle.bt_keycode.specs.Keys.{Key, is_before}
-use Rattle.bt_messages.specs.Effects.{Rows}
-use Rattle.bt_messages.specs.Messages.{Messages}
-use Rattle.bt_messages.specs.declared.message.Message.{Message}
-use Rattle.bt_messages.specs.declared.message.Message.TheVariants.{Put}
+use Rattle.bt_message.specs.Effects.{Rows}
+use Rattle.bt_message.specs.Messages.{Messages}
+use Rattle.bt_message.specs.declared.message.Message.{Message}
+use Rattle.bt_message.specs.declared.message.Message.TheVariants.{Put}
 use Rattle.bt_fanout.specs.Selections.{covered}
 use Rattle.bt_fanout.specs.declared.cover.Cover.{Cover}
 use Rattle.bt_fanout.specs.declared.cover.Cover.TheVariants.{Nothing, UpTo, Whole}

@@ -4,11 +4,11 @@ use Rattle.std.specs.FinMap.{find}
 use Rattle.std.specs.List.{filter}
 use Rattle.bt_value.specs.declared.value.Value.{Value}
 use Rattle.bt_keycode.specs.Keys.{Key, key_cmp}
-use Rattle.bt_messages.specs.Effects.{Rows, effect_of, rows_after}
-use Rattle.bt_messages.specs.Meanings.{Meaning, meaning_of}
-use Rattle.bt_messages.specs.Messages.{Messages}
-use Rattle.bt_messages.specs.Payloads.{entry_terms, row_terms}
-use Rattle.bt_messages.specs.declared.message.Message.{Message}
+use Rattle.bt_message.specs.Effects.{Rows, effect_of, rows_after}
+use Rattle.bt_message.specs.Meanings.{Meaning, meaning_of}
+use Rattle.bt_message.specs.Messages.{Messages}
+use Rattle.bt_message.specs.Payloads.{entry_terms, row_terms}
+use Rattle.bt_message.specs.declared.message.Message.{Message}
 use Rattle.bt_row.specs.Ops.{Change}
 use Rattle.bt_fanout.specs.Covers.{is_covered}
 use Rattle.bt_fanout.specs.Entries.{Definition, IsWithin, entry_of, same_values}

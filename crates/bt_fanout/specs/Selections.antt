@@ -4,10 +4,10 @@ use Rattle.std.specs.FinMap.{find, put}
 use Rattle.std.specs.FinMap.Entries.{where_key}
 use Rattle.std.specs.Ordering.{eq_by_cmp}
 use Rattle.bt_keycode.specs.Keys.{Key, key_cmp}
-use Rattle.bt_messages.specs.Effects.{Rows, rows_after}
-use Rattle.bt_messages.specs.Messages.{Messages}
-use Rattle.bt_messages.specs.declared.message.Message.{Message}
-use Rattle.bt_messages.specs.declared.message.Message.TheVariants.{Put, Del}
+use Rattle.bt_message.specs.Effects.{Rows, rows_after}
+use Rattle.bt_message.specs.Messages.{Messages}
+use Rattle.bt_message.specs.declared.message.Message.{Message}
+use Rattle.bt_message.specs.declared.message.Message.TheVariants.{Put, Del}
 
 -- the rows of a map whose keys are covered
 abbrev pub covered : {X : Type 0} → (Key → Bool) → Rows X → Rows X

@@ -1,7 +1,7 @@
 -- What a batch sends to indexes.
 use Rattle.std.specs.Prelude.{List}
 use Rattle.std.specs.List.{All}
-use Rattle.bt_messages.specs.Messages.{Messages, sorted_batch}
+use Rattle.bt_message.specs.Messages.{Messages, sorted_batch}
 use Rattle.bt_fanout.specs.Effects.{EntryMessage, SuitsEffect, sent_for_all}
 use Rattle.bt_fanout.specs.declared.effect.Effect.{Effect}
 use Rattle.bt_fanout.specs.declared.joint_packets.IndexTarget.{IndexTarget}

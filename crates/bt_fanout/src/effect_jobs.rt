@@ -3,7 +3,7 @@ ghost use Rattle.std.specs.Prelude.{◌≡◌, ◌+◌, ◌<◌, ◌≤◌, ◌^
 ghost use Rattle.std.specs.FinMap.{find};
 ghost use Rattle.std.specs.List.{All, flat_map};
 ghost use Rattle.bt_keycode.specs.Keys.{key_cmp};
-ghost use Rattle.bt_messages.specs.Messages.{Messages};
+ghost use Rattle.bt_message.specs.Messages.{Messages};
 ghost use Rattle.bt_form.specs.Flushes.{holds};
 ghost use Rattle.bt_form.specs.Parts.{AreRising};
 ghost use Rattle.bt_fanout.specs.Effects.{RowMessage, row_effect};

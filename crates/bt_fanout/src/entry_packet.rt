@@ -2,8 +2,8 @@
 ghost use Rattle.std.specs.Prelude.{◌≡◌, ◌++◌, ◌∷◌, [], IfOk, OnOk, Some};
 ghost use Rattle.std.specs.List.{All};
 ghost use Rattle.bt_value.specs.Views.{value_of_ref};
-ghost use Rattle.bt_messages.specs.Messages.{sorted_batch};
-ghost use Rattle.bt_messages.specs.declared.message.Message.TheVariants.{Del, Put};
+ghost use Rattle.bt_message.specs.Messages.{sorted_batch};
+ghost use Rattle.bt_message.specs.declared.message.Message.TheVariants.{Del, Put};
 ghost use Rattle.bt_fanout.specs.Effects.{SuitsEffect, SuitsIn, sent_for, sent_for_all};
 ghost use Rattle.bt_fanout.specs.Entries as spec;
 ghost use Rattle.bt_fanout.specs.Promises.{TurnsIndex};

@@ -5,7 +5,7 @@ use Rattle.bt_value.specs.Lists.{concatenation}
 use Rattle.bt_messages.specs.Bins.{parts}
 use Rattle.bt_messages.specs.Parts.{parted, total}
 use Rattle.bt_messages.specs.Shares.{AreShares, counts}
-use Rattle.bt_messages.specs.declared.message.Message.{Message}
+use Rattle.bt_message.specs.declared.message.Message.{Message}
 use Rattle.bt_form.specs.Children.{with_pending}
 use Rattle.bt_form.specs.Fits.{IsLed}
 use Rattle.bt_form.specs.Flushes.{loads, shared}

@@ -3,8 +3,8 @@ ghost use Rattle.std.specs.Prelude.{◌≡◌, ◌≤◌, ◌++◌, IfOk, OnOk, 
 ghost use Rattle.std.specs.List.{zip};
 ghost use Rattle.bt_messages.specs.Parts.{total};
 ghost use Rattle.bt_messages.specs.Shares.{AreShares, IsShare, counts};
-ghost use Rattle.bt_messages.specs.Weights.{weigh_of};
-ghost use Rattle.bt_messages.specs.Meanings.{meaning_of};
+ghost use Rattle.bt_message.specs.Weights.{weigh_of};
+ghost use Rattle.bt_message.specs.Meanings.{meaning_of};
 ghost use Rattle.bt_form.specs.Flushes.{flush_in, flushed};
 ghost use Rattle.bt_form.specs.Messages.{with_messages};
 ghost use Rattle.bt_form.specs.inside.Flushing.{AreReady, IsReady, with_shares};

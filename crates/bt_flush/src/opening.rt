@@ -3,7 +3,7 @@ ghost use Rattle.std.specs.Prelude.{◌≡◌, ◌+◌, ◌<◌, ◌≤◌, IfOk
 ghost use Rattle.bt_messages.specs.Bins.{LieBetween, each_with};
 ghost use Rattle.bt_messages.specs.Parts.{parted, total};
 ghost use Rattle.bt_messages.specs.Shares.{counts, share_of};
-ghost use Rattle.bt_messages.specs.Weights.{load, weigh_of};
+ghost use Rattle.bt_message.specs.Weights.{load, weigh_of};
 ghost use Rattle.bt_form.specs.Marks.{flush_marks};
 ghost use Rattle.bt_flush.specs.Steps.{IsStep};
 ghost use Rattle.bt_form.specs.Trees.{pivots_of};

@@ -2,7 +2,7 @@
 use Rattle.std.specs.Prelude.{◌≡◌, true, List, [], ◌∷◌}
 use Rattle.bt_value.specs.Lists.{concatenation}
 use Rattle.bt_messages.specs.Bins.{LieBetween}
-use Rattle.bt_messages.specs.declared.message.Message.{Message}
+use Rattle.bt_message.specs.declared.message.Message.{Message}
 use Rattle.bt_form.specs.declared.node.Parts.{Parts}
 use Rattle.bt_form.specs.declared.node.Parts.TheVariants.{Leaf, Inner}
 use Rattle.bt_keycode.specs.Keys.{Key, is_before}

@@ -1,7 +1,7 @@
 -- The sizes of nodes that a tree may have.
 use Rattle.std.specs.Prelude.{ℕ, ◌&&◌, nat_le, Bool}
 use Rattle.bt_form.specs.Messages.{Measure}
-use Rattle.bt_messages.specs.declared.measure.Measure.TheVariants.{Bytes, Messages}
+use Rattle.bt_message.specs.declared.measure.Measure.TheVariants.{Bytes, Messages}
 
 abbrev pub smallest_fanout : ℕ
 smallest_fanout = 4

@@ -4,10 +4,10 @@ use Rattle.std.specs.Coded.{Coded, code_by, coded×, coded⊎, coded_ℕ, coded_
 use Rattle.std.specs.declared.option.Option.{Option}
 use Rattle.std.specs.declared.option.Option.TheVariants.{None, Some}
 use Rattle.std.proofs.Common.{ap, ◌∙◌, inl, inr}
-use Rattle.bt_messages.specs.declared.message.Message.{Message}
-use Rattle.bt_messages.specs.declared.message.Message.TheVariants.{Put, Del, Ups}
+use Rattle.bt_message.specs.declared.message.Message.{Message}
+use Rattle.bt_message.specs.declared.message.Message.TheVariants.{Put, Del, Ups}
 use Rattle.bt_keycode.specs.Keys.{Key}
-use Rattle.bt_messages.specs.declared.measure.Measure.TheVariants.{Bytes, Messages}
+use Rattle.bt_message.specs.declared.measure.Measure.TheVariants.{Bytes, Messages}
 use Rattle.bt_form.specs.Flushes.{Child}
 use Rattle.bt_form.specs.Messages as messages
 use Rattle.bt_form.specs.Messages.{Measure, Rows}

@@ -27,7 +27,7 @@ impl<V: Merge> Model for Children<V> {
     ghost use Rattle.std.specs.Prelude.{◌≡◌, ◌-◌, ◌∷◌, List, length};
     ghost use Rattle.std.specs.Coded.{coded_list};
     ghost use Rattle.std.specs.List.{zip};
-    ghost use Rattle.bt_messages.specs.declared.message.Message.{Message};
+    ghost use Rattle.bt_message.specs.declared.message.Message.{Message};
     ghost use Rattle.bt_form.specs.Children.{with_pending};
     ghost use Rattle.bt_form.specs.Flushes.{Child};
     ghost use Rattle.bt_form.specs.Stored.{child_code, message_code};
@@ -233,7 +233,7 @@ impl<V: Merge> Model for ChildIterator<V> {
     ghost use Rattle.std.specs.Coded.{coded_list};
     ghost use Rattle.std.specs.List.{zip};
     ghost use Rattle.std.specs.Vec.Iter.{into_iter_items};
-    ghost use Rattle.bt_messages.specs.declared.message.Message.{Message};
+    ghost use Rattle.bt_message.specs.declared.message.Message.{Message};
     ghost use Rattle.bt_form.specs.Children.{with_pending};
     ghost use Rattle.bt_form.specs.Flushes.{Child};
     ghost use Rattle.bt_form.specs.Stored.{child_code, message_code};

@@ -69,7 +69,7 @@ pub enum Parts<V: Merge> {
 
 impl<V: Merge> Model for Node<V> {
     ghost use Rattle.std.specs.Prelude.{◌*◌};
-    ghost use Rattle.bt_messages.specs.declared.message.Message.{Message};
+    ghost use Rattle.bt_message.specs.declared.message.Message.{Message};
     ghost use Rattle.bt_form.specs.Trees as trees;
     ghost use Rattle.bt_form.specs.Stored.{message_code, tree_code};
 
@@ -95,7 +95,7 @@ impl<V: Merge> Model for Node<V> {
 impl<V: Merge> Model for Siblings<V> {
     ghost use Rattle.std.specs.Prelude.{◌*◌, ◌+◌, ◌≡◌, length};
     ghost use Rattle.std.specs.Coded.{coded×, coded_list, coded_ℕ};
-    ghost use Rattle.bt_messages.specs.declared.message.Message.{Message};
+    ghost use Rattle.bt_message.specs.declared.message.Message.{Message};
     ghost use Rattle.bt_form.specs.Trees as trees;
     ghost use Rattle.bt_form.specs.Trees.{with_pivots};
     ghost use Rattle.bt_form.specs.Stored.{message_code, tree_code};

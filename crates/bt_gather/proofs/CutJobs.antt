@@ -6,7 +6,7 @@ use Rattle.std.specs.FinMap.{find}
 use Rattle.std.specs.Global.{Global}
 use Rattle.std.specs.List.{All, AllByRecursion as Each}
 use Rattle.std.specs.declared.option.Option.TheVariants.{None, Some}
-use Rattle.bt_messages.specs.declared.message.Message.{Message}
+use Rattle.bt_message.specs.declared.message.Message.{Message}
 use Rattle.bt_form.specs.Fits.{HasShape, IsInOrder}
 use Rattle.bt_form.specs.Flushes.{crown, flush_in}
 use Rattle.bt_form.specs.Messages.{Meaning, Messages}

@@ -5,7 +5,7 @@ use Rattle.std.proofs.lemmas.List.{drop-append-le, drop-map, length-map, take-ap
 use Rattle.std.proofs.lemmas.List.Elements.{All-append}
 use Rattle.std.specs.Global.{Global}
 use Rattle.bt_keycode.specs.Keys.{Key}
-use Rattle.bt_messages.specs.declared.message.Message.{Message}
+use Rattle.bt_message.specs.declared.message.Message.{Message}
 use Rattle.bt_form.specs.Messages.{Meaning}
 use Rattle.bt_form.specs.Trees.{Shape, Siblings, Tree}
 use Rattle.bt_plan.specs.declared.job.Place as code_place

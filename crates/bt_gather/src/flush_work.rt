@@ -1,6 +1,6 @@
 //! The jobs of a round, and the work on each.
 ghost use Rattle.std.specs.Prelude.{◌≡◌, IfOk, map};
-ghost use Rattle.bt_messages.specs.Meanings.{meaning_of};
+ghost use Rattle.bt_message.specs.Meanings.{meaning_of};
 ghost use Rattle.bt_form.specs.Fits.{IsInOrder};
 ghost use Rattle.bt_plan.specs.Cuts.{outcome};
 ghost use Rattle.bt_plan.specs.Views.{job_of};
@@ -65,7 +65,7 @@ where
 
     ghost use Rattle.std.specs.Prelude.{◌≡◌, MatchResult, ⊤};
     ghost use Rattle.std.proofs.Common.{sym, ◌∙◌};
-    ghost use Rattle.bt_messages.specs.Meanings.{meaning_of};
+    ghost use Rattle.bt_message.specs.Meanings.{meaning_of};
     ghost use Rattle.bt_gather.specs.inside.Eithers.{HoldsOfEither, either_map};
     ghost use Rattle.bt_gather.specs.inside.RoundJobs.{IsRunnable, piece_of};
 

@@ -2,7 +2,7 @@
 //! tree in pieces themselves.
 ghost use Rattle.std.specs.Prelude.{◌≡◌, IfErr, IfOk};
 ghost use Rattle.std.specs.declared.option.Option.TheVariants.{None};
-ghost use Rattle.bt_messages.specs.Weights.{weigh_of};
+ghost use Rattle.bt_message.specs.Weights.{weigh_of};
 ghost use Rattle.bt_form.specs.Fits.{AreFit};
 ghost use Rattle.bt_plan.specs.Pieces.{filled};
 ghost use Rattle.bt_gather.specs.Laws.{IsFillable, IsRefusal};

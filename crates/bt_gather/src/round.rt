@@ -1,8 +1,8 @@
 //! One round over trees: the flushes of all of them are the jobs of one run.
 ghost use Rattle.std.specs.Prelude.{◌≡◌, ◌≤◌, ◌+◌, IfOk, length};
-ghost use Rattle.bt_messages.specs.Effects.{effect_of};
-ghost use Rattle.bt_messages.specs.Meanings.{meaning_of};
-ghost use Rattle.bt_messages.specs.Weights.{weigh_of};
+ghost use Rattle.bt_message.specs.Effects.{effect_of};
+ghost use Rattle.bt_message.specs.Meanings.{meaning_of};
+ghost use Rattle.bt_message.specs.Weights.{weigh_of};
 ghost use Rattle.bt_flush.specs.Drains.{IsDry, drained};
 ghost use Rattle.bt_form.specs.Fits.{HasShape};
 ghost use Rattle.bt_flush.specs.Laws.{HoldsTheSame};

@@ -79,11 +79,11 @@ padded_tied k m n left right xs ys o is other few less e tie =
     ∙ ap (padded k) other ∙ padded-first k n ys less
 
 -- fewer of the same bytes
-padded-fewer : (m n : ℕ) (xs ys : List ℕ) → m ≤ n → padded n xs ≡ padded n ys → padded m xs ≡ padded m ys
+pub padded-fewer : (m n : ℕ) (xs ys : List ℕ) → m ≤ n → padded n xs ≡ padded n ys → padded m xs ≡ padded m ys
 padded-fewer m n xs ys few same = sym (padded-first m n xs few) ∙ ap (padded m) same ∙ padded-first m n ys few
 
 -- bytes in two parts
-padded-parts : (m n : ℕ) (xs : List ℕ) → padded (m + n) xs ≡ padded m xs ++ padded n (drop m xs)
+pub padded-parts : (m n : ℕ) (xs : List ℕ) → padded (m + n) xs ≡ padded m xs ++ padded n (drop m xs)
 padded-parts zero n xs = ap (λ k. padded k xs) (zero-add n)
 padded-parts (suc m) n [] = ap (λ k. padded k []) (suc-add m n) ∙ ap (λ ys. 0 ∷ ys) (padded-parts m n [] ∙ ap (λ ys. padded m [] ++ padded n ys) (drop-nil m))
 padded-parts (suc m) n (x ∷ xs) = ap (λ k. padded k (x ∷ xs)) (suc-add m n) ∙ ap (λ ys. x ∷ ys) (padded-parts m n xs)
@@ -125,14 +125,3 @@ lengths_decide (suc n) (x ∷ xs) (y ∷ ys) few less same =
     let lengths : nat_cmp (length (x ∷ xs)) (length (y ∷ ys)) ≡ nat_cmp (length xs) (length ys) =
     sym (nat_cmp_is _ _ _ (counted (length xs) (length ys) (nat_cmp (length xs) (length ys)) (ranks (length xs) (length ys)))) in
     rw tied (lengths ∙ lengths_decide n xs ys (omega arith) (omega arith) rest)
-
--- Of a short list and a longer one that are the same up to a length, with zeros after the short one, the short one comes first.
-pub short_before_long : (n : ℕ) (xs ys : List ℕ) → length xs ≤ n → n < length ys → padded n xs ≡ padded n ys → slice_cmp nat_cmp xs ys ≡ Less
-short_before_long n xs [] few more same = absurd (omega (arith, more))
-short_before_long n [] (y ∷ ys) few more same = refl
-short_before_long zero (x ∷ xs) (y ∷ ys) few more same = absurd (omega (arith, few))
-short_before_long (suc n) (x ∷ xs) (y ∷ ys) few more same =
-    let first : x ≡ y = cc in
-    let rest : padded n xs ≡ padded n ys = cc in
-    let tied : nat_cmp x y ≡ Equal = sym (nat_cmp_is x y Equal first) in
-    rw tied (short_before_long n xs ys (omega arith) (omega arith) rest)

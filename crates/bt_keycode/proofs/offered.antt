@@ -1,7 +1,7 @@
 -- The lemmas of this crate that crates above cite.
 pub mod Codes
 pub mod Decoded
-pub mod FirstNumbers
+pub mod EightBytes
 pub mod NextKeys
 pub mod Occurrences
 pub mod Order

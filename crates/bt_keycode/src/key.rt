@@ -14,8 +14,8 @@ use std::marker::Model;
 /// The most bytes of a key that is kept in the value itself. Such a key takes no memory of its own.
 pub const SHORT_KEY: usize = SHORT_BYTES;
 
-// The last place in a short key at which eight bytes begin.
-const LAST_EIGHT: usize = SHORT_KEY - 8;
+/// The last place in a short key at which eight bytes begin.
+pub const LAST_EIGHT: usize = SHORT_KEY - 8;
 
 /// A key: bytes, ordered byte by byte, with a prefix before any longer key. A contract sees the list of its bytes.
 ///
@@ -158,22 +158,9 @@ impl Key {
         self.number_at(0)
     }
 
-    /// The next eight bytes as a number, with missing bytes as zero.
-    pub fn second_number(&self) -> u64
-        ensures { eight_bytes result ≡ first_eight (drop 8 self.now) }
-    {
-        self.number_at(8)
-    }
-
-    /// The eight bytes from place 14 on as a number, with missing bytes as zero. The three numbers determine the first 22 bytes.
-    pub fn third_number(&self) -> u64
-        ensures { eight_bytes result ≡ first_eight (drop 14 self.now) }
-    {
-        self.number_at(LAST_EIGHT)
-    }
-
-    // The eight bytes from a place on as a number. Missing bytes count as zero.
-    fn number_at(&self, place: usize) -> u64
+    /// The eight bytes from a place on as a number, with the highest byte first. Missing bytes count as zero.
+    #[inline(always)]
+    pub fn number_at(&self, place: usize) -> u64
         requires { place ≤ LAST_EIGHT }
         ensures { eight_bytes result ≡ first_eight (drop place self.now) }
     {

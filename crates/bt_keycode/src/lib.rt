@@ -32,6 +32,6 @@ mod zeros;
 pub use code::encode_row;
 pub use code_builder::CodeBuilder;
 pub use decoder::{DecodeError, decode_onto, is_code};
-pub use key::{Key, SHORT_KEY};
+pub use key::{Key, LAST_EIGHT, SHORT_KEY};
 pub use lengths::{MOST_WEIGHT, change_code_len, row_code_len};
 pub use library_calls::{cmp_rows, code_len, decode, encode, encode_prefix};

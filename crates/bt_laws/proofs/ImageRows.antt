@@ -21,7 +21,7 @@ use Rattle.bt_row.specs.declared.rows.schema.Column.{Column}
 use Rattle.bt_value.specs.declared.value.Value.{Value}
 use Rattle.bt_keycode.specs.Keys.{Key}
 use Rattle.bt_keycode.specs.Standing.{AllStand, RowMap, Stands, row_key}
-use Rattle.bt_messages.specs.declared.message.Message.{Message}
+use Rattle.bt_message.specs.declared.message.Message.{Message}
 use Rattle.bt_flush.specs.Drains.{AreDry, IsDry}
 use Rattle.bt_form.specs.Fits.{AreSized, IsSized}
 use Rattle.bt_form.specs.Flushes.{holds, nodes_hold}

@@ -1,8 +1,8 @@
 //! The size of flushes, and their number.
 ghost use Rattle.std.specs.Prelude.{List};
-ghost use Rattle.bt_messages.specs.Meanings.{meaning_of};
-ghost use Rattle.bt_messages.specs.Weights.{weigh_of};
-ghost use Rattle.bt_messages.specs.declared.message.Message.{Message};
+ghost use Rattle.bt_message.specs.Meanings.{meaning_of};
+ghost use Rattle.bt_message.specs.Weights.{weigh_of};
+ghost use Rattle.bt_message.specs.declared.message.Message.{Message};
 ghost use Rattle.bt_form.specs.Fits.{HasShape};
 ghost use Rattle.bt_form.specs.Flushes.{Child, Flush};
 ghost use Rattle.bt_form.specs.Messages.{Messages};

@@ -1,6 +1,6 @@
 //! The height of trees.
-ghost use Rattle.bt_messages.specs.Weights.{weigh_of};
-ghost use Rattle.bt_messages.specs.declared.message.Message.{Message};
+ghost use Rattle.bt_message.specs.Weights.{weigh_of};
+ghost use Rattle.bt_message.specs.declared.message.Message.{Message};
 ghost use Rattle.bt_form.specs.Fits.{HasShape};
 ghost use Rattle.bt_form.specs.Trees.{Shape, Tree};
 ghost use Rattle.bt_laws.specs.Heights.{HasFewLevels, HasManyLeaves};

@@ -1,7 +1,7 @@
 -- Counts of the front of a stream.
 use Rattle.std.proofs.Common.{◌≡◌, ℕ, ◌+◌, ◌-◌, ◌≤◌, ◌<◌, List, [], ◌∷◌, ◌++◌, append_assoc, get_or, length, map, take, drop, refl, sym, ap, ◌∙◌, arith}
 use Rattle.std.proofs.lemmas.List.{drop-drop, drop-take, drop_more, map-append}
-use Rattle.bt_messages.specs.Messages.{Messages, messages_before, messages_from}
+use Rattle.bt_message.specs.Messages.{Messages, messages_before, messages_from}
 use Rattle.bt_messages.specs.Bins.{parts}
 use Rattle.bt_messages.specs.Parts.{parted, total}
 use Rattle.bt_messages.specs.Shares.{counts}

@@ -5,7 +5,7 @@ use Rattle.std.specs.List.Sorted.{IsPartitionPoint}
 use Rattle.bt_keycode.specs.Keys.{AllFrom, IsSorted, Key, is_before}
 use Rattle.bt_keycode.proofs.offered.Order.{before_later, from_earlier, sides}
 use Rattle.bt_messages.specs.Bins.{AllBefore}
-use Rattle.bt_messages.specs.Messages.{Messages, messages_before, messages_from}
+use Rattle.bt_message.specs.Messages.{Messages, messages_before, messages_from}
 use Rattle.bt_messages.specs.inside.Brackets.{IsBracket}
 use Rattle.bt_messages.proofs.Cuts.{from_first}
 use Rattle.bt_messages.proofs.Slices.{sides as parts, sorted_drop}

@@ -7,7 +7,7 @@ use Rattle.std.specs.List.Sorted.{IsPartitionedBy, IsPartitionPoint}
 use Rattle.bt_keycode.specs.Keys.{IsSorted, is_before}
 use Rattle.bt_keycode.proofs.offered.Order.{before_later}
 use Rattle.bt_messages.specs.Bins.{each_with}
-use Rattle.bt_messages.specs.Messages.{Messages, messages_past, messages_up_to, with_message, with_messages}
+use Rattle.bt_message.specs.Messages.{Messages, messages_past, messages_up_to, with_message, with_messages}
 use Rattle.bt_messages.specs.Parts.{parted, total}
 use Rattle.bt_messages.proofs.Cuts.{in_order}
 use Rattle.bt_messages.specs.Shares.{AreShares, IsShare, counts}

@@ -4,7 +4,7 @@ use Rattle.std.proofs.Common.{append_assoc, get_or, length, take, refl, sym, ap,
 use Rattle.std.proofs.lemmas.Bool.{false≢true}
 use Rattle.std.specs.Ordering.{is_lt, ordering_index}
 use Rattle.bt_keycode.specs.Keys.{AllFrom, IsSorted, is_before}
-use Rattle.bt_messages.specs.Messages.{Messages, messages_past, messages_up_to, with_messages}
+use Rattle.bt_message.specs.Messages.{Messages, messages_past, messages_up_to, with_messages}
 use Rattle.bt_messages.proofs.Cuts.{from_first, nothing}
 use Rattle.bt_messages.proofs.offered.Fronts.{sorted_take}
 use Rattle.bt_messages.proofs.offered.Placed.{alone, first_stays, newer_first, newer_last}

@@ -4,7 +4,7 @@ use Rattle.std.proofs.lemmas.List.{length-append}
 use Rattle.std.specs.Option.{MatchOption}
 use Rattle.bt_keycode.specs.Keys.{IsSorted, is_before}
 use Rattle.bt_value.specs.Lists.{concatenation}
-use Rattle.bt_messages.specs.Messages.{Messages, with_messages}
+use Rattle.bt_message.specs.Messages.{Messages, with_messages}
 use Rattle.bt_messages.specs.inside.Merges.{goes_before}
 use Rattle.bt_messages.specs.inside.Runs.{AreRuns, AreSome, begins_before}
 use Rattle.bt_messages.proofs.RunLists.{begun, concatenation-append, sorted_left, whole_runs}

@@ -8,7 +8,7 @@ use Rattle.bt_keycode.specs.Keys.{AllFrom, IsSorted, is_before}
 use Rattle.bt_keycode.proofs.offered.Order.{from_earlier, later_chain}
 use Rattle.bt_value.specs.Lists.{concatenation}
 use Rattle.bt_messages.specs.Bins.{AllBefore}
-use Rattle.bt_messages.specs.Messages.{Messages, with_messages}
+use Rattle.bt_message.specs.Messages.{Messages, with_messages}
 use Rattle.bt_messages.specs.inside.Runs.{AreRuns, AreSome, begins_before}
 use Rattle.bt_messages.proofs.Merging.{all_following}
 use Rattle.bt_messages.proofs.offered.Fronts.{from-take, sorted_take}

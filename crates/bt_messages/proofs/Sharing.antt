@@ -5,7 +5,7 @@ use Rattle.std.proofs.lemmas.List.{drop-drop, drop-set-lt, drop_more, take_more_
 use Rattle.bt_keycode.specs.Keys.{IsSorted}
 use Rattle.bt_messages.specs.Bins.{each_with}
 use Rattle.bt_messages.specs.Parts.{parted, total}
-use Rattle.bt_messages.specs.Messages.{Messages, messages_past, messages_up_to, with_messages}
+use Rattle.bt_message.specs.Messages.{Messages, messages_past, messages_up_to, with_messages}
 use Rattle.bt_messages.specs.inside.Rooms.{HasRoom, HaveRoom}
 use Rattle.bt_messages.proofs.Merging.{step}
 use Rattle.bt_messages.proofs.offered.Fronts.{one_taken, sorted_take}

@@ -2,7 +2,7 @@
 use Rattle.std.proofs.Common.{◌≡◌, ℕ, zero, suc, ◌<◌, ◌≤◌, true, false, List, [], ◌∷◌, ◌++◌, ◌+◌, ◌-◌, append_assoc, length, take, drop, get_or, refl, sym, ap, subst, ◌∙◌, arith}
 use Rattle.std.specs.List.Sorted.{IsPartitionPoint}
 use Rattle.bt_keycode.specs.Keys.{AllFrom, IsSorted, is_before}
-use Rattle.bt_messages.specs.Messages.{Messages, messages_before, messages_from}
+use Rattle.bt_message.specs.Messages.{Messages, messages_before, messages_from}
 use Rattle.bt_messages.specs.Bins.{AllBefore}
 use Rattle.bt_messages.proofs.offered.Fronts.{from-take}
 use Rattle.bt_messages.proofs.offered.Parts.{cut_at}

@@ -3,14 +3,14 @@ use Rattle.std.proofs.Common.{◌≡◌, ℕ, zero, suc, ◌<◌, ◌≤◌, ◌
 use Rattle.std.proofs.Common.{append_assoc, drop, get_or, length, map, set, take, refl, sym, ap, subst, ◌∙◌, arith}
 use Rattle.std.proofs.lemmas.List.{append-nil, drop-drop, drop-map, drop-set-lt, drop_all, drop_more, get_or-map, length-drop, length-take-le, take_all, take_more_set}
 use Rattle.bt_keycode.specs.Keys.{Key}
-use Rattle.bt_messages.specs.Messages.{Messages, with_messages}
+use Rattle.bt_message.specs.Messages.{Messages, with_messages}
 use Rattle.bt_messages.specs.Parts.{parted, total}
 use Rattle.bt_messages.specs.Shares.{AreShares, counts, share_of}
-use Rattle.bt_messages.specs.Terms.{Terms}
-use Rattle.bt_messages.specs.Weights.{IsSum, weigh_of, weight}
-use Rattle.bt_messages.specs.declared.measure.Measure.{Measure}
-use Rattle.bt_messages.specs.declared.measure.Measure.TheVariants as measures
-use Rattle.bt_messages.specs.declared.message.Message.{Message}
+use Rattle.bt_message.specs.Terms.{Terms}
+use Rattle.bt_message.specs.Weights.{IsSum, weigh_of, weight}
+use Rattle.bt_message.specs.declared.measure.Measure.{Measure}
+use Rattle.bt_message.specs.declared.measure.Measure.TheVariants as measures
+use Rattle.bt_message.specs.declared.message.Message.{Message}
 use Rattle.bt_messages.specs.declared.share.Share.{Share}
 use Rattle.bt_messages.specs.inside.Sums.{counted}
 use Rattle.bt_messages.proofs.offered.Loads.{load-with_messages, weight-small}

@@ -1,13 +1,13 @@
 -- Messages of worked batches and their effects on rows, computed from the definitions.
 use Rattle.std.proofs.Common.{◌≡◌, ℕ, ◌+◌, List, [], ◌∷◌, Option, Some, None, length, map, refl}
 use Rattle.bt_messages.specs.Bins.{added, parts}
-use Rattle.bt_messages.specs.Effects.{effect_of, rows_after}
-use Rattle.bt_messages.specs.Messages.{messages_between, messages_outside, sorted_batch, with_messages}
-use Rattle.bt_messages.specs.Terms.{Terms}
-use Rattle.bt_messages.specs.Weights.{load, weigh_of}
-use Rattle.bt_messages.specs.declared.measure.Measure.TheVariants.{Bytes, Messages}
-use Rattle.bt_messages.specs.declared.message.Message.{Message}
-use Rattle.bt_messages.specs.declared.message.Message.TheVariants.{Put, Del, Ups}
+use Rattle.bt_message.specs.Effects.{effect_of, rows_after}
+use Rattle.bt_message.specs.Messages.{messages_between, messages_outside, sorted_batch, with_messages}
+use Rattle.bt_message.specs.Terms.{Terms}
+use Rattle.bt_message.specs.Weights.{load, weigh_of}
+use Rattle.bt_message.specs.declared.measure.Measure.TheVariants.{Bytes, Messages}
+use Rattle.bt_message.specs.declared.message.Message.{Message}
+use Rattle.bt_message.specs.declared.message.Message.TheVariants.{Put, Del, Ups}
 
 key : ℕ → List ℕ
 key n = n ∷ []

@@ -1,8 +1,8 @@
 -- Messages divided at pivots, and bins: one list of messages for each child.
-use Rattle.std.specs.Prelude.{◌≡◌, true, List, [], ◌∷◌, ◌++◌}
+use Rattle.std.specs.Prelude.{◌≡◌, true, List, [], ◌∷◌}
 use Rattle.bt_value.specs.Lists.{concatenation}
 use Rattle.bt_keycode.specs.Keys.{AllFrom, IsSorted, Key, is_before}
-use Rattle.bt_messages.specs.Messages.{Messages, messages_before, messages_from, with_messages}
+use Rattle.bt_message.specs.Messages.{Messages, messages_before, messages_from, with_messages}
 
 -- messages divided at pivots: those before the first, those from it on and before the next, and so on
 abbrev pub parts : {M : Type 0} → List Key → Messages M → List (Messages M)

@@ -1,10 +1,4 @@
 pub mod inside
 pub mod Bins
-pub mod Effects
-pub mod Meanings
-pub mod Messages
 pub mod Parts
-pub mod Payloads
 pub mod Shares
-pub mod Terms
-pub mod Weights

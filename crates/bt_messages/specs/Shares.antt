@@ -1,9 +1,9 @@
 -- Shares of messages: some of the first, then some of the next, and so on.
 use Rattle.std.specs.Prelude.{ℕ, ◌≤◌, List, [], ◌∷◌, Some, None, drop, length, map, take}
 use Rattle.std.specs.Option.{unwrap_or}
-use Rattle.bt_messages.specs.Weights.{IsSum, weight}
-use Rattle.bt_messages.specs.declared.measure.Measure.{Measure}
-use Rattle.bt_messages.specs.declared.measure.Measure.TheVariants.{Messages, Bytes}
+use Rattle.bt_message.specs.Weights.{IsSum, weight}
+use Rattle.bt_message.specs.declared.measure.Measure.{Measure}
+use Rattle.bt_message.specs.declared.measure.Measure.TheVariants.{Messages, Bytes}
 use Rattle.bt_messages.specs.declared.share.Share.{Share}
 
 -- the numbers of messages of shares

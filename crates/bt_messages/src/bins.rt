@@ -6,20 +6,18 @@ ghost use Rattle.bt_keycode.specs.Keys.{IsSorted};
 ghost use Rattle.bt_value.specs.Lists.{concatenation};
 ghost use Rattle.bt_messages.specs.Bins.{added, each_with};
 ghost use Rattle.bt_messages.specs.Parts.{parted, total};
-ghost use Rattle.bt_messages.specs.Messages.{messages_between, messages_from};
+ghost use Rattle.bt_message.specs.Messages.{messages_between, messages_from};
 ghost use Rattle.bt_messages.specs.Shares.{AreShares, counts};
-ghost use Rattle.bt_messages.specs.Weights.{load, weigh_of, weight};
+ghost use Rattle.bt_message.specs.Weights.{load, weigh_of, weight};
 ghost use Rattle.std.specs.Option.{option_copied};
 
 use crate::buffer::Buffer;
 use crate::buffer_messages::BufferMessages;
-use crate::iter::Messages;
-use crate::measure::Measure;
-use crate::message::Merge;
 use crate::packet::Packet;
 use crate::share::{Share, add_shares};
 use crate::stream::Stream;
 use bt_keycode::Key;
+use bt_message::{Measure, Merge, Messages};
 use std::alloc::{AllocError, Global};
 use std::marker::Model;
 
@@ -33,7 +31,7 @@ pub struct Bins<V: Merge> {
 impl<V: Merge> Model for Bins<V> {
     ghost use Rattle.std.specs.Prelude.{◌≡◌, List, length, map, ℕ};
     ghost use Rattle.bt_messages.specs.Parts.{total};
-    ghost use Rattle.bt_messages.specs.declared.message.Message.{Message};
+    ghost use Rattle.bt_message.specs.declared.message.Message.{Message};
 
     ghost Value = { List (List (List ℕ × Message V V.Delta)) };
 

@@ -1,12 +1,12 @@
 //! Sorted messages cut at keys and at bounds.
 ghost use Rattle.std.specs.Prelude.{◌≡◌, ◌+◌, ◌≤◌, ◌++◌, IfOk, MatchOption, OnOk, OnErr, drop, length, take, vec_len, vec_capacity};
 ghost use Rattle.bt_keycode.specs.Keys.{IsSorted};
-ghost use Rattle.bt_messages.specs.Messages.{messages_before, messages_between, messages_from, messages_outside, messages_past, messages_up_to};
+ghost use Rattle.bt_message.specs.Messages.{messages_before, messages_between, messages_from, messages_outside, messages_past, messages_up_to};
 ghost use Rattle.std.specs.Option.{option_copied};
 
-use crate::message::{Merge, Message};
 use crate::search::{count_before_near, likely_start};
 use bt_keycode::Key;
+use bt_message::{Merge, Message};
 use std::alloc::{AllocError, Global};
 use std::cmp::Ordering;
 use std::collections::VecDeque;

@@ -4,9 +4,9 @@
 ghost use Rattle.std.specs.Prelude.{◌≡◌, ◌==◌, ◌+◌, ◌<◌, ◌≤◌, ◌^◌, [], List, ℕ, IfOk, IfSome, MatchOption, OnOk, Some, OnErr, drop, length, take, vec_capacity, vec_len};
 ghost use Rattle.bt_keycode.specs.Keys.{AllFrom, IsSorted};
 ghost use Rattle.bt_messages.specs.Bins.{AllBefore};
-ghost use Rattle.bt_messages.specs.Messages.{messages_between, messages_from, messages_outside, with_messages};
+ghost use Rattle.bt_message.specs.Messages.{messages_between, messages_from, messages_outside, with_messages};
 ghost use Rattle.bt_messages.specs.Shares.{IsShare};
-ghost use Rattle.bt_messages.specs.Weights.{IsSum, load, weigh_of, weight};
+ghost use Rattle.bt_message.specs.Weights.{IsSum, load, weigh_of, weight};
 ghost use Rattle.bt_messages.specs.inside.Merges.{front_key};
 ghost use Rattle.bt_messages.specs.inside.Rooms.{HasRoom};
 ghost use Rattle.bt_messages.specs.inside.Runs.{begins_before};
@@ -14,13 +14,11 @@ ghost use Rattle.bt_messages.specs.inside.Sums.{IsBuffer};
 ghost use Rattle.std.specs.Option.{option_copied};
 
 use crate::bounds;
-use crate::iter::Messages;
-use crate::measure::{Measure, weigh_all};
-use crate::message::{Merge, Message};
 use crate::packet::Packet;
 use crate::share::{Share, gain, insert_front};
 use crate::stream::Stream;
 use bt_keycode::Key;
+use bt_message::{Measure, Merge, Message, Messages, weigh_all};
 use std::alloc::{AllocError, Global};
 use std::cmp::Ordering;
 use std::marker::Model;
@@ -41,14 +39,14 @@ pub struct Buffer<V: Merge> {
 impl<V: Merge> Model for Buffer<V> {
     ghost use Rattle.std.specs.Prelude.{List, ℕ};
     ghost use Rattle.bt_keycode.specs.Keys.{IsSorted};
-    ghost use Rattle.bt_messages.specs.declared.message.Message.{Message};
+    ghost use Rattle.bt_message.specs.declared.message.Message.{Message};
 
     ghost Value = { List (List ℕ × Message V V.Delta) };
 
     ghost view = { λ b. b.messages.items };
 
     ghost use Rattle.bt_messages.specs.inside.Sums.{IsBuffer};
-    ghost use Rattle.bt_messages.specs.Weights.{weigh_of};
+    ghost use Rattle.bt_message.specs.Weights.{weigh_of};
 
     ghost invariant = { λ b. IsBuffer (weigh_of V.terms) b.messages.items b.sum };
 }

@@ -4,9 +4,8 @@ ghost use Rattle.std.specs.Iterator.{YieldsFirstBy, item_count};
 ghost use Rattle.bt_value.specs.Lists.{concatenation};
 
 use crate::buffer::Buffer;
-use crate::iter::Messages;
-use crate::message::{Merge, Message};
 use bt_keycode::Key;
+use bt_message::{Merge, Message, Messages};
 use std::marker::Model;
 
 /// The messages of several buffers, one buffer after the other. A contract sees the list of the messages that are left.
@@ -19,7 +18,7 @@ pub struct BufferMessages<'a, V: Merge> {
 impl<'a, V: Merge> Model for BufferMessages<'a, V> {
     ghost use Rattle.std.specs.Prelude.{◌++◌, List, ℕ};
     ghost use Rattle.bt_value.specs.Lists.{concatenation};
-    ghost use Rattle.bt_messages.specs.declared.message.Message.{Message};
+    ghost use Rattle.bt_message.specs.declared.message.Message.{Message};
 
     ghost Value = { List (List ℕ × Message V V.Delta) };
 

@@ -5,8 +5,8 @@ ghost use Rattle.bt_value.specs.Lists.{concatenation};
 ghost use Rattle.bt_messages.specs.inside.Runs.{AreSome};
 
 use crate::buffer::Buffer;
-use crate::message::{Merge, Message};
 use bt_keycode::Key;
+use bt_message::{Merge, Message};
 use std::alloc::{AllocError, Global};
 use std::mem::replace;
 

@@ -2,20 +2,19 @@
 ghost use Rattle.std.specs.Prelude.{◌≡◌, ◌==◌, ◌<◌, ◌≤◌, ◌-◌, ◌++◌, ◌^◌, [], IfOk, OnOk, OnErr, length};
 ghost use Rattle.bt_keycode.specs.Keys.{IsSorted};
 ghost use Rattle.bt_value.specs.Lists.{concatenation};
-ghost use Rattle.bt_messages.specs.Effects.{DoTheSame, effect_of};
-ghost use Rattle.bt_messages.specs.Messages.{sorted_batch, with_messages};
+ghost use Rattle.bt_message.specs.Effects.{DoTheSame, effect_of};
+ghost use Rattle.bt_message.specs.Messages.{sorted_batch, with_messages};
 ghost use Rattle.bt_messages.specs.inside.Runs.{AreRuns, AreSome};
 
-use crate::batch_places::{packet_by, packet_by_ordered_ties};
-use crate::beginnings::ThreeNumbers;
+use crate::batch_places::packet_by_places;
 use crate::buffer::Buffer;
 use crate::buffer_messages::BufferMessages;
-use crate::message::{Merge, Message};
 use crate::message_runs::runs_of;
-use crate::sorting::{self, Sorting};
+use crate::sorting;
 use crate::stream::Stream;
 use crate::two_streams::{count_of_both, merge_both};
 use bt_keycode::Key;
+use bt_message::{Merge, Message};
 use std::alloc::{AllocError, Global};
 use std::marker::Model;
 
@@ -32,7 +31,7 @@ impl<V: Merge> Model for Packet<V> {
     ghost use Rattle.std.specs.Prelude.{◌++◌, List, ℕ};
     ghost use Rattle.bt_value.specs.Lists.{concatenation};
     ghost use Rattle.bt_messages.specs.inside.Runs.{AreRuns};
-    ghost use Rattle.bt_messages.specs.declared.message.Message.{Message};
+    ghost use Rattle.bt_message.specs.declared.message.Message.{Message};
 
     ghost Value = { List (List ℕ × Message V V.Delta) };
 
@@ -55,19 +54,17 @@ fn sorted_by_messages<V: Merge>(
     Ok(Packet::from_runs(Buffer::new(alloc), runs, count))
 }
 
-// The packet of a batch, sorted in the cheapest way.
+// The packet of a batch, sorted by moving its messages or by sorting their places.
 fn sorted_packet<V: Merge>(
     alloc: Global,
     batch: Vec<(Key, Message<V>)>,
 ) -> Result<Packet<V>, AllocError>
     ensures { IfOk result (λ packet. packet ≡ sorted_batch batch.items) }
 {
-    match sorting::sorting_of(alloc, batch.as_slice())? {
-        Sorting::Messages => sorted_by_messages(alloc, batch),
-        Sorting::FirstNumbers => packet_by::<V, u64>(alloc, batch),
-        Sorting::OrderedTies => packet_by_ordered_ties(alloc, batch),
-        Sorting::ThreeNumbers => packet_by::<V, ThreeNumbers>(alloc, batch),
+    if sorting::is_short_or_sorted(batch.as_slice()) {
+        return sorted_by_messages(alloc, batch);
     }
+    packet_by_places(alloc, batch)
 }
 
 impl<V: Merge> Packet<V> {

@@ -1,7 +1,7 @@
 //! Sorted entries searched for a key, from a place that is probably near it.
 ghost use Rattle.std.specs.Prelude.{◌≡◌, ◌≤◌, drop, length, take};
 ghost use Rattle.bt_keycode.specs.Keys.{IsSorted};
-ghost use Rattle.bt_messages.specs.Messages.{messages_before, messages_from};
+ghost use Rattle.bt_message.specs.Messages.{messages_before, messages_from};
 ghost use Rattle.bt_messages.specs.inside.Brackets.{IsBracket};
 
 use bt_keycode::Key;

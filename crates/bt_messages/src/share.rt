@@ -3,17 +3,16 @@ ghost use Rattle.std.specs.Prelude.{◌≡◌, ◌≢◌, ◌+◌, ◌<◌, ◌�
 ghost use Rattle.bt_keycode.specs.Keys.{IsSorted};
 ghost use Rattle.bt_messages.specs.Bins.{each_with};
 ghost use Rattle.bt_messages.specs.Parts.{parted, total};
-ghost use Rattle.bt_messages.specs.Messages.{with_message, with_messages};
+ghost use Rattle.bt_message.specs.Messages.{with_message, with_messages};
 ghost use Rattle.bt_messages.specs.Shares.{AreShares, IsShare, counts, load_of};
-ghost use Rattle.bt_messages.specs.Weights.{weigh_of};
+ghost use Rattle.bt_message.specs.Weights.{weigh_of};
 ghost use Rattle.bt_messages.specs.inside.Rooms.{HasRoom, HaveRoom};
 
 use crate::bounds;
 use crate::buffer::Buffer;
-use crate::measure::Measure;
-use crate::message::{Merge, Message};
 use crate::stream::Stream;
 use bt_keycode::Key;
+use bt_message::{Measure, Merge, Message};
 use std::alloc::{AllocError, Global};
 use std::collections::VecDeque;
 use std::mem::replace;

@@ -4,22 +4,20 @@ ghost use Rattle.bt_keycode.specs.Keys.{AllFrom, IsSorted};
 ghost use Rattle.bt_value.specs.Lists.{concatenation};
 ghost use Rattle.bt_messages.specs.Bins.{AllBefore, parts};
 ghost use Rattle.bt_messages.specs.Parts.{parted, total};
-ghost use Rattle.bt_messages.specs.Messages.{messages_before, messages_from, with_messages};
+ghost use Rattle.bt_message.specs.Messages.{messages_before, messages_from, with_messages};
 ghost use Rattle.bt_messages.specs.Shares.{AreShares, counts, share_of};
-ghost use Rattle.bt_messages.specs.Weights.{weigh_of};
+ghost use Rattle.bt_message.specs.Weights.{weigh_of};
 ghost use Rattle.bt_messages.specs.inside.Runs.{AreRuns, AreSome, begins_before};
 ghost use Rattle.bt_messages.specs.inside.Merges.{front_key, goes_before};
 ghost use Rattle.bt_messages.specs.inside.Sums.{counted};
 
 use crate::buffer::Buffer;
 use crate::buffer_messages::BufferMessages;
-use crate::iter::Messages;
-use crate::measure::Measure;
-use crate::message::{Merge, Message};
 use crate::packet::Packet;
 use crate::share::Share;
 use crate::stream_messages::StreamMessages;
 use bt_keycode::Key;
+use bt_message::{Measure, Merge, Message, Messages};
 use std::alloc::{AllocError, Global};
 use std::cmp::{Ordering, min};
 use std::collections::VecDeque;
@@ -38,7 +36,7 @@ impl<V: Merge> Model for Stream<V> {
     ghost use Rattle.std.specs.Prelude.{◌+◌, ◌++◌, List, length, ℕ};
     ghost use Rattle.bt_value.specs.Lists.{concatenation};
     ghost use Rattle.bt_messages.specs.inside.Runs.{AreRuns};
-    ghost use Rattle.bt_messages.specs.declared.message.Message.{Message};
+    ghost use Rattle.bt_message.specs.declared.message.Message.{Message};
 
     ghost Value = { List (List ℕ × Message V V.Delta) };
 

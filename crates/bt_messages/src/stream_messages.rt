@@ -2,14 +2,13 @@
 ghost use Rattle.std.specs.Prelude.{◌≡◌, ◌∷◌, ◌++◌, ◌<◌, ◌≤◌, ◌^◌, [], MatchOption, drop, length, map, take};
 ghost use Rattle.bt_messages.specs.Parts.{parted, total};
 ghost use Rattle.bt_messages.specs.Shares.{counts, share_of};
-ghost use Rattle.bt_messages.specs.Weights.{weigh_of, weight};
+ghost use Rattle.bt_message.specs.Weights.{weigh_of, weight};
 
 use crate::buffer::Buffer;
 use crate::buffer_messages::BufferMessages;
-use crate::measure::Measure;
-use crate::message::{Merge, Message};
 use crate::share::Share;
 use bt_keycode::Key;
+use bt_message::{Measure, Merge, Message};
 use std::marker::Model;
 
 /// Messages in three pieces, one after the other. A contract sees the list of the messages that are left.
@@ -22,7 +21,7 @@ pub(crate) struct StreamMessages<'a, V: Merge> {
 
 impl<'a, V: Merge> Model for StreamMessages<'a, V> {
     ghost use Rattle.std.specs.Prelude.{◌++◌, List, ℕ};
-    ghost use Rattle.bt_messages.specs.declared.message.Message.{Message};
+    ghost use Rattle.bt_message.specs.declared.message.Message.{Message};
 
     ghost Value = { List (List ℕ × Message V V.Delta) };
 

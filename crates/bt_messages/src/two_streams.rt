@@ -1,14 +1,14 @@
 //! Merges two streams, of older and newer messages, into runs in one pass.
 ghost use Rattle.std.specs.Prelude.{◌≡◌, ◌+◌, ◌<◌, ◌∷◌, ◌++◌, ◌^◌, [], false, true, IfOk, MatchOption, length};
 ghost use Rattle.bt_keycode.specs.Keys.{IsSorted};
-ghost use Rattle.bt_messages.specs.Messages.{with_messages};
+ghost use Rattle.bt_message.specs.Messages.{with_messages};
 
 use crate::buffer::Buffer;
-use crate::message::{Merge, Message};
 use crate::message_runs::{add_run, room_for_one};
 use crate::packet::Packet;
 use crate::stream::Stream;
 use bt_keycode::Key;
+use bt_message::{Merge, Message};
 use std::alloc::{AllocError, Global};
 
 /// The number of messages in two packets together. No memory holds 2 ^ 63 messages.

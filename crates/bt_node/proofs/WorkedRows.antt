@@ -3,12 +3,12 @@ use Rattle.std.specs.Prelude.{◌≡◌, ℕ, true, false, List, [], ◌∷◌, 
 use Rattle.std.proofs.Common.{refl}
 use Rattle.std.specs.declared.option.Option.{Option}
 use Rattle.std.specs.declared.option.Option.TheVariants.{None, Some}
-use Rattle.bt_messages.specs.Effects.{effect_of}
-use Rattle.bt_messages.specs.Meanings.{Meaning, meaning_of}
-use Rattle.bt_messages.specs.Payloads.{row_terms}
-use Rattle.bt_messages.specs.declared.measure.Measure.TheVariants as measures
-use Rattle.bt_messages.specs.declared.message.Message.{Message}
-use Rattle.bt_messages.specs.declared.message.Message.TheVariants.{Put, Del, Ups}
+use Rattle.bt_message.specs.Effects.{effect_of}
+use Rattle.bt_message.specs.Meanings.{Meaning, meaning_of}
+use Rattle.bt_message.specs.Payloads.{row_terms}
+use Rattle.bt_message.specs.declared.measure.Measure.TheVariants as measures
+use Rattle.bt_message.specs.declared.message.Message.{Message}
+use Rattle.bt_message.specs.declared.message.Message.TheVariants.{Put, Del, Ups}
 use Rattle.bt_row.specs.Ops as ops
 use Rattle.bt_row.specs.declared.operations.op.Op.TheVariants.{Add}
 use Rattle.bt_value.specs.declared.value.Value.{Value}

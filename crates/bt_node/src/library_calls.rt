@@ -3,8 +3,8 @@
 ghost use Rattle.std.specs.Prelude.{◌≡◌, ◌≤◌, IfOk, length};
 ghost use Rattle.bt_value.specs.Lists.{concatenation};
 ghost use Rattle.bt_messages.specs.Bins.{LieBetween};
-ghost use Rattle.bt_messages.specs.Meanings.{meaning_of};
-ghost use Rattle.bt_messages.specs.Weights.{load, weigh_of};
+ghost use Rattle.bt_message.specs.Meanings.{meaning_of};
+ghost use Rattle.bt_message.specs.Weights.{load, weigh_of};
 ghost use Rattle.bt_flush.specs.Laws.{FitAbove, HoldAllAfter};
 ghost use Rattle.bt_form.specs.Flushes.{grouped, shared};
 ghost use Rattle.bt_form.specs.Trees.{pivots_of};

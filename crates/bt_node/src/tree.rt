@@ -2,10 +2,10 @@
 ghost use Rattle.std.specs.Prelude.{◌≡◌, [], IfOk, IsTrue, length};
 ghost use Rattle.std.specs.FinMap.{find, is_sorted};
 ghost use Rattle.bt_keycode.specs.Keys.{key_cmp};
-ghost use Rattle.bt_messages.specs.Effects.{effect_of};
-ghost use Rattle.bt_messages.specs.Meanings.{meaning_of};
-ghost use Rattle.bt_messages.specs.Weights.{weigh_of};
-ghost use Rattle.bt_messages.specs.declared.message.Message.{Message};
+ghost use Rattle.bt_message.specs.Effects.{effect_of};
+ghost use Rattle.bt_message.specs.Meanings.{meaning_of};
+ghost use Rattle.bt_message.specs.Weights.{weigh_of};
+ghost use Rattle.bt_message.specs.declared.message.Message.{Message};
 ghost use Rattle.bt_flush.specs.Drains.{AreDry, IsDry, drain, drained, packed, rebuilt};
 ghost use Rattle.bt_form.specs.Fits.{AreFit, HasShape, IsInOrder};
 ghost use Rattle.bt_form.specs.Flushes.{absorb, crown, flush_in, holds, sunk};
@@ -30,8 +30,8 @@ pub struct Tree<V: Merge> {
 }
 
 impl<V: Merge> Model for Tree<V> {
-    ghost use Rattle.bt_messages.specs.Weights.{weigh_of};
-    ghost use Rattle.bt_messages.specs.declared.message.Message.{Message};
+    ghost use Rattle.bt_message.specs.Weights.{weigh_of};
+    ghost use Rattle.bt_message.specs.declared.message.Message.{Message};
     ghost use Rattle.bt_form.specs.Trees as trees;
     ghost use Rattle.bt_form.specs.Fits.{HasShape};
     ghost use Rattle.bt_form.specs.Stored.{message_code, shaped_tree_code};

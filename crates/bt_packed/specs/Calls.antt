@@ -12,7 +12,7 @@ use Rattle.bt_row.specs.Schemas.{Schema}
 use Rattle.bt_row.specs.declared.rows.schema.Column.{Column}
 use Rattle.bt_keycode.specs.Codes.{code_of}
 use Rattle.bt_keycode.specs.Keys.{Key, key_cmp}
-use Rattle.bt_messages.specs.Messages.{sorted_batch}
+use Rattle.bt_message.specs.Messages.{sorted_batch}
 use Rattle.bt_form.specs.Messages.{Rows}
 use Rattle.bt_batch.specs.Batches.{RowMessages}
 use Rattle.bt_table.specs.Tables.{Intact, Lost, TableState, after_batch}

@@ -2,7 +2,7 @@
 ghost use Rattle.std.specs.Prelude.{◌≡◌, ◌≢◌, Err, IfErr, IfOk, IsErrOf, None, OnOk, Ok};
 ghost use Rattle.bt_batch.specs.Changes.{AreOfSchema};
 ghost use Rattle.bt_table.specs.Calls.{StaysOrIsLost};
-ghost use Rattle.bt_table.specs.Standing.{CompleteIndexesHold, IsSoundUnlessLost};
+ghost use Rattle.bt_table.specs.Standing.{IsConsistent};
 ghost use Rattle.bt_table.specs.Tables.{Lost};
 ghost use Rattle.bt_value.specs.declared.refusal.Refusal.TheVariants.{Failed};
 ghost use Rattle.bt_packed.specs.Layout.{fault_at, header_at as bytes_header, no_header};
@@ -39,8 +39,7 @@ pub fn apply_packed(alloc: Global, table: &mut Table, bytes: &[u8]) -> Result<()
     ensures failed { table.old ≡ Lost → IsErrOf result (fault_at Failed 0 0) }
     ensures fault { IfErr result (λ fault. fault.refusal ≢ Refusal.OutOfMemory → (spec.applied table.old bytes.now ≡ Err fault) × (table.new ≡ table.old)) }
     ensures memory { IfErr result (λ fault. fault.refusal ≡ Refusal.OutOfMemory → StaysOrIsLost table.old table.new) }
-    ensures complete { CompleteIndexesHold table.new }
-    ensures sound { IsSoundUnlessLost table.new }
+    ensures consistent { IsConsistent table.new }
 {
     let packet = match table.schema() {
         Ok(schema) => read_messages(alloc, schema, bytes)?,

@@ -1,8 +1,8 @@
 -- Worked trees: cut into a tree in pieces and jobs, and filled again with the results of these, computed.
 use Rattle.std.specs.Prelude.{◌≡◌, ℕ, List, [], ◌∷◌, ℤ}
 use Rattle.std.proofs.Common.{refl}
-use Rattle.bt_messages.specs.declared.measure.Measure.TheVariants as measures
-use Rattle.bt_messages.specs.declared.message.Message.TheVariants.{Put}
+use Rattle.bt_message.specs.declared.measure.Measure.TheVariants as measures
+use Rattle.bt_message.specs.declared.message.Message.TheVariants.{Put}
 use Rattle.bt_form.specs.Flushes.{absorb}
 use Rattle.bt_flush.specs.Drains.{drain}
 use Rattle.bt_form.specs.Messages.{Messages}

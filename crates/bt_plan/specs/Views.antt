@@ -3,7 +3,7 @@ use Rattle.std.specs.Prelude.{◌≡◌, ◌+◌, ℕ, List, length, map}
 use Rattle.bt_keycode.specs.Keys.{Key}
 use Rattle.bt_value.specs.Lists.{concatenation}
 use Rattle.bt_messages.specs.Bins.{LieBetween}
-use Rattle.bt_messages.specs.declared.message.Message.{Message}
+use Rattle.bt_message.specs.declared.message.Message.{Message}
 use Rattle.bt_form.specs.Messages.{Messages}
 use Rattle.bt_form.specs.Trees.{Shape, Tree, with_pivots}
 use Rattle.bt_form.specs.declared.mode.Mode.{Mode}

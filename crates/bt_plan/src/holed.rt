@@ -49,7 +49,7 @@ pub enum HoledParts<V: Merge> {
 }
 
 impl<V: Merge> Model for HoledNode<V> {
-    ghost use Rattle.bt_messages.specs.declared.message.Message.{Message};
+    ghost use Rattle.bt_message.specs.declared.message.Message.{Message};
     ghost use Rattle.bt_plan.specs.Pieces as pieces;
     ghost use Rattle.bt_plan.specs.inside.Stored.{holed_code};
 
@@ -134,7 +134,7 @@ pub struct Holed<V: Merge> {
 }
 
 impl<V: Merge> Model for Holed<V> {
-    ghost use Rattle.bt_messages.specs.declared.message.Message.{Message};
+    ghost use Rattle.bt_message.specs.declared.message.Message.{Message};
     ghost use Rattle.bt_form.specs.Trees as trees;
     ghost use Rattle.bt_plan.specs.Pieces as pieces;
     ghost use Rattle.bt_plan.specs.inside.Stored.{shaped_holed_code};

@@ -2,8 +2,8 @@
 //! portions.
 ghost use Rattle.std.specs.Prelude.{◌≡◌, ◌<◌, IfOk, IfSome, fold, length, map};
 ghost use Rattle.std.specs.Option.{option_copied};
-ghost use Rattle.bt_messages.specs.Effects.{effect_of};
-ghost use Rattle.bt_messages.specs.Weights.{weigh_of};
+ghost use Rattle.bt_message.specs.Effects.{effect_of};
+ghost use Rattle.bt_message.specs.Weights.{weigh_of};
 ghost use Rattle.bt_flush.specs.Drains.{IsDry, rebuilt};
 ghost use Rattle.bt_form.specs.Fits.{HasShape};
 ghost use Rattle.bt_form.specs.Flushes.{holds};
@@ -41,7 +41,7 @@ where
 
     ghost use Rattle.std.specs.Prelude.{◌≡◌, MatchResult, ⊤, fold};
     ghost use Rattle.std.proofs.Common.{sym, ◌∙◌};
-    ghost use Rattle.bt_messages.specs.Effects.{effect_of};
+    ghost use Rattle.bt_message.specs.Effects.{effect_of};
     ghost use Rattle.bt_form.specs.Portions.{rows_of};
 
     ghost accepts = { λ _ _. ⊤ };

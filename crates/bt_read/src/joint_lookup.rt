@@ -3,7 +3,7 @@ ghost use Rattle.std.specs.Prelude.{◌≡◌, ◌<◌, ◌≤◌, ◌++◌, [],
 ghost use Rattle.std.specs.Option.{option_copied};
 ghost use Rattle.std.specs.FinMap.{find};
 ghost use Rattle.bt_keycode.specs.Keys.{key_cmp};
-ghost use Rattle.bt_messages.specs.Effects.{effect_of};
+ghost use Rattle.bt_message.specs.Effects.{effect_of};
 ghost use Rattle.bt_form.specs.Fits.{IsInOrder};
 ghost use Rattle.bt_form.specs.Parts.{AreRising};
 ghost use Rattle.bt_read.specs.inside.ValuesSoFar.{option_of};

@@ -3,7 +3,7 @@ ghost use Rattle.std.specs.Prelude.{◌≡◌, [], IsTrue, None, OnOk, fold, opt
 ghost use Rattle.std.specs.FinMap.{find, is_sorted};
 ghost use Rattle.std.specs.Option.{option_copied, option_to_list};
 ghost use Rattle.bt_keycode.specs.Keys.{IsSorted, key_cmp};
-ghost use Rattle.bt_messages.specs.Effects.{effect_of};
+ghost use Rattle.bt_message.specs.Effects.{effect_of};
 ghost use Rattle.bt_form.specs.Messages.{before, rows_after, with_value};
 ghost use Rattle.bt_read.specs.inside.ValuesSoFar.{option_of};
 ghost use Rattle.bt_read.specs.inside.Limits.{limited};

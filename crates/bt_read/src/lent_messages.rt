@@ -2,8 +2,8 @@
 ghost use Rattle.std.specs.Prelude.{◌≡◌, ◌++◌, ◌∷◌, [], false, true, IfOk, MatchOption, None, OnOk, map, not};
 ghost use Rattle.std.specs.Option.{option_copied};
 ghost use Rattle.bt_keycode.specs.Keys.{AllFrom, IsSorted, is_before, is_before_upper};
-ghost use Rattle.bt_messages.specs.Effects.{effect_of};
-ghost use Rattle.bt_messages.specs.Messages.{messages_between, messages_outside, messages_past, messages_up_to, with_messages};
+ghost use Rattle.bt_message.specs.Effects.{effect_of};
+ghost use Rattle.bt_message.specs.Messages.{messages_between, messages_outside, messages_past, messages_up_to, with_messages};
 ghost use Rattle.bt_form.specs.Messages.{before, from, value_after};
 ghost use Rattle.bt_read.specs.inside.ValuesSoFar.{option_of};
 
@@ -37,7 +37,7 @@ impl<'a, V: Merge> Drop for LentMessages<'a, V> {
 
 impl<'a, V: Merge> Model for LentMessages<'a, V> {
     ghost use Rattle.std.specs.Prelude.{List, ℕ, map};
-    ghost use Rattle.bt_messages.specs.declared.message.Message.{Message};
+    ghost use Rattle.bt_message.specs.declared.message.Message.{Message};
 
     ghost Value = { List (List ℕ × Message V V.Delta) };
 

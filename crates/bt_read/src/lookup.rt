@@ -1,7 +1,7 @@
 //! Looks up the value at a key along one path from the root, only as far down as needed.
 ghost use Rattle.std.specs.Prelude.{◌≡◌, ◌<◌, ◌≤◌, [], IfOk, length, slice_index_or};
 ghost use Rattle.bt_keycode.specs.Keys.{AllFrom, IsSorted};
-ghost use Rattle.bt_messages.specs.Effects.{effect_of};
+ghost use Rattle.bt_message.specs.Effects.{effect_of};
 ghost use Rattle.bt_form.specs.Fits.{IsInOrder};
 ghost use Rattle.bt_read.specs.inside.Lookups.{pivots_up_to, tree_value};
 ghost use Rattle.bt_form.specs.Messages.{value_after};

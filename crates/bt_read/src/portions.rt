@@ -1,7 +1,7 @@
 //! Trees in portions, which threads can read side by side.
 ghost use Rattle.std.specs.Prelude.{◌≡◌, ◌<◌, ◌∷◌, [], false, IfOk, IfSome, OnOk, None, fold, length, map};
 ghost use Rattle.std.specs.Option.{option_copied, option_to_list};
-ghost use Rattle.bt_messages.specs.Effects.{effect_of};
+ghost use Rattle.bt_message.specs.Effects.{effect_of};
 ghost use Rattle.bt_form.specs.Fits.{IsInOrder};
 ghost use Rattle.bt_form.specs.Parts.{AreRising};
 ghost use Rattle.bt_form.specs.Portions as portions;
@@ -35,7 +35,7 @@ pub struct Portion<'a, V: Merge> {
 impl<'a, V: Merge> Model for Portion<'a, V> {
     ghost use Rattle.std.specs.Option.{option_copied};
     ghost use Rattle.bt_keycode.specs.Keys.{AllWithin, IsSorted};
-    ghost use Rattle.bt_messages.specs.declared.message.Message.{Message};
+    ghost use Rattle.bt_message.specs.declared.message.Message.{Message};
     ghost use Rattle.bt_form.specs.Fits.{IsInOrder};
     ghost use Rattle.bt_form.specs.Portions as portions;
     ghost use Rattle.bt_form.specs.Stored.{message_code, portion_code};

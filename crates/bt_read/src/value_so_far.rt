@@ -1,7 +1,7 @@
 //! Values that are borrowed until something changes them.
 ghost use Rattle.std.specs.Prelude.{◌≡◌, IfOk, IfSome};
 ghost use Rattle.std.specs.Option.{option_copied};
-ghost use Rattle.bt_messages.specs.Effects.{effect_of};
+ghost use Rattle.bt_message.specs.Effects.{effect_of};
 ghost use Rattle.bt_read.specs.inside.ValuesSoFar.{Resets, option_of};
 
 use bt_messages::{Merge, Message};

@@ -1,7 +1,7 @@
 //! Reads the rows between two bounds, leaf by leaf.
 ghost use Rattle.std.specs.Prelude.{◌≡◌, ◌≤◌, OnOk, fold, length};
 ghost use Rattle.std.specs.Option.{option_copied};
-ghost use Rattle.bt_messages.specs.Effects.{effect_of};
+ghost use Rattle.bt_message.specs.Effects.{effect_of};
 ghost use Rattle.bt_form.specs.Fits.{IsInOrder};
 ghost use Rattle.bt_form.specs.Flushes.{holds};
 ghost use Rattle.bt_read.specs.inside.Lookups.{first_place};

@@ -3,7 +3,7 @@ ghost use Rattle.std.specs.Prelude.{◌≡◌, ◌<◌, cond, None, Some, fold, 
 ghost use Rattle.std.specs.FinMap.{find, is_sorted};
 ghost use Rattle.std.specs.Option.{option_copied};
 ghost use Rattle.bt_keycode.specs.Keys.{Key, is_between, key_cmp};
-ghost use Rattle.bt_messages.specs.Effects.{effect_of};
+ghost use Rattle.bt_message.specs.Effects.{effect_of};
 ghost use Rattle.bt_form.specs.Fits.{IsInOrder};
 ghost use Rattle.bt_form.specs.Flushes.{holds};
 ghost use Rattle.bt_form.specs.Messages.{between};
@@ -30,7 +30,7 @@ pub struct Walk<'a, V: Merge> {
 }
 
 impl<'a, V: Merge> Model for Walk<'a, V> {
-    ghost use Rattle.bt_messages.specs.declared.message.Message.{Message};
+    ghost use Rattle.bt_message.specs.declared.message.Message.{Message};
     ghost use Rattle.bt_form.specs.Trees as trees;
     ghost use Rattle.bt_form.specs.Stored.{message_code, tree_code};
 

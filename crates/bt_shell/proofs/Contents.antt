@@ -17,8 +17,8 @@ use Rattle.bt_row.specs.declared.rows.schema.Column.{Column}
 use Rattle.bt_value.specs.declared.value.Value.{Value}
 use Rattle.bt_keycode.specs.Codes.{code_of}
 use Rattle.bt_keycode.specs.Keys.{Key, key_cmp}
-use Rattle.bt_messages.specs.Effects.{Rows, rows_after, with_value}
-use Rattle.bt_messages.specs.declared.measure.Measure.TheVariants as measure
+use Rattle.bt_message.specs.Effects.{Rows, rows_after, with_value}
+use Rattle.bt_message.specs.declared.measure.Measure.TheVariants as measure
 use Rattle.bt_form.specs.Trees.{Shape, leaf}
 use Rattle.bt_fanout.specs.Definitions.{definition_as}
 use Rattle.bt_fanout.specs.Effects.{row_effect}

@@ -23,10 +23,10 @@ use Rattle.bt_shell.specs.Steps.{form_refusals, is_allowed, outcome, read_outcom
 use Rattle.bt_shell.proofs.Faults.{stays_lost}
 use Rattle.bt_table.specs.Calls as call
 use Rattle.bt_table.specs.Calls.{name_refusals, step}
-use Rattle.bt_table.specs.Standing.{CompleteIndexesHold, IsSound, IsSoundUnlessLost}
+use Rattle.bt_table.specs.Standing.{CompleteIndexesHold, IsConsistent, IsSound, IsSoundUnlessLost}
 use Rattle.bt_table.specs.Tables.{Intact, Lost, TableState}
 use Rattle.bt_table.specs.declared.reply.Reply.{Reply}
-use Rattle.bt_table.proofs.offered.Steps.{empty_is_sound, shape_is_roomy, sound_hold, step_keeps_sound, unless_lost_hold}
+use Rattle.bt_table.proofs.offered.Steps.{empty_is_sound, is_consistent, shape_is_roomy, sound_hold, step_keeps_sound}
 
 -- a table that no refusal applies to has a schema and a shape
 both_allowed : (exists schema shape : Bool) → lowest (one_if exists TableExists ++ (one_if (not schema) BadSchema ++ one_if (not shape) BadShape)) ≡ None → (schema ≡ true) × (shape ≡ true)
@@ -139,13 +139,21 @@ commands_keep_sound_unless_lost (Some (Intact table)) answers sound = unless_los
 commands_keep_sound_unless_lost (Some Lost) answers sound = subst (λ (state : State). IfSome state IsSoundUnlessLost) (sym (stays_lost answers).0) tt
 
 -- any table that is left is sound unless it is lost
-pub left_keeps_sound : (begin left : State) (answers : List Answer) (n : ℕ) → IfSome begin IsSoundUnlessLost → IsLeftAfter begin left answers n → IfSome left IsSoundUnlessLost
+left_keeps_sound : (begin left : State) (answers : List Answer) (n : ℕ) → IfSome begin IsSoundUnlessLost → IsLeftAfter begin left answers n → IfSome left IsSoundUnlessLost
 left_keeps_sound begin left answers n sound (inl first) =
     subst (λ (state : State). IfSome state IsSoundUnlessLost) (sym first) (commands_keep_sound_unless_lost begin (take n answers) sound)
 left_keeps_sound begin left answers n sound (inr (inl more)) =
     subst (λ (state : State). IfSome state IsSoundUnlessLost) (sym more) (commands_keep_sound_unless_lost begin (take (n + 1) answers) sound)
 left_keeps_sound begin left answers n sound (inr (inr lost)) = subst (λ (state : State). IfSome state IsSoundUnlessLost) (sym lost) tt
 
-pub hold_unless_lost : (state : State) → IfSome state IsSoundUnlessLost → IfSome state CompleteIndexesHold
-hold_unless_lost None sound = tt
-hold_unless_lost (Some table) sound = unless_lost_hold table sound
+unless_lost_is_consistent : (state : State) → IfSome state IsSoundUnlessLost → IfSome state IsConsistent
+unless_lost_is_consistent None sound = tt
+unless_lost_is_consistent (Some table) sound = is_consistent table sound
+
+consistent_is_sound : (state : State) → IfSome state IsConsistent → IfSome state IsSoundUnlessLost
+consistent_is_sound None consistent = tt
+consistent_is_sound (Some table) consistent = consistent.sound
+
+pub left_stays_consistent : (begin left : State) (answers : List Answer) (n : ℕ) → IfSome begin IsConsistent → IsLeftAfter begin left answers n → IfSome left IsConsistent
+left_stays_consistent begin left answers n consistent is = unless_lost_is_consistent left (left_keeps_sound begin left answers n (consistent_is_sound begin consistent) is)
+

@@ -8,7 +8,7 @@ use Rattle.bt_row.specs.declared.operations.op.Op.TheVariants as op
 use Rattle.bt_value.specs.declared.value.Kind.TheVariants as kind
 use Rattle.bt_value.specs.declared.value.Value.TheVariants as value
 use Rattle.bt_value.proofs.offered.OnLiterals.{values_on_literals}
-use Rattle.bt_messages.specs.declared.message.Message.TheVariants as message
+use Rattle.bt_message.specs.declared.message.Message.TheVariants as message
 use Rattle.bt_script.specs.declared.command.Capacity.TheVariants.{Messages}
 use Rattle.bt_script.specs.Lines.{after_words}
 use Rattle.bt_script.specs.Commands.{bounds_of, closing_of, column_of, command_of, commands, commands_from, index_command, item_of_line, items_of, line_step}

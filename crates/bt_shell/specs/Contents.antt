@@ -5,7 +5,7 @@ use Rattle.bt_value.specs.Refusals.{lowest}
 use Rattle.bt_row.specs.Schemas.{Schema}
 use Rattle.bt_rowtype.specs.declared.item.Item.{Item}
 use Rattle.bt_value.specs.declared.value.Value.{Value}
-use Rattle.bt_messages.specs.Effects.{Rows, rows_after}
+use Rattle.bt_message.specs.Effects.{Rows, rows_after}
 use Rattle.bt_fanout.specs.Effects.{row_effect}
 use Rattle.bt_batch.specs.Batches.{RowMessages, batch_refusals}
 use Rattle.bt_script.specs.Commands.{Answer}

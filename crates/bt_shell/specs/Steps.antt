@@ -4,7 +4,7 @@ use Rattle.bt_value.specs.Refusals.{lowest}
 use Rattle.bt_row.specs.Schemas.{is_schema}
 use Rattle.bt_value.specs.declared.refusal.Refusal.{Refusal}
 use Rattle.bt_value.specs.declared.refusal.Refusal.TheVariants.{BadSchema, BadShape, Failed, NoTable, TableExists}
-use Rattle.bt_messages.specs.declared.measure.Measure.TheVariants as measure
+use Rattle.bt_message.specs.declared.measure.Measure.TheVariants as measure
 use Rattle.bt_form.specs.Shapes.{is_shape}
 use Rattle.bt_form.specs.Trees.{Shape}
 use Rattle.bt_script.specs.Commands.{Answer}

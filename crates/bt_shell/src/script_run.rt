@@ -8,7 +8,7 @@ ghost use Rattle.bt_shell.specs.Faults.{LogsWholeReplies, StopsBetweenReplies, S
 ghost use Rattle.bt_shell.specs.Logs.{ReadsChangeNothing, logged};
 ghost use Rattle.bt_shell.specs.Runs.{AreOneRun, EndsBetweenCommands, IsWholeRun, WritesPrefix, WritesReplies, after_commands, one_where, refused_count, replies, run, state_after_commands};
 ghost use Rattle.bt_shell.specs.Steps.{State};
-ghost use Rattle.bt_table.specs.Standing.{CompleteIndexesHold, IsSound, IsSoundUnlessLost};
+ghost use Rattle.bt_table.specs.Standing.{CompleteIndexesHold, IsConsistent, IsSound};
 ghost use Rattle.bt_table.specs.Tables.{Lost};
 
 use crate::log::{CommandLog, NoLog};
@@ -45,7 +45,7 @@ fn count_with(count: usize, refused: bool) -> usize
 
 // What is true of a table between any two calls. It does nothing.
 fn soundness(table: &Option<Table>)
-    ensures { IfSome table.now IsSoundUnlessLost }
+    ensures { IfSome table.now IsConsistent }
 {
     if let Some(table) = table {
         let _schema = table.schema();
@@ -100,8 +100,7 @@ pub fn run_commands<W: Write, L: CommandLog, T, C: ScriptWorkforce<T>>(
     ensures lost { table.old ≡ Some Lost → (table.new ≡ Some Lost) × (replies table.old (commands script.now) ≡ flat_map lost_reply (commands script.now)) }
 
     // After any result the table is sound unless it is lost, and so each complete index holds exactly the entries that its definition selects from the rows.
-    ensures sound { IfSome table.new IsSoundUnlessLost }
-    ensures complete { IfSome table.new CompleteIndexesHold }
+    ensures consistent { IfSome table.new IsConsistent }
 
     // A run that ends Ok loses no table.
     ensures kept { IfSome table.old IsSound → OnOk result (IfSome table.new IsSound) }

@@ -1,7 +1,7 @@
 -- The text and the height of a node from those of its children. Serves the writing of an image.
 use Rattle.std.proofs.Common.{ℕ, zero, suc, ◌+◌, ◌<◌, ◌≤◌, ◌≡◌, ◌∙◌, List, [], ◌∷◌, ◌++◌, Option, Some, None, refl, sym, ap, take, length, arith, append_assoc, append-nil, max, take_all}
 use Rattle.std.specs.Prelude.{flat_map, min, option_map, slice_get}
-use Rattle.bt_messages.specs.declared.message.Message.{Message}
+use Rattle.bt_message.specs.declared.message.Message.{Message}
 use Rattle.bt_keycode.specs.Keys.{Key}
 use Rattle.bt_form.specs.Trees.{Tree, leaf, inner, Nodes, none, node, Siblings, children, height, height_below}
 use Rattle.bt_form.specs.Walks.{children_of}

@@ -9,8 +9,8 @@ use Rattle.std.specs.List.{All, list_all, remove}
 use Rattle.bt_row.specs.Schemas.{Schema}
 use Rattle.bt_value.specs.declared.value.Value.{Value}
 use Rattle.bt_keycode.specs.Keys.{Key, key_cmp}
-use Rattle.bt_messages.specs.Effects.{Rows, rows_after}
-use Rattle.bt_messages.specs.Messages.{Messages, sorted_batch}
+use Rattle.bt_message.specs.Effects.{Rows, rows_after}
+use Rattle.bt_message.specs.Messages.{Messages, sorted_batch}
 use Rattle.bt_messages.proofs.offered.Rows.{rows_after-sorted_batch}
 use Rattle.bt_flush.specs.Drains.{packed}
 use Rattle.bt_form.specs.Fits.{HasShape}

@@ -2,7 +2,7 @@
 -- applies a batch.
 use Rattle.std.proofs.Common.{◌≡◌, ◌∙◌, List, [], ◌∷◌, ap, refl}
 use Rattle.std.specs.List.{zip}
-use Rattle.bt_messages.specs.Messages.{Messages, sorted_batch}
+use Rattle.bt_message.specs.Messages.{Messages, sorted_batch}
 use Rattle.bt_messages.proofs.offered.Rows.{rows_after-sorted_batch}
 use Rattle.bt_form.specs.Fits.{HasShape}
 use Rattle.bt_form.specs.Flushes.{holds, sunk}

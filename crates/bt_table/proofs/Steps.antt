@@ -17,8 +17,8 @@ use Rattle.bt_load.specs.Loads.{text_rows}
 use Rattle.bt_load.specs.Maps.{map_of}
 use Rattle.bt_load.proofs.offered.Loaded.{map_of-sorted, text_rows-of}
 use Rattle.bt_table.proofs.Loads.{map_of-stand}
-use Rattle.bt_messages.specs.Effects.{Rows, rows_after}
-use Rattle.bt_messages.specs.Messages.{Messages, sorted_batch}
+use Rattle.bt_message.specs.Effects.{Rows, rows_after}
+use Rattle.bt_message.specs.Messages.{Messages, sorted_batch}
 use Rattle.bt_messages.proofs.offered.Pieces.{sorted-sorted_batch, sorted_batch-sorted}
 use Rattle.bt_messages.proofs.offered.Rows.{rows_after-sorted_batch}
 use Rattle.bt_flush.specs.Drains.{packed}

@@ -3,7 +3,7 @@ use Rattle.std.proofs.Common.{ℕ, zero, suc, ◌<◌, ◌≡◌, ◌∙◌, Lis
 use mathlib.Core.List.{map-map}
 use Rattle.std.proofs.lemmas.List.Elements.{All-cons, All-head, All-nil, All-tail}
 use Rattle.std.specs.List.{All}
-use Rattle.bt_messages.specs.Messages.{Messages, sorted_batch}
+use Rattle.bt_message.specs.Messages.{Messages, sorted_batch}
 use Rattle.bt_fanout.specs.Effects.{EntryMessage, SuitsEffect, sent_for_all}
 use Rattle.bt_fanout.specs.Entries.{Definition}
 use Rattle.bt_fanout.specs.Targets.{SuitAll, packet_of}

@@ -8,7 +8,7 @@ use Rattle.bt_value.specs.declared.value.Kind.TheVariants as kind
 use Rattle.bt_value.specs.declared.value.Value.TheVariants as value
 use Rattle.bt_value.proofs.offered.OnLiterals.{values_on_literals}
 use Rattle.bt_keycode.specs.Codes.{eight_bytes}
-use Rattle.bt_messages.specs.declared.measure.Measure.TheVariants as measures
+use Rattle.bt_message.specs.declared.measure.Measure.TheVariants as measures
 use Rattle.bt_rowtype.specs.declared.item.Item.TheVariants.{Put, Del, Ups}
 use Rattle.bt_gang.specs.Numbers.{below}
 use Rattle.bt_value.specs.Results.{map_ok}

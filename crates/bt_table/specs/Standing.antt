@@ -65,6 +65,11 @@ abbrev pub IsSoundUnlessLost : TableState → Type 0
 IsSoundUnlessLost (Intact table) = IsSoundTable table
 IsSoundUnlessLost Lost = Unit {0}
 
+-- what is true of a table between any two calls: unless it is lost, it is sound, so each complete index holds what it selects
+pub record IsConsistent (state : TableState) : Type 0 where
+  pub complete : CompleteIndexesHold state
+  pub sound : IsSoundUnlessLost state
+
 -- the rows strictly rise by the values of their key columns
 abbrev pub KeysRise : Schema → Rows (List Value) → Type 0
 KeysRise schema rows = T (is_sorted values_cmp (map (λ row. (take schema.keys row.1, row.1)) rows))

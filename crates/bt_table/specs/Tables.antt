@@ -3,8 +3,8 @@ use Rattle.std.specs.Prelude.{List, [], Option, Some, None}
 use Rattle.bt_row.specs.Ops.{Change}
 use Rattle.bt_row.specs.Schemas.{Schema}
 use Rattle.bt_value.specs.declared.value.Value.{Value}
-use Rattle.bt_messages.specs.Messages.{sorted_batch}
-use Rattle.bt_messages.specs.declared.message.Message.{Message}
+use Rattle.bt_message.specs.Messages.{sorted_batch}
+use Rattle.bt_message.specs.declared.message.Message.{Message}
 use Rattle.bt_form.specs.Flushes.{holds, sunk}
 use Rattle.bt_form.specs.Messages.{Rows, rows_after}
 use Rattle.bt_form.specs.Trees.{Shape, Tree, leaf}

@@ -1,6 +1,6 @@
 //! The caller alone: a workforce without threads.
 ghost use Rattle.std.specs.Prelude.{◌≡◌, IfOk};
-ghost use Rattle.bt_messages.specs.Meanings.{meaning_of};
+ghost use Rattle.bt_message.specs.Meanings.{meaning_of};
 ghost use Rattle.bt_gather.specs.Rounds.{all_sunk};
 
 use crate::reply::Reply;

@@ -1,11 +1,11 @@
 //! Tables and their calls.
-#![tactic(auto, using(crate::proofs::offered::Steps::unless_lost_hold))]
+#![tactic(auto, using(crate::proofs::offered::Steps::is_consistent))]
 
 ghost use Rattle.std.specs.Prelude.{◌≡◌, Err, IfErr, IfOk, IsErrOf, None, OnErr, OnOk, Some};
 ghost use Rattle.bt_value.specs.Refusals.{lowest};
 ghost use Rattle.bt_table.specs.Calls as spec;
 ghost use Rattle.bt_table.specs.Calls.{Apply, ApplyMessages, CreateIndex, DropIndex, Get, GetAt, IsCertain, IsRefused, IsStep, IsTextOfMessages, Shows, StaysOrIsLost, index_refusals, is_primary, step, tree_named};
-ghost use Rattle.bt_table.specs.Standing.{CompleteIndexesHold, HasSchema, IsSoundUnlessLost, SuitMessages, Suits};
+ghost use Rattle.bt_table.specs.Standing.{HasSchema, IsConsistent, SuitMessages, Suits};
 ghost use Rattle.bt_table.specs.Tables.{Intact, Lost, empty_table};
 
 mod checks;
@@ -82,8 +82,7 @@ fn is_name_of_rows(name: &Text) -> bool
 impl Table {
     // What is true of a table between any two calls. It does nothing: a call that changes the trees ends with it, so that its contract states this.
     fn soundness(&self)
-        ensures complete { CompleteIndexesHold self.now }
-        ensures sound { IsSoundUnlessLost self.now }
+        ensures consistent { IsConsistent self.now }
     {
         let _trees = &self.trees;
     }
@@ -91,8 +90,7 @@ impl Table {
     /// A table with no rows and no indexes.
     pub fn new(alloc: Global, schema: Schema, shape: Shape) -> Self
         ensures empty { result ≡ Intact (empty_table schema shape) }
-        ensures complete { CompleteIndexesHold result }
-        ensures sound { IsSoundUnlessLost result }
+        ensures consistent { IsConsistent result }
     {
         let rows = Tree::empty(alloc, shape);
         // An empty tree fits its shape, which a walk states for every tree; and the key columns of a schema are columns of it.
@@ -110,8 +108,7 @@ impl Table {
     pub fn schema(&self) -> Result<&Schema, Refusal>
         ensures schema { IfOk result (λ schema. HasSchema self.now schema.now) }
         ensures refused { IfErr result (λ refusal. (self.now ≡ Lost) × (refusal ≡ Refusal.Failed)) }
-        ensures complete { CompleteIndexesHold self.now }
-        ensures sound { IsSoundUnlessLost self.now }
+        ensures consistent { IsConsistent self.now }
     {
         if self.trees.is_none() {
             return Err(Refusal::Failed);
@@ -121,7 +118,7 @@ impl Table {
 
     /// Applies the messages of a batch in order, to the rows and to each index, and returns their numbers. A lost table returns `Failed`. Otherwise the
     /// lowest refusal that applies is returned, and the table does not change. After `OutOfMemory` the table is as it was, or lost.
-    #[tactic(auto, using(crate::proofs::offered::Steps::unless_lost_hold, crate::proofs::Steps::is_text_of_messages))]
+    #[tactic(auto, using(crate::proofs::offered::Steps::is_consistent, crate::proofs::Steps::is_text_of_messages))]
     pub fn apply<T, W: Workforce<T>>(
         &mut self,
         rt: &T,
@@ -136,8 +133,7 @@ impl Table {
         ensures kept { IfErr (step self.old (Apply items.now)) (λ _. self.new ≡ self.old) }
         ensures failed { self.old ≡ Lost → IsErrOf result Refusal.Failed }
         ensures text { IsTextOfMessages self.old items.now }
-        ensures complete { CompleteIndexesHold self.new }
-        ensures sound { IsSoundUnlessLost self.new }
+        ensures consistent { IsConsistent self.new }
     {
         let Some(_trees) = &self.trees else {
             return Err(Refusal::Failed);
@@ -164,8 +160,7 @@ impl Table {
         ensures memory { IsErrOf result Refusal.OutOfMemory → StaysOrIsLost self.old self.new }
         ensures kept { IfErr (step self.old (ApplyMessages packet)) (λ _. self.new ≡ self.old) }
         ensures failed { self.old ≡ Lost → IsErrOf result Refusal.Failed }
-        ensures complete { CompleteIndexesHold self.new }
-        ensures sound { IsSoundUnlessLost self.new }
+        ensures consistent { IsConsistent self.new }
     {
         let Some(trees) = &self.trees else {
             drop(packet);
@@ -193,8 +188,7 @@ impl Table {
     pub fn check_index(&self, name: &Text) -> Result<(), Refusal>
         ensures free { OnOk result (lowest (index_refusals self.now name.now) ≡ None) }
         ensures refused { IfErr result (λ refusal. lowest (index_refusals self.now name.now) ≡ Some refusal) }
-        ensures complete { CompleteIndexesHold self.now }
-        ensures sound { IsSoundUnlessLost self.now }
+        ensures consistent { IsConsistent self.now }
     {
         let Some(trees) = &self.trees else {
             return Err(Refusal::Failed);
@@ -223,8 +217,7 @@ impl Table {
         ensures certain { IsCertain self.old (CreateIndex name def) result }
         ensures unchanged { OnErr result (self.new ≡ self.old) }
         ensures failed { self.old ≡ Lost → IsErrOf result Refusal.Failed }
-        ensures complete { CompleteIndexesHold self.new }
-        ensures sound { IsSoundUnlessLost self.new }
+        ensures consistent { IsConsistent self.new }
     {
         if let Err(refusal) = self.check_index(&name) {
             drop((name, def));
@@ -260,8 +253,7 @@ impl Table {
         ensures certain { IsCertain self.old (spec.BuildStep name.now count) result }
         ensures memory { IsErrOf result Refusal.OutOfMemory → StaysOrIsLost self.old self.new }
         ensures failed { self.old ≡ Lost → IsErrOf result Refusal.Failed }
-        ensures complete { CompleteIndexesHold self.new }
-        ensures sound { IsSoundUnlessLost self.new }
+        ensures consistent { IsConsistent self.new }
     {
         let Some(trees) = &self.trees else {
             return Err(Refusal::Failed);
@@ -300,8 +292,7 @@ impl Table {
     pub fn drop_index(&mut self, name: &Text) -> Result<Reply, Refusal>
         ensures done { IfOk result (IsStep self.old self.new (DropIndex name.now)) }
         ensures refused { IfErr result (λ refusal. (step self.old (DropIndex name.now) ≡ Err refusal) × (self.new ≡ self.old)) }
-        ensures complete { CompleteIndexesHold self.new }
-        ensures sound { IsSoundUnlessLost self.new }
+        ensures consistent { IsConsistent self.new }
     {
         let Some(trees) = &self.trees else {
             return Err(Refusal::Failed);
@@ -327,8 +318,7 @@ impl Table {
         ensures done { IfOk result (IsStep self.now self.now (Get fields.now)) }
         ensures refused { IfErr result (IsRefused self.now self.now (Get fields.now)) }
         ensures failed { self.now ≡ Lost → IsErrOf result Refusal.Failed }
-        ensures complete { CompleteIndexesHold self.now }
-        ensures sound { IsSoundUnlessLost self.now }
+        ensures consistent { IsConsistent self.now }
     {
         let Some(_trees) = &self.trees else {
             return Err(Refusal::Failed);
@@ -345,8 +335,7 @@ impl Table {
         ensures done { IfOk result (IsStep self.now self.now (GetAt key.now)) }
         ensures refused { IfErr result (IsRefused self.now self.now (GetAt key.now)) }
         ensures failed { self.now ≡ Lost → IsErrOf result Refusal.Failed }
-        ensures complete { CompleteIndexesHold self.now }
-        ensures sound { IsSoundUnlessLost self.now }
+        ensures consistent { IsConsistent self.now }
     {
         let Some(trees) = &self.trees else {
             return Err(Refusal::Failed);
@@ -358,8 +347,7 @@ impl Table {
     pub fn tree(&self, name: &Text) -> Result<TreeRef<'_>, Refusal>
         ensures shown { IfOk result (λ shown. Shows self.now name.now shown) }
         ensures refused { IfErr result (λ refusal. tree_named self.now name.now ≡ Err refusal) }
-        ensures complete { CompleteIndexesHold self.now }
-        ensures sound { IsSoundUnlessLost self.now }
+        ensures consistent { IsConsistent self.now }
     {
         let Some(trees) = &self.trees else {
             return Err(Refusal::Failed);

@@ -1,7 +1,7 @@
 //! Who works on the calls of a table: the caller alone, or a crew.
 ghost use Rattle.std.specs.Prelude.{◌≡◌, ◌≢◌, ◌≤◌, ◌+◌, ◌++◌, IfErr, IfOk, IsErrOf, None, OnErr, OnOk, Some, length, map};
 ghost use Rattle.std.specs.List.{All};
-ghost use Rattle.bt_messages.specs.Messages.{sorted_batch};
+ghost use Rattle.bt_message.specs.Messages.{sorted_batch};
 ghost use Rattle.bt_flush.specs.Drains.{drained, rebuilt};
 ghost use Rattle.bt_form.specs.Flushes.{holds};
 ghost use Rattle.bt_batch.specs.Batches.{batch_refusals, messages_of};
@@ -13,7 +13,7 @@ ghost use Rattle.bt_gather.specs.Rounds.{all_sunk};
 ghost use Rattle.bt_value.specs.Refusals.{lowest};
 ghost use Rattle.bt_value.specs.declared.refusal.Refusal.TheVariants as refusal;
 ghost use Rattle.bt_table.specs.Calls.{IsRefused, IsStep, Load};
-ghost use Rattle.bt_table.specs.Standing.{CompleteIndexesHold, IsSoundUnlessLost};
+ghost use Rattle.bt_table.specs.Standing.{IsConsistent};
 ghost use Rattle.bt_table.specs.Tables.{Lost};
 
 use crate::reply::Reply;
@@ -135,8 +135,7 @@ pub trait Workforce<T> {
         ensures refused { IfErr result (IsRefused table.old table.new (Load text.now)) }
         ensures unchanged { OnErr result (table.new ≡ table.old) }
         ensures failed { table.old ≡ Lost → IsErrOf result refusal.Failed }
-        ensures complete { CompleteIndexesHold table.new }
-        ensures sound { IsSoundUnlessLost table.new };
+        ensures consistent { IsConsistent table.new };
 }
 
 // A step of building for fewer rows is not divided, because starting threads would take longer than the workers gain.
@@ -171,8 +170,7 @@ fn crew_load<T: Threads + Sync>(
     ensures refused { IfErr result (IsRefused table.old table.new (Load text.now)) }
     ensures unchanged { OnErr result (table.new ≡ table.old) }
     ensures failed { table.old ≡ Lost → IsErrOf result refusal.Failed }
-    ensures complete { CompleteIndexesHold table.new }
-    ensures sound { IsSoundUnlessLost table.new }
+    ensures consistent { IsConsistent table.new }
 {
     if workers > 1 {
         return table.load(&InThreads { rt, workers }, alloc, text);

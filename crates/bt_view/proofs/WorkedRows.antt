@@ -8,7 +8,7 @@ use Rattle.bt_value.specs.declared.value.Value.{Value}
 use Rattle.bt_value.specs.declared.value.Value.TheVariants as value
 use Rattle.bt_value.proofs.offered.OnLiterals.{values_on_literals}
 use Rattle.bt_keycode.specs.Codes.{code_of, eight_bytes}
-use Rattle.bt_messages.specs.declared.measure.Measure.TheVariants as measures
+use Rattle.bt_message.specs.declared.measure.Measure.TheVariants as measures
 use Rattle.bt_form.specs.Trees.{inner, leaf, node, none}
 use Rattle.bt_fanout.specs.declared.cover.Cover.{Cover}
 use Rattle.bt_fanout.specs.declared.cover.Cover.TheVariants.{UpTo, Whole}

@@ -5,8 +5,8 @@ use Rattle.std.specs.Prelude.{ℤ}
 use Rattle.std.specs.List.{All}
 use Rattle.std.proofs.lemmas.List.Elements.{All-from_recursion}
 use Rattle.bt_keycode.specs.Codes.{code_of, eight_bytes}
-use Rattle.bt_messages.specs.Effects.{rows_after}
-use Rattle.bt_messages.specs.Messages.{sorted_batch}
+use Rattle.bt_message.specs.Effects.{rows_after}
+use Rattle.bt_message.specs.Messages.{sorted_batch}
 use Rattle.bt_fanout.specs.Effects.{SuitsEffect, effects_of, row_effect}
 use Rattle.bt_fanout.specs.Entries.{Definition, IsWithin, StandsUnder, SuitsKinds}
 use Rattle.bt_fanout.specs.Selections.{EachStands}

@@ -6,9 +6,9 @@ use Rattle.bt_value.specs.declared.value.Value.{Value}
 use Rattle.bt_value.specs.declared.value.Value.TheVariants as value
 use Rattle.bt_keycode.specs.Codes.{code_of}
 use Rattle.bt_keycode.specs.Keys.{Key}
-use Rattle.bt_messages.specs.Effects.{Rows, rows_after}
-use Rattle.bt_messages.specs.Messages.{Messages}
-use Rattle.bt_messages.specs.declared.message.Message.TheVariants.{Put, Del}
+use Rattle.bt_message.specs.Effects.{Rows, rows_after}
+use Rattle.bt_message.specs.Messages.{Messages}
+use Rattle.bt_message.specs.declared.message.Message.TheVariants.{Put, Del}
 use Rattle.bt_fanout.specs.Effects.{RowMessage, row_effect}
 
 -- the kinds of the columns

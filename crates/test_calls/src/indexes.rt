@@ -3,7 +3,7 @@
 //! The rows have two ints: an id, which is the key, and a quantity.
 ghost use Rattle.std.specs.Prelude.{◌≡◌, ◌++◌, ◌∷◌, [], IfOk};
 ghost use Rattle.std.specs.List.{All};
-ghost use Rattle.bt_messages.specs.Effects.{rows_after};
+ghost use Rattle.bt_message.specs.Effects.{rows_after};
 ghost use Rattle.bt_form.specs.Flushes.{holds};
 ghost use Rattle.bt_fanout.specs.Definitions.{kinds_of};
 ghost use Rattle.bt_fanout.specs.Effects.{SuitsEffect, row_effect};

@@ -2,7 +2,7 @@
 ghost use Rattle.std.specs.Prelude.{◌≡◌, ◌≤◌, IfOk, IfSome, IsTrue, None, map};
 ghost use Rattle.std.specs.FinMap.{find};
 ghost use Rattle.bt_gather.specs.Views.{pieces_of};
-ghost use Rattle.bt_messages.specs.Meanings.{meaning_of};
+ghost use Rattle.bt_message.specs.Meanings.{meaning_of};
 ghost use Rattle.bt_plan.specs.Pieces.{node_place_cmp};
 ghost use Rattle.bt_plan.specs.Views.{node_place};
 ghost use Rattle.test_cuts.specs.Turns.{AreInOrder, AreOdd, AreRun};

@@ -1,7 +1,7 @@
 //! Flushes in pieces: a tree is cut, its jobs are run one by one, and their results are filled in.
 ghost use Rattle.std.specs.Prelude.{◌≡◌, ◌≤◌, IfOk, map, reverse};
 ghost use Rattle.bt_gather.specs.Views.{pieces_of};
-ghost use Rattle.bt_messages.specs.Meanings.{meaning_of};
+ghost use Rattle.bt_message.specs.Meanings.{meaning_of};
 ghost use Rattle.bt_plan.specs.Cuts.{outcomes};
 ghost use Rattle.bt_plan.specs.Views.{job_of};
 ghost use Rattle.test_cuts.specs.Turns.{AreInOrder, AreTurned};

@@ -21,7 +21,7 @@ use Rattle.bt_keycode.specs.Codes.{code_of}
 use Rattle.bt_keycode.specs.Keys.{is_before}
 use Rattle.bt_keycode.specs.Standing.{Stands}
 use Rattle.bt_keycode.proofs.offered.Ranges.{after_ops_in_range, default_row_in_range, read_in_range, upsert_in_range}
-use Rattle.bt_messages.specs.Messages.{sorted_batch, with_message, with_messages}
+use Rattle.bt_message.specs.Messages.{sorted_batch, with_message, with_messages}
 use Rattle.bt_messages.proofs.offered.Parts.{length-with_messages}
 use Rattle.bt_rowtype.specs.declared.item.Item.{Item}
 use Rattle.bt_rowtype.specs.declared.item.Item.TheVariants.{Put, Del, Ups}

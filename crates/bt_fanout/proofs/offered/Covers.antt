@@ -4,8 +4,8 @@ use Rattle.std.specs.List.{filter}
 use Rattle.bt_value.specs.declared.value.Value.{Value}
 use Rattle.bt_keycode.specs.Keys.{Key, is_before}
 use Rattle.bt_keycode.proofs.offered.Order.{before_chain, later_chain}
-use Rattle.bt_messages.specs.Effects.{Rows}
-use Rattle.bt_messages.specs.Messages.{Messages}
+use Rattle.bt_message.specs.Effects.{Rows}
+use Rattle.bt_message.specs.Messages.{Messages}
 use Rattle.bt_fanout.specs.Covers.{is_covered, wider}
 use Rattle.bt_fanout.specs.Effects.{RowMessage, effects_of, effects_within, sent_for, sent_for_all}
 use Rattle.bt_fanout.specs.Entries.{Definition, entry_of, same_values}

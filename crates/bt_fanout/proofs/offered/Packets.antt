@@ -4,9 +4,9 @@ use Rattle.std.specs.Ordering.{eq_by_cmp}
 use Rattle.std.specs.FinMap.{find, nat_cmp-IsAntisymmetric, slice_cmp-IsAntisymmetric}
 use Rattle.std.specs.FinMap.Entries.{find-put, is_sorted, is_sorted-put, same_entries}
 use Rattle.bt_value.specs.declared.value.Value.{Value}
-use Rattle.bt_messages.specs.Effects.{Rows, rows_after}
+use Rattle.bt_message.specs.Effects.{Rows, rows_after}
 use Rattle.bt_keycode.specs.Keys.{is_before, key_cmp}
-use Rattle.bt_messages.specs.Messages.{Messages, sorted_batch, with_message, with_messages}
+use Rattle.bt_message.specs.Messages.{Messages, sorted_batch, with_message, with_messages}
 use Rattle.bt_keycode.proofs.offered.Order.{total_keys}
 use Rattle.bt_messages.proofs.offered.Rows.{rows_after-sorted_batch}
 use Rattle.bt_fanout.specs.Effects.{RowMessage, effects_at, effects_of, row_effect}

@@ -7,7 +7,7 @@ use Rattle.bt_value.specs.declared.value.Value.{Value}
 use Rattle.bt_value.proofs.offered.Kinds.{fits_kind_of}
 use Rattle.bt_keycode.specs.Codes.{code_of, kind_of}
 use Rattle.bt_keycode.specs.Keys.{Key}
-use Rattle.bt_messages.specs.Effects.{Rows}
+use Rattle.bt_message.specs.Effects.{Rows}
 use Rattle.bt_fanout.specs.Definitions.{kinds_of}
 use Rattle.bt_fanout.specs.Entries.{Definition, StandsUnder}
 use Rattle.bt_fanout.specs.Selections.{EachStands}

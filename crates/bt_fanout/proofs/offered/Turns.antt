@@ -4,8 +4,8 @@ use Rattle.std.specs.FinMap.{is_sorted}
 use Rattle.bt_value.specs.declared.value.Kind.{Kind}
 use Rattle.bt_value.specs.declared.value.Value.{Value}
 use Rattle.bt_keycode.specs.Keys.{key_cmp}
-use Rattle.bt_messages.specs.Effects.{Rows, rows_after}
-use Rattle.bt_messages.specs.Messages.{Messages, sorted_batch}
+use Rattle.bt_message.specs.Effects.{Rows, rows_after}
+use Rattle.bt_message.specs.Messages.{Messages, sorted_batch}
 use Rattle.bt_fanout.specs.Effects.{RowMessage, effects_of, row_effect, sent_for_all}
 use Rattle.bt_fanout.specs.Entries.{Definition, StandsUnder}
 use Rattle.bt_fanout.specs.Promises.{Turns}

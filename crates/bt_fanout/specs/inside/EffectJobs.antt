@@ -1,7 +1,7 @@
 -- The effects of a packet, in jobs.
 use Rattle.std.specs.Prelude.{ℕ, suc, ◌+◌, ◌≡◌, List, [], ◌∷◌, Option, drop, length, map}
 use Rattle.bt_value.specs.declared.value.Value.{Value}
-use Rattle.bt_messages.specs.Messages.{Messages}
+use Rattle.bt_message.specs.Messages.{Messages}
 use Rattle.bt_form.specs.Parts.{AreRising}
 use Rattle.bt_form.specs.Portions.{value_in}
 use Rattle.bt_fanout.specs.Effects.{RowMessage, row_effect}

@@ -3,8 +3,8 @@ use Rattle.std.proofs.Common.{append-nil, append_assoc, sym, ap, ◌∙◌}
 use Rattle.std.specs.Prelude.{◌≡◌, List, [], ◌∷◌, ◌++◌, fold}
 use Rattle.bt_value.specs.declared.value.Value.{Value}
 use Rattle.bt_keycode.specs.Keys.{Key}
-use Rattle.bt_messages.specs.Effects.{Rows}
-use Rattle.bt_messages.specs.Messages.{Messages}
+use Rattle.bt_message.specs.Effects.{Rows}
+use Rattle.bt_message.specs.Messages.{Messages}
 use Rattle.bt_fanout.specs.Covers.{put_of_entry, puts_of}
 use Rattle.bt_fanout.specs.Effects.{EntryMessage}
 use Rattle.bt_fanout.specs.Entries.{Definition}

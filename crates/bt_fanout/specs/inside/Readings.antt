@@ -2,7 +2,7 @@
 use Rattle.std.specs.Prelude.{ℕ, ◌≡◌, ◌-◌, ◌==◌, ◌&&◌, [], ◌++◌, ◌∷◌, Bool, true, false, List, length, nat_lt, not, Option, Some, None, if◌then◌else◌}
 use Rattle.bt_value.specs.declared.value.Value.{Value}
 use Rattle.bt_keycode.specs.Keys.{Key}
-use Rattle.bt_messages.specs.Effects.{Rows}
+use Rattle.bt_message.specs.Effects.{Rows}
 use Rattle.bt_fanout.specs.Covers.{cover_after, is_covered, next_rows, puts_of}
 use Rattle.bt_fanout.specs.Entries.{Definition, entry_of}
 use Rattle.bt_fanout.specs.Selections.{covered}

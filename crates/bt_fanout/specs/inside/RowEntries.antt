@@ -3,7 +3,7 @@ use Rattle.std.specs.Prelude.{ℕ, ◌≡◌, ◌+◌, ◌<◌, ◌++◌, List, 
 use Rattle.std.specs.Option.{option_to_list}
 use Rattle.bt_value.specs.declared.value.Value.{Value}
 use Rattle.bt_keycode.specs.Keys.{Key}
-use Rattle.bt_messages.specs.Effects.{Rows}
+use Rattle.bt_message.specs.Effects.{Rows}
 use Rattle.bt_fanout.specs.Entries.{Definition, entry_of, is_within}
 
 -- the entries of rows, in the order of the rows

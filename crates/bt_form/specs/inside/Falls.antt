@@ -3,7 +3,7 @@ use Rattle.std.specs.Prelude.{◌≡◌, ◌≤◌, ◌+◌, ◌*◌, max, lengt
 use Rattle.std.specs.List.{zip}
 use Rattle.std.proofs.Common.{arith}
 use denote.Param.Weighed.{most}
-use Rattle.bt_messages.specs.declared.message.Merge.{Ghosts}
+use Rattle.bt_message.specs.declared.message.Merge.{Ghosts}
 use Rattle.bt_form.specs.declared.node.NodeKind.{NodeKind}
 use Rattle.bt_form.specs.declared.node.NodeKind.TheVariants.{Leaf, Inner}
 use Rattle.bt_form.specs.declared.node.Node.TheDeep.{deep-NodeKind}

@@ -5,7 +5,7 @@ use Rattle.bt_form.specs.declared.node.NodeKind.TheVariants.{Leaf, Inner}
 use Rattle.bt_form.specs.declared.shape.TheConstants.{LARGEST_FANOUT}
 use Rattle.bt_value.specs.Lists.{concatenation}
 use Rattle.bt_messages.specs.Bins.{LieBetween}
-use Rattle.bt_messages.specs.declared.message.Message.{Message}
+use Rattle.bt_message.specs.declared.message.Message.{Message}
 use Rattle.bt_form.specs.Trees.{Tree, leaf, inner, nodes, pivots_of}
 
 -- the buffer of an inner node is its bins, one after the other

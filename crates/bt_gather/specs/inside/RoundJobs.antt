@@ -1,7 +1,7 @@
 -- The jobs of a round, and their results.
 use Rattle.std.specs.Prelude.{List, map}
 use Rattle.std.specs.List.{All}
-use Rattle.bt_messages.specs.declared.message.Message.{Message}
+use Rattle.bt_message.specs.declared.message.Message.{Message}
 use Rattle.bt_form.specs.Fits.{IsInOrder}
 use Rattle.bt_form.specs.Messages.{Meaning}
 use Rattle.bt_form.specs.Trees.{Shape, Siblings}

@@ -3,7 +3,7 @@ use Rattle.std.specs.Prelude.{◌≡◌, ◌≤◌, ℕ, List, [], ◌∷◌, Ve
 use Rattle.std.specs.Global.{Global}
 use Rattle.std.specs.declared.option.Option.TheVariants.{None}
 use Rattle.bt_keycode.specs.Keys.{Key}
-use Rattle.bt_messages.specs.declared.message.Message.{Message}
+use Rattle.bt_message.specs.declared.message.Message.{Message}
 use Rattle.bt_form.specs.Flushes.{crown}
 use Rattle.bt_form.specs.Messages.{Meaning}
 use Rattle.bt_form.specs.Trees.{Shape, Siblings, Tree}

@@ -1,7 +1,7 @@
 -- The first of sorted messages, for functions that take them off a stream.
 use Rattle.std.proofs.Common.{◌≡◌, ℕ, zero, suc, ◌<◌, List, [], ◌∷◌, ◌+◌, ◌-◌, take, drop, ap, ◌∙◌, arith}
 use Rattle.bt_keycode.specs.Keys.{AllFrom, IsSorted}
-use Rattle.bt_messages.specs.Messages.{Messages}
+use Rattle.bt_message.specs.Messages.{Messages}
 
 module _ {M : Type 0} where
   pub from-take : (k : List ℕ) (n : ℕ) (ms : Messages M) → AllFrom k ms → AllFrom k (take n ms)

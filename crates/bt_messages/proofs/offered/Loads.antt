@@ -2,14 +2,14 @@
 use Rattle.std.proofs.Common.{◌≡◌, ℕ, ◌<◌, ◌≤◌, ◌+◌, ◌*◌, true, false, if◌then◌else◌, List, [], ◌∷◌, ◌++◌, drop, length, refl, arith}
 use Rattle.std.proofs.lemmas.List.{length-append, length-drop}
 use Rattle.bt_keycode.specs.Keys.{Key, is_before}
-use Rattle.bt_messages.specs.Messages.{Messages, with_message, with_messages}
+use Rattle.bt_message.specs.Messages.{Messages, with_message, with_messages}
 use Rattle.bt_messages.specs.Parts.{total}
 use Rattle.bt_messages.specs.Shares.{AreShares, counts}
-use Rattle.bt_messages.specs.Terms.{Terms}
-use Rattle.bt_messages.specs.Weights.{load, weigh_of, weight}
-use Rattle.bt_messages.specs.declared.measure.Measure.{Measure}
-use Rattle.bt_messages.specs.declared.measure.Measure.TheVariants as measures
-use Rattle.bt_messages.specs.declared.message.Message.{Message}
+use Rattle.bt_message.specs.Terms.{Terms}
+use Rattle.bt_message.specs.Weights.{load, weigh_of, weight}
+use Rattle.bt_message.specs.declared.measure.Measure.{Measure}
+use Rattle.bt_message.specs.declared.measure.Measure.TheVariants as measures
+use Rattle.bt_message.specs.declared.message.Message.{Message}
 use Rattle.bt_messages.specs.declared.share.Share.{Share}
 
 weight-append : {X : Type 0} (weigh : X → ℕ) (xs ys : List X) → weight weigh (xs ++ ys) ≡ weight weigh xs + weight weigh ys

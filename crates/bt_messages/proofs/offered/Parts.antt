@@ -3,7 +3,7 @@ use Rattle.std.proofs.Common.{◌≡◌, ℕ, Bool, true, false, not, cond, List
 use Rattle.std.proofs.lemmas.List.{length-append}
 use Rattle.std.specs.List.{filter}
 use Rattle.bt_keycode.specs.Keys.{AllFrom, IsSorted, is_before}
-use Rattle.bt_messages.specs.Messages.{Messages, messages_before, messages_from, with_message, with_messages}
+use Rattle.bt_message.specs.Messages.{Messages, messages_before, messages_from, with_message, with_messages}
 use Rattle.bt_keycode.proofs.offered.Order.{before_later, from_earlier, not_after, not_before_itself}
 use Rattle.bt_messages.proofs.offered.Placed.{sorted-with_messages}
 use Rattle.bt_messages.proofs.Cuts.{following, filter_sorted}

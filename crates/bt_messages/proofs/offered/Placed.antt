@@ -1,7 +1,7 @@
 -- Messages placed among sorted ones: they stay sorted, and the first one stays first. Proofs on lists of pending messages use these.
 use Rattle.std.proofs.Common.{◌≡◌, ℕ, true, false, List, [], ◌∷◌, refl, ap, ◌∙◌, if◌then◌else◌}
 use Rattle.bt_keycode.specs.Keys.{AllFrom, IsSorted, is_before}
-use Rattle.bt_messages.specs.Messages.{Messages, with_message, with_messages}
+use Rattle.bt_message.specs.Messages.{Messages, with_message, with_messages}
 use Rattle.bt_keycode.proofs.offered.Order.{from_earlier, not_after}
 
 module _ {M : Type 0} where

@@ -4,9 +4,9 @@ use Rattle.std.specs.Ordering.{eq_by_cmp, is_eq}
 use Rattle.std.specs.FinMap.{find, nat_cmp-IsAntisymmetric, slice_cmp-IsAntisymmetric}
 use Rattle.std.specs.FinMap.Entries.{find-put, find-where_key, is_sorted, is_sorted-put, is_sorted-where_key, same_entries}
 use Rattle.std.specs.Cmp.{alike_right, eq_by_cmp_equiv}
-use Rattle.bt_messages.specs.Effects.{Rows, rows_after, value_after, with_value}
+use Rattle.bt_message.specs.Effects.{Rows, rows_after, value_after, with_value}
 use Rattle.bt_keycode.specs.Keys.{AllFrom, IsSorted, is_before, key_cmp}
-use Rattle.bt_messages.specs.Messages.{Messages, sorted_batch, with_message, with_messages}
+use Rattle.bt_message.specs.Messages.{Messages, sorted_batch, with_message, with_messages}
 use Rattle.bt_keycode.proofs.offered.Order.{apart, not_before_itself, same_key, total_keys}
 use Rattle.bt_messages.proofs.offered.Placed.{sorted-with_messages}
 

@@ -2,7 +2,7 @@
 use Rattle.std.proofs.Common.{◌≡◌, ◌==◌, ◌<◌, ◌≤◌, ℕ, zero, suc, Bool, true, true≢false, List, [], ◌∷◌, ◌∙◌, arith, get_or, length, refl, sym}
 use Rattle.std.proofs.Math.Dec.{eqb-suc-zero}
 use Rattle.bt_messages.specs.Parts.{total}
-use Rattle.bt_messages.specs.Messages.{Messages}
+use Rattle.bt_message.specs.Messages.{Messages}
 
 pub nothing_pending : {M : Type 0} (ms : Messages M) (empty : Bool) → empty ≡ (length ms == 0) → empty ≡ true → ms ≡ []
 nothing_pending [] empty e t = refl

@@ -2,7 +2,7 @@
 use Rattle.std.specs.Prelude.{ℕ, ◌≡◌, ◌+◌, ◌<◌, ◌≤◌, List, [], ◌∷◌, Vec, length, vec_capacity}
 use Rattle.std.specs.Global.{Global}
 use Rattle.bt_keycode.specs.Keys.{Key}
-use Rattle.bt_messages.specs.Messages.{Messages}
+use Rattle.bt_message.specs.Messages.{Messages}
 
 -- an empty list has capacity for the messages and for `n` more, if `n` is above 0
 abbrev pub HasRoom : {M : Type 0} → ℕ → Messages M → Vec (Key × M) Global → Type 0

@@ -2,7 +2,7 @@
 use Rattle.std.specs.Prelude.{ℕ, ◌≡◌, ◌<◌, ◌^◌, Bool, false, List, [], ◌∷◌, ◌++◌, length}
 use Rattle.bt_keycode.specs.Keys.{IsSorted, Key, is_before}
 use Rattle.bt_value.specs.Lists.{concatenation}
-use Rattle.bt_messages.specs.Messages.{Messages}
+use Rattle.bt_message.specs.Messages.{Messages}
 
 -- none of these lists is empty
 abbrev pub AreSome : {X : Type 0} → List (List X) → Type 0

@@ -1,8 +1,8 @@
 -- What a buffer stores, and shares that are only counted.
 use Rattle.std.specs.Prelude.{ℕ, Option, None}
 use Rattle.bt_keycode.specs.Keys.{IsSorted, Key}
-use Rattle.bt_messages.specs.Messages.{Messages}
-use Rattle.bt_messages.specs.Weights.{IsSum}
+use Rattle.bt_message.specs.Messages.{Messages}
+use Rattle.bt_message.specs.Weights.{IsSum}
 use Rattle.bt_messages.specs.declared.share.Share.{Share}
 
 -- messages sorted by key, and their total weight, if that is stored

@@ -2,11 +2,11 @@
 use Rattle.std.specs.Prelude.{ℕ, [], ◌∷◌, ℤ, pos, neg_ℤ, ◌+ℤ◌}
 use Rattle.std.specs.declared.option.Option.{Option}
 use Rattle.std.specs.declared.option.Option.TheVariants.{None, Some}
-use Rattle.bt_messages.specs.Meanings.{Meaning, meaning_of}
-use Rattle.bt_messages.specs.Terms.{Terms}
-use Rattle.bt_messages.specs.declared.measure.Measure.TheVariants as measures
-use Rattle.bt_messages.specs.declared.message.Message.{Message}
-use Rattle.bt_messages.specs.declared.message.Message.TheVariants.{Put, Del, Ups}
+use Rattle.bt_message.specs.Meanings.{Meaning, meaning_of}
+use Rattle.bt_message.specs.Terms.{Terms}
+use Rattle.bt_message.specs.declared.measure.Measure.TheVariants as measures
+use Rattle.bt_message.specs.declared.message.Message.{Message}
+use Rattle.bt_message.specs.declared.message.Message.TheVariants.{Put, Del, Ups}
 use Rattle.bt_keycode.specs.Keys.{Key}
 use Rattle.bt_form.specs.Trees.{Shape, Tree, leaf, inner, Nodes, none, node}
 

@@ -4,7 +4,7 @@ use Rattle.bt_keycode.specs.Keys.{Key}
 use Rattle.bt_messages.specs.Bins.{each_with}
 use Rattle.bt_messages.specs.Parts.{parted}
 use Rattle.bt_messages.specs.Shares.{counts}
-use Rattle.bt_messages.specs.declared.message.Message.{Message}
+use Rattle.bt_message.specs.declared.message.Message.{Message}
 use Rattle.bt_messages.specs.declared.share.Share.{Share}
 use Rattle.bt_form.specs.Messages.{Messages}
 use Rattle.bt_form.specs.Trees.{Tree}

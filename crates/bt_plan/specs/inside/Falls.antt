@@ -4,7 +4,7 @@ use Rattle.std.specs.List.{zip}
 use Rattle.std.proofs.Common.{arith}
 use denote.Param.Weighed.{most}
 use Rattle.bt_keycode.specs.Keys.{Key}
-use Rattle.bt_messages.specs.declared.message.Merge.{Ghosts}
+use Rattle.bt_message.specs.declared.message.Merge.{Ghosts}
 use Rattle.bt_plan.specs.declared.holed.HoledParts.{HoledParts}
 use Rattle.bt_plan.specs.declared.holed.HoledParts.TheVariants.{Whole, Hole, Opened}
 use Rattle.bt_plan.specs.declared.holed.HoledNode.TheDeep.{deep-HoledParts}

@@ -1,7 +1,7 @@
 -- Values that are borrowed or made.
 use Rattle.std.specs.Prelude.{◌≡◌, Option, Some, None}
 use Rattle.bt_keycode.specs.Keys.{Key}
-use Rattle.bt_messages.specs.declared.message.Message.{Message}
+use Rattle.bt_message.specs.declared.message.Message.{Message}
 use Rattle.bt_form.specs.Messages.{Messages, value_after}
 use Rattle.bt_read.specs.declared.value_so_far.ValueSoFar.{ValueSoFar}
 use Rattle.bt_read.specs.declared.value_so_far.ValueSoFar.TheVariants.{Absent, Lent, Made}

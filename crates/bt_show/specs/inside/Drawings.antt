@@ -1,7 +1,7 @@
 -- The lines of a node by its parts, as they are written.
 use Rattle.std.specs.Prelude.{ℕ, zero, suc, max, List, [], ◌∷◌, ◌++◌, length, flat_map, Option, Some, None, if◌then◌else◌}
 use Rattle.bt_keycode.specs.Keys.{Key}
-use Rattle.bt_messages.specs.declared.message.Message.{Message}
+use Rattle.bt_message.specs.declared.message.Message.{Message}
 use Rattle.bt_form.specs.Trees.{Siblings, Tree, height}
 use Rattle.bt_form.specs.Walks.{children_of, is_leaf, messages_of, rows_of}
 use Rattle.bt_show.specs.Images.{inner_line, leaf_line, leaf_row_line, message_line, node_text, pivot_line}

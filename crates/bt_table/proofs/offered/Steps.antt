@@ -26,7 +26,7 @@ use Rattle.bt_table.specs.Calls.{Rebuild, Upkeep, Draining, Rebuilding, dropped,
 use Rattle.bt_table.specs.Calls.{sent_counts, step, unless_any, with_index, with_renewed, with_renewed_index, with_renewed_rows}
 use Rattle.bt_table.specs.Indexes.{Index, index_named, is_complete}
 use Rattle.bt_table.specs.Standing.{AreSoundIndexes, CompleteIndexesHold, HoldsSelection, IsSound, IsSoundTable}
-use Rattle.bt_table.specs.Standing.{IsSoundUnlessLost, SuitMessages, Suits}
+use Rattle.bt_table.specs.Standing.{IsConsistent, IsSoundUnlessLost, SuitMessages, Suits}
 use Rattle.bt_table.specs.Tables.{PlainTable, TableState, Intact, Lost, after_batch, empty_table}
 use Rattle.bt_table.specs.declared.reply.Reply.{Reply}
 use Rattle.bt_table.specs.declared.reply.Reply.TheVariants.{Batch, Created, Drained, Rebuilt, Row}
@@ -146,6 +146,9 @@ complete_indexes_hold table sound = each table.indexes sound.indexes
 pub unless_lost_hold : (state : TableState) → IsSoundUnlessLost state → CompleteIndexesHold state
 unless_lost_hold (Intact table) sound = complete_indexes_hold table sound
 unless_lost_hold Lost sound = tt
+
+pub is_consistent : (state : TableState) → IsSoundUnlessLost state → IsConsistent state
+is_consistent state sound = record { complete = unless_lost_hold state sound; sound = sound }
 
 -- and for one that is sound
 pub sound_hold : (state : TableState) → IsSound state → CompleteIndexesHold state

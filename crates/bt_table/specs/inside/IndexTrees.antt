@@ -2,8 +2,8 @@
 -- from the entries of all rows.
 use Rattle.std.specs.Prelude.{ℕ, Bool, List, [], ◌∷◌, length}
 use Rattle.bt_value.specs.declared.value.Value.{Value}
-use Rattle.bt_messages.specs.Effects.{Rows}
-use Rattle.bt_messages.specs.Messages.{Messages, sorted_batch}
+use Rattle.bt_message.specs.Effects.{Rows}
+use Rattle.bt_message.specs.Messages.{Messages, sorted_batch}
 use Rattle.bt_flush.specs.Drains.{packed}
 use Rattle.bt_form.specs.Flushes.{sunk}
 use Rattle.bt_form.specs.Trees.{Shape}

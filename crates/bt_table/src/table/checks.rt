@@ -1,5 +1,5 @@
 //! Whether calls on a table would be refused. Nothing changes.
-#![tactic(auto, using(crate::proofs::offered::Steps::unless_lost_hold))]
+#![tactic(auto, using(crate::proofs::offered::Steps::is_consistent))]
 
 ghost use Rattle.std.specs.Prelude.{◌≡◌, ◌≢◌, IsErrOf, ℕ};
 ghost use Rattle.bt_value.specs.Answers.{Answers};

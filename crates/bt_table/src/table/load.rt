@@ -1,5 +1,5 @@
 //! Loading rows into a table that has none.
-#![tactic(auto, using(crate::proofs::offered::Steps::unless_lost_hold))]
+#![tactic(auto, using(crate::proofs::offered::Steps::is_consistent))]
 
 ghost use Rattle.std.specs.FinMap.{is_sorted};
 ghost use Rattle.std.specs.Prelude.{◌≡◌, ◌≢◌, [], Err, IfErr, IfOk, IfSome, IsErrOf, IsTrue, None, Ok, OnErr, OnOk, Some, length};
@@ -14,7 +14,7 @@ ghost use Rattle.bt_table.specs.inside.Loads.{AllSuitText, AreLoaded, ArePacked,
 ghost use Rattle.bt_table.specs.Calls as spec;
 ghost use Rattle.bt_table.specs.Indexes.{indexes_of};
 ghost use Rattle.bt_table.specs.Calls.{IsRefused, IsStep, Load, permitted};
-ghost use Rattle.bt_table.specs.Standing.{CompleteIndexesHold, IsSoundUnlessLost};
+ghost use Rattle.bt_table.specs.Standing.{IsConsistent};
 ghost use Rattle.bt_table.specs.Tables.{Lost};
 
 use crate::index::{IndexHead, are_complete, pack_entries};
@@ -188,8 +188,7 @@ impl Table {
         ensures refused { IfErr result (IsRefused self.old self.new (Load text.now)) }
         ensures unchanged { OnErr result (self.new ≡ self.old) }
         ensures failed { self.old ≡ Lost → IsErrOf result Refusal.Failed }
-        ensures complete { CompleteIndexesHold self.new }
-        ensures sound { IsSoundUnlessLost self.new }
+        ensures consistent { IsConsistent self.new }
     {
         let Some(trees) = &self.trees else {
             return Err(Refusal::Failed);

@@ -1,10 +1,10 @@
 //! Upkeep of the trees of a table: flushing their buffers, or rebuilding them from their contents.
-#![tactic(auto, using(crate::proofs::offered::Steps::unless_lost_hold))]
+#![tactic(auto, using(crate::proofs::offered::Steps::is_consistent))]
 
 ghost use Rattle.std.specs.Prelude.{◌≡◌, ◌<◌, IfErr, IfNone, IfOk, IfSome, IsErrOf, None, OnErr, Some, false, length, slice_get, true};
 ghost use Rattle.bt_table.specs.Calls.{Drain, IsCertain, IsRefused, IsStep, Rebuild, StaysOrIsLost, is_primary};
 ghost use Rattle.bt_table.specs.Indexes.{index_named, index_of_ref, indexes_of};
-ghost use Rattle.bt_table.specs.Standing.{CompleteIndexesHold, IsSoundUnlessLost};
+ghost use Rattle.bt_table.specs.Standing.{IsConsistent};
 ghost use Rattle.bt_table.specs.Tables.{Lost};
 
 use crate::index::{IndexHead, IndexRef, find_index, put_tree, take_tree};
@@ -54,8 +54,7 @@ impl Table {
         ensures certain { IsCertain self.old (Drain name.now) result }
         ensures memory { IsErrOf result Refusal.OutOfMemory → StaysOrIsLost self.old self.new }
         ensures failed { self.old ≡ Lost → IsErrOf result Refusal.Failed }
-        ensures complete { CompleteIndexesHold self.new }
-        ensures sound { IsSoundUnlessLost self.new }
+        ensures consistent { IsConsistent self.new }
     {
         let Some(trees) = &self.trees else {
             return Err(Refusal::Failed);
@@ -94,8 +93,7 @@ impl Table {
         ensures certain { IsCertain self.old (Rebuild name.now) result }
         ensures unchanged { OnErr result (self.new ≡ self.old) }
         ensures failed { self.old ≡ Lost → IsErrOf result Refusal.Failed }
-        ensures complete { CompleteIndexesHold self.new }
-        ensures sound { IsSoundUnlessLost self.new }
+        ensures consistent { IsConsistent self.new }
     {
         let Some(trees) = &self.trees else {
             return Err(Refusal::Failed);

@@ -4,7 +4,7 @@ use Rattle.std.specs.List.{All, flat_map}
 use Rattle.std.specs.Vec.Iter.{into_iter_items}
 use Rattle.bt_value.specs.declared.value.Value.{Value}
 use Rattle.bt_keycode.specs.Keys.{Key, key_cmp}
-use Rattle.bt_messages.specs.Messages.{Messages}
+use Rattle.bt_message.specs.Messages.{Messages}
 use Rattle.bt_form.specs.Flushes.{holds}
 use Rattle.bt_portions.specs.KeyShares.{HasRisingKeys, HasValues}
 use Rattle.bt_fanout.specs.Effects.{RowMessage, row_effect}

@@ -1,6 +1,6 @@
 use Rattle.std.proofs.Common.{rules, ◌∙◌, ap, sym, subst, arith}
 use Rattle.std.proofs.lemmas.Result.{IfOk-weaker}
-use Rattle.bt_messages.specs.Messages.{sorted_batch}
+use Rattle.bt_message.specs.Messages.{sorted_batch}
 use Rattle.bt_fanout.specs.Promises.{TurnsIndex}
 use Rattle.bt_fanout.proofs.Turning.{all_sent, one_more, turns_index}
 use Rattle.bt_fanout.proofs.entry_packet.index_packet.Goals as goal

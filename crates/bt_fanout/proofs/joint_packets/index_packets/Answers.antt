@@ -3,7 +3,7 @@ use mathlib.Core.List.{map-map}
 use Rattle.std.proofs.lemmas.Result.{IfOk-weaker}
 use Rattle.std.specs.List.{All}
 use Rattle.bt_value.specs.Lists.{concatenation}
-use Rattle.bt_messages.specs.Messages.{sorted_batch}
+use Rattle.bt_message.specs.Messages.{sorted_batch}
 use Rattle.bt_form.specs.Flushes.{holds}
 use Rattle.bt_fanout.specs.Effects.{effects_within, row_effect}
 use Rattle.bt_fanout.specs.Targets.{SuitAll, packet_of}

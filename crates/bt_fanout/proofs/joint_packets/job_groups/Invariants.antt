@@ -3,7 +3,7 @@ use Rattle.std.specs.FinMap.{find}
 use Rattle.std.specs.List.{All, flat_map}
 use Rattle.bt_value.specs.declared.value.Value.{Value}
 use Rattle.bt_keycode.specs.Keys.{Key, key_cmp}
-use Rattle.bt_messages.specs.Messages.{Messages}
+use Rattle.bt_message.specs.Messages.{Messages}
 use Rattle.bt_form.specs.Flushes.{holds}
 use Rattle.bt_form.specs.Parts.{AreRising}
 use Rattle.bt_fanout.specs.Effects.{RowMessage, row_effect}

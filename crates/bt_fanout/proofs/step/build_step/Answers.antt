@@ -1,5 +1,5 @@
 use Rattle.std.proofs.Common.{◌∙◌, ap, subst, sym}
-use Rattle.bt_messages.specs.Messages.{sorted_batch}
+use Rattle.bt_message.specs.Messages.{sorted_batch}
 use Rattle.bt_form.specs.Flushes.{holds}
 use Rattle.bt_fanout.specs.Covers.{next_rows}
 use Rattle.bt_fanout.specs.Effects.{row_effect}

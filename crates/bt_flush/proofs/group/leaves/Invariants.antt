@@ -1,6 +1,6 @@
 use Rattle.std.proofs.Common.{◌≡◌, ◌++◌, map}
 use Rattle.bt_form.proofs.offered.flushes.Groups.{as_leaf}
-use Rattle.bt_messages.specs.declared.message.Message.{Message}
+use Rattle.bt_message.specs.declared.message.Message.{Message}
 use Rattle.bt_flush.proofs.group.leaves.Given as goal
 
 abbrev pub invariant-loop-part : goal.invariant-loop-part

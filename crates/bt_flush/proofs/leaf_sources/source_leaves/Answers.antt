@@ -1,5 +1,5 @@
 use Rattle.std.proofs.Common.{◌≤◌, ◌∙◌, ◌∷◌, ◌++◌, [], ap, arith, length, subst, sym}
-use Rattle.bt_messages.specs.declared.message.Message.{Message}
+use Rattle.bt_message.specs.declared.message.Message.{Message}
 use Rattle.bt_form.specs.Deals.{sizes}
 use Rattle.bt_form.specs.Flushes.{pivot_first}
 use Rattle.bt_flush.specs.inside.KeyedLeaves.{keyed_leaves}

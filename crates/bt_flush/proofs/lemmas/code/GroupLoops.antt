@@ -4,7 +4,7 @@ use Rattle.std.proofs.Math.Nat.{mul-le-mul_left}
 use Rattle.std.proofs.lemmas.List.{drop_all}
 use Rattle.std.specs.Int.{div_ceil}
 use Rattle.bt_keycode.specs.Keys.{Key}
-use Rattle.bt_messages.specs.declared.message.Message.{Message}
+use Rattle.bt_message.specs.declared.message.Message.{Message}
 use Rattle.bt_form.specs.Plans.{total}
 use Rattle.bt_form.specs.declared.shape.TheConstants.{LARGEST_FANOUT}
 use Rattle.bt_form.specs.Children.{AreDivided}

@@ -5,13 +5,13 @@ use Rattle.bt_keycode.specs.Keys.{Key}
 use Rattle.bt_value.specs.Lists.{concatenation}
 use Rattle.bt_messages.specs.Bins.{LieBetween, added, each_with, parts}
 use Rattle.bt_messages.specs.Parts.{parted, total}
-use Rattle.bt_messages.specs.Messages.{Messages, with_messages}
+use Rattle.bt_message.specs.Messages.{Messages, with_messages}
 use Rattle.bt_messages.specs.Shares.{counts, load_of, share_of}
-use Rattle.bt_messages.specs.Terms.{Terms}
-use Rattle.bt_messages.specs.Weights.{load, weigh_of}
-use Rattle.bt_messages.specs.declared.measure.Measure.{Measure}
-use Rattle.bt_messages.specs.declared.measure.Measure.TheVariants as measures
-use Rattle.bt_messages.specs.declared.message.Message.{Message}
+use Rattle.bt_message.specs.Terms.{Terms}
+use Rattle.bt_message.specs.Weights.{load, weigh_of}
+use Rattle.bt_message.specs.declared.measure.Measure.{Measure}
+use Rattle.bt_message.specs.declared.measure.Measure.TheVariants as measures
+use Rattle.bt_message.specs.declared.message.Message.{Message}
 use Rattle.bt_messages.specs.declared.share.Share.{Share}
 use Rattle.bt_messages.proofs.offered.Loads.{load-with_messages, weight-small}
 use Rattle.bt_messages.proofs.offered.Parts.{added_lie, concatenation-added, concatenation_sorted, lie_length}

@@ -7,10 +7,10 @@ use Rattle.std.specs.declared.option.Option.TheVariants.{None}
 use Rattle.bt_keycode.specs.Keys.{IsSorted}
 use Rattle.bt_value.specs.Lists.{concatenation}
 use Rattle.bt_messages.specs.Bins.{LieBetween}
-use Rattle.bt_messages.specs.Meanings.{Meaning}
+use Rattle.bt_message.specs.Meanings.{Meaning}
 use Rattle.bt_messages.specs.Parts.{total}
 use Rattle.bt_messages.specs.Shares.{AreShares, counts}
-use Rattle.bt_messages.specs.declared.message.Message.{Message}
+use Rattle.bt_message.specs.declared.message.Message.{Message}
 use Rattle.bt_messages.specs.declared.share.Share.{Share}
 use Rattle.bt_messages.proofs.offered.Parts.{concatenation_sorted}
 use Rattle.bt_messages.proofs.offered.Placed.{sorted-with_messages}

@@ -1,7 +1,7 @@
 use Rattle.std.proofs.Common.{◌≡◌, ◌≤◌, length, take, vec_capacity, vec_len}
 use Rattle.bt_messages.specs.Parts.{parted}
 use Rattle.bt_messages.specs.Shares.{counts}
-use Rattle.bt_messages.specs.Weights.{weigh_of}
+use Rattle.bt_message.specs.Weights.{weigh_of}
 use Rattle.bt_flush.proofs.lemmas.code.LoadLoop.{loads}
 use Rattle.bt_flush.proofs.opening.loads.Given as goal
 

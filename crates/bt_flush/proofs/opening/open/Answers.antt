@@ -2,7 +2,7 @@ use Rattle.std.proofs.Common.{◌≡◌, ◌∙◌, ap, arith, drop, length, map
 use Rattle.bt_messages.specs.Bins.{each_with}
 use Rattle.bt_messages.specs.Parts.{parted, total}
 use Rattle.bt_messages.specs.Shares.{AreShares, counts, share_of}
-use Rattle.bt_messages.specs.Weights.{load, weigh_of}
+use Rattle.bt_message.specs.Weights.{load, weigh_of}
 use Rattle.bt_messages.specs.declared.share.Share.{Share}
 use Rattle.std.proofs.lemmas.List.{length-map}
 use Rattle.bt_form.proofs.offered.flushes.Divisions.{each-long}

@@ -10,7 +10,7 @@ use Rattle.bt_form.specs.Trees.{Siblings, Tree, with_pivots}
 use Rattle.bt_form.specs.Walks.{children_of}
 use Rattle.bt_form.specs.declared.node.NodeKind.{NodeKind}
 use Rattle.bt_form.specs.declared.node.NodeKind.TheVariants.{Inner}
-use Rattle.bt_messages.specs.declared.message.Message.{Message}
+use Rattle.bt_message.specs.declared.message.Message.{Message}
 use Rattle.bt_form.proofs.offered.flushes.Groups.{children-nodes}
 
 module _ {X : Type 0} where

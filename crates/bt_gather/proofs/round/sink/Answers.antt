@@ -1,5 +1,5 @@
 use Rattle.std.proofs.Common.{◌∙◌}
-use Rattle.bt_messages.specs.Meanings.{meaning_of}
+use Rattle.bt_message.specs.Meanings.{meaning_of}
 use Rattle.bt_gather.proofs.PieceShares.{trees-outcome}
 use Rattle.bt_gather.proofs.SunkTrees.{all-sunk-fit, all-sunk-hold}
 use Rattle.bt_gather.proofs.round.sink.Goals as goal

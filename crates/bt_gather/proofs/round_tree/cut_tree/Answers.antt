@@ -1,5 +1,5 @@
 use Rattle.std.proofs.Common.{arith}
-use Rattle.bt_messages.specs.Meanings.{meaning_of}
+use Rattle.bt_message.specs.Meanings.{meaning_of}
 use Rattle.bt_gather.proofs.CutJobs.{cut-jobs}
 use Rattle.bt_gather.proofs.round_tree.cut_tree.Goals as goal
 

@@ -1,8 +1,8 @@
 use Rattle.std.proofs.Common.{◌≡◌, [], arith, refl, rules}
 use Rattle.std.proofs.lemmas.List.{nil_from_length}
 use Rattle.std.proofs.lemmas.List.Elements.{All-cons, All-nil, All-same}
-use Rattle.bt_messages.specs.Meanings.{meaning_of}
-use Rattle.bt_messages.specs.Weights.{weigh_of}
+use Rattle.bt_message.specs.Meanings.{meaning_of}
+use Rattle.bt_message.specs.Weights.{weigh_of}
 use Rattle.bt_form.specs.Fits.{HasShape}
 use Rattle.bt_gather.specs.Rounds.{sunk_tree}
 use Rattle.bt_gather.specs.inside.RoundJobs.{all_pieces}

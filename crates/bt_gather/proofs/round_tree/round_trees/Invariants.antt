@@ -1,7 +1,7 @@
 use Rattle.std.proofs.Common.{◌≡◌, ◌+◌, ◌≤◌, ◌++◌, vec_capacity, vec_len}
 use Rattle.std.specs.List.{All}
 use Rattle.std.specs.Vec.Iter.{into_iter_len}
-use Rattle.bt_messages.specs.Meanings.{meaning_of}
+use Rattle.bt_message.specs.Meanings.{meaning_of}
 use Rattle.bt_form.specs.Fits.{HasShape}
 use Rattle.bt_gather.specs.Rounds.{all_sunk}
 use Rattle.bt_gather.specs.inside.RoundJobs.{AreRunnable, all_pieces}

@@ -1,7 +1,7 @@
 use Rattle.std.proofs.Common.{◌≡◌, subst}
 use Rattle.std.specs.Result.{IfOk}
 use Rattle.std.specs.Vec.Iter.{into_iter_items}
-use Rattle.bt_messages.specs.Weights.{weigh_of}
+use Rattle.bt_message.specs.Weights.{weigh_of}
 use Rattle.bt_gather.proofs.PieceShares.{own-enough, own-fill, own-room, own-tree}
 use Rattle.bt_gather.proofs.round_tree.whole_tree.Goals as goal
 

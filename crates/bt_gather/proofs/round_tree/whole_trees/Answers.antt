@@ -1,6 +1,6 @@
 use Rattle.std.proofs.Common.{rules}
 use Rattle.std.specs.Vec.Iter.{into_iter_items}
-use Rattle.bt_messages.specs.Weights.{weigh_of}
+use Rattle.bt_message.specs.Weights.{weigh_of}
 use Rattle.bt_gather.proofs.PieceShares.{next-fill, next-trees}
 use Rattle.bt_gather.proofs.round_tree.whole_trees.Goals as goal
 

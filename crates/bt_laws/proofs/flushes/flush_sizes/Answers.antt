@@ -1,4 +1,4 @@
-use Rattle.bt_messages.specs.Meanings.{meaning_of}
+use Rattle.bt_message.specs.Meanings.{meaning_of}
 use Rattle.bt_laws.proofs.FlushBounds.{few, few_in_all, large}
 use Rattle.bt_laws.proofs.flushes.flush_sizes.Goals as goal
 

@@ -1,4 +1,4 @@
-use Rattle.bt_messages.specs.Weights.{weigh_of}
+use Rattle.bt_message.specs.Weights.{weigh_of}
 use Rattle.bt_laws.proofs.LeafCounts.{has_leaves, is_low}
 use Rattle.bt_laws.proofs.heights.tree_height.Goals as goal
 

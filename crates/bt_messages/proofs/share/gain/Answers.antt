@@ -1,6 +1,6 @@
 use Rattle.std.proofs.Common.{◌≡◌, ◌<◌, ◌++◌, ◌∙◌, ap, arith, length, rules, subst, sym, take, vec_len}
-use Rattle.bt_messages.specs.Messages.{with_messages}
-use Rattle.bt_messages.specs.Weights.{IsSum, weigh_of}
+use Rattle.bt_message.specs.Messages.{with_messages}
+use Rattle.bt_message.specs.Weights.{IsSum, weigh_of}
 use Rattle.bt_messages.proofs.Sharing.{fits_all, gained_sorted}
 use Rattle.bt_messages.proofs.Weighing.{share-small}
 use Rattle.bt_messages.proofs.share.gain.Goals as goal

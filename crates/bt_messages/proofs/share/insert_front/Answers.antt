@@ -1,6 +1,6 @@
 use Rattle.std.proofs.Common.{◌≡◌, ◌-◌, ◌∷◌, ◌∙◌, ap, arith, drop, length, subst, sym, take, vec_capacity, vec_len}
 use Rattle.bt_keycode.specs.Keys.{IsSorted}
-use Rattle.bt_messages.specs.Messages.{with_message, with_messages}
+use Rattle.bt_message.specs.Messages.{with_message, with_messages}
 use Rattle.bt_messages.proofs.Insertions.{insert_step}
 use Rattle.bt_messages.proofs.offered.Fronts.{one_taken}
 use Rattle.bt_messages.proofs.share.insert_front.Goals as goal

@@ -1,5 +1,5 @@
 use Rattle.std.proofs.Common.{◌≡◌, ◌-◌, ◌∷◌, ◌++◌, [], ◌∙◌, ap, append_assoc, arith, drop, length, sym, take, vec_capacity, vec_len}
-use Rattle.bt_messages.specs.Messages.{messages_past, with_messages}
+use Rattle.bt_message.specs.Messages.{messages_past, with_messages}
 use Rattle.bt_messages.proofs.Sharing.{front_step}
 use Rattle.bt_messages.proofs.offered.Fronts.{one_taken}
 use Rattle.bt_messages.proofs.share.merge_front.Goals as goal

@@ -1,5 +1,5 @@
 use Rattle.std.proofs.Common.{◌≡◌, ◌+◌, ◌-◌, ◌≤◌, ◌++◌, drop, length, take, vec_len, vec_capacity}
-use Rattle.bt_messages.specs.Messages.{with_messages}
+use Rattle.bt_message.specs.Messages.{with_messages}
 use Rattle.bt_messages.proofs.share.merge_front.Given as goal
 
 abbrev pub invariant-loop : goal.invariant-loop

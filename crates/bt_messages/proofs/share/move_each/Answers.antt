@@ -1,6 +1,6 @@
 use Rattle.std.proofs.Common.{◌<◌, None, arith, get_or, length, length-set, refl}
 use Rattle.bt_messages.specs.Shares.{counts}
-use Rattle.bt_messages.specs.Weights.{weigh_of}
+use Rattle.bt_message.specs.Weights.{weigh_of}
 use Rattle.bt_messages.specs.declared.share.Share.{Share}
 use Rattle.bt_messages.proofs.Sharing.{left_next, moved_next, room_here, room_later}
 use Rattle.bt_messages.proofs.Weighing.{count_here, length-counts}

@@ -1,8 +1,8 @@
 use Rattle.std.proofs.Common.{◌∙◌, ap, arith, length, rules, subst, sym}
 use Rattle.std.proofs.lemmas.Result.{IfOk-weaker}
 use Rattle.bt_value.specs.Lists.{concatenation}
-use Rattle.bt_messages.specs.Effects.{effect_of}
-use Rattle.bt_messages.specs.Weights.{weigh_of}
+use Rattle.bt_message.specs.Effects.{effect_of}
+use Rattle.bt_message.specs.Weights.{weigh_of}
 use Rattle.bt_messages.proofs.offered.Parts.{concatenation_sorted}
 use Rattle.bt_form.specs.Children.{AreDivided}
 use Rattle.bt_form.specs.Fits.{IsRoomy}

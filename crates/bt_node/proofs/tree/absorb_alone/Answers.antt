@@ -1,6 +1,6 @@
 use Rattle.std.proofs.Common.{rules}
-use Rattle.bt_messages.specs.Meanings.{meaning_of}
-use Rattle.bt_messages.specs.Weights.{weigh_of}
+use Rattle.bt_message.specs.Meanings.{meaning_of}
+use Rattle.bt_message.specs.Weights.{weigh_of}
 use Rattle.bt_form.specs.Fits.{IsRoomy}
 use Rattle.bt_node.proofs.lemmas.crowns.ShapedTrees.{has_room}
 use Rattle.bt_flush.proofs.offered.Laws.{chosen_are_planned, flushes_in_turn, stay_without_packet}

@@ -1,6 +1,6 @@
 use Rattle.std.proofs.Common.{arith, rules}
-use Rattle.bt_messages.specs.Effects.{effect_of}
-use Rattle.bt_messages.specs.Weights.{weigh_of}
+use Rattle.bt_message.specs.Effects.{effect_of}
+use Rattle.bt_message.specs.Weights.{weigh_of}
 use Rattle.bt_form.specs.Fits.{IsRoomy}
 use Rattle.bt_flush.proofs.offered.Levels.{stands_above}
 use Rattle.bt_node.proofs.lemmas.crowns.ShapedTrees.{crown_holds, has_room}

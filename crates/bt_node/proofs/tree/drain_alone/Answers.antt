@@ -1,4 +1,4 @@
-use Rattle.bt_messages.specs.Meanings.{meaning_of}
+use Rattle.bt_message.specs.Meanings.{meaning_of}
 use Rattle.bt_flush.proofs.offered.Drains.{drain_dries}
 use Rattle.bt_node.proofs.tree.drain_alone.Goals as goal
 

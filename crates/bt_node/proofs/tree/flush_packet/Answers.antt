@@ -1,6 +1,6 @@
 use Rattle.std.proofs.Common.{◌∙◌, ap, rules, take}
 use Rattle.std.proofs.Math.Seq.{take-length}
-use Rattle.bt_messages.specs.Meanings.{meaning_of}
+use Rattle.bt_message.specs.Meanings.{meaning_of}
 use Rattle.bt_form.specs.Fits.{IsRoomy}
 use Rattle.bt_form.specs.Flushes.{flush_in}
 use Rattle.bt_node.proofs.lemmas.crowns.ShapedTrees.{has_room}

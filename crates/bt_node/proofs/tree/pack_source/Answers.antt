@@ -2,9 +2,9 @@ use Rattle.std.proofs.Common.{◌∙◌, ap, rules, subst, sym}
 use Rattle.std.specs.FinMap.{is_sorted}
 use Rattle.std.specs.declared.option.Option.TheVariants.{None}
 use Rattle.bt_keycode.specs.Keys.{key_cmp}
-use Rattle.bt_messages.specs.Effects.{effect_of}
-use Rattle.bt_messages.specs.declared.message.Message.{Message}
-use Rattle.bt_messages.specs.Weights.{weigh_of}
+use Rattle.bt_message.specs.Effects.{effect_of}
+use Rattle.bt_message.specs.declared.message.Message.{Message}
+use Rattle.bt_message.specs.Weights.{weigh_of}
 use Rattle.bt_flush.specs.Drains.{AreDry}
 use Rattle.bt_form.specs.Fits.{IsRoomy, SiblingsFit}
 use Rattle.bt_form.specs.Flushes.{all_hold, crown, leaves}

@@ -4,8 +4,8 @@ use Rattle.std.proofs.lemmas.List.{length-append, length-map}
 use Rattle.std.proofs.lemmas.Result.{IfOk-weaker, on_ok_weaker}
 use Rattle.bt_value.specs.Lists.{concatenation}
 use Rattle.bt_messages.specs.Bins.{LieBetween}
-use Rattle.bt_messages.specs.Messages.{with_messages}
-use Rattle.bt_messages.specs.Weights.{weigh_of}
+use Rattle.bt_message.specs.Messages.{with_messages}
+use Rattle.bt_message.specs.Weights.{weigh_of}
 use Rattle.bt_messages.proofs.offered.Shares.{share_at}
 use Rattle.bt_form.specs.Fits.{IsSized}
 use Rattle.bt_form.specs.Trees.{with_pivots}

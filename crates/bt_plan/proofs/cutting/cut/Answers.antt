@@ -1,10 +1,10 @@
 use Rattle.std.proofs.Common.{◌≡◌, ◌∙◌, ◌++◌, ap, map, subst, take}
 use Rattle.std.proofs.Math.Seq.{take-length}
-use Rattle.bt_messages.specs.Messages.{with_messages}
+use Rattle.bt_message.specs.Messages.{with_messages}
 use Rattle.bt_messages.proofs.offered.Fronts.{sorted_take}
 use Rattle.bt_messages.proofs.offered.Placed.{alone}
-use Rattle.bt_messages.specs.Meanings.{meaning_of}
-use Rattle.bt_messages.specs.Weights.{weigh_of}
+use Rattle.bt_message.specs.Meanings.{meaning_of}
+use Rattle.bt_message.specs.Weights.{weigh_of}
 use Rattle.bt_form.specs.Fits.{HasShape}
 use Rattle.bt_plan.specs.Cuts.{cut_out, hole_of}
 use Rattle.bt_plan.specs.Pieces.{holes, with_holes}

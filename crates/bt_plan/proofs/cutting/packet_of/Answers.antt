@@ -1,7 +1,7 @@
 use Rattle.std.proofs.Common.{subst, sym, ◌∙◌}
 use Rattle.std.proofs.lemmas.Result.{IfOk-weaker}
 use Rattle.bt_messages.specs.Shares.{IsShare}
-use Rattle.bt_messages.specs.Weights.{weigh_of}
+use Rattle.bt_message.specs.Weights.{weigh_of}
 use Rattle.bt_plan.proofs.Opening.{only-come}
 use Rattle.bt_plan.proofs.cutting.packet_of.Goals as goal
 

@@ -3,7 +3,7 @@ use Rattle.std.specs.FinMap.{find}
 use Rattle.std.specs.List.{All}
 use Rattle.std.proofs.lemmas.Result.{IfOk-weaker}
 use Rattle.bt_keycode.specs.Keys.{Key, key_cmp}
-use Rattle.bt_messages.specs.Effects.{effect_of}
+use Rattle.bt_message.specs.Effects.{effect_of}
 use Rattle.bt_form.specs.Flushes.{holds}
 use Rattle.bt_form.specs.Portions.{Portion, owners}
 use Rattle.bt_portions.specs.KeyShares.{HasValues}

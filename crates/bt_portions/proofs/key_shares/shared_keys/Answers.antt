@@ -3,7 +3,7 @@ use Rattle.std.proofs.lemmas.List.{drop-drop, nil_from_length}
 use Rattle.std.proofs.lemmas.List.Elements.{All-nil}
 use Rattle.std.specs.List.{All, flat_map}
 use Rattle.std.specs.Vec.Iter.{into_iter_items}
-use Rattle.bt_messages.specs.Effects.{effect_of}
+use Rattle.bt_message.specs.Effects.{effect_of}
 use Rattle.bt_form.specs.Parts.{AreRising}
 use Rattle.bt_form.specs.Portions.{Chained, HaveThere, value_in}
 use Rattle.bt_portions.specs.KeyShares.{HasRisingKeys, HasValues}

@@ -2,7 +2,7 @@ use Rattle.std.proofs.Common.{◌≡◌, ◌++◌, ◌≤◌, [], None, Option, 
 use Rattle.std.specs.List.{All, flat_map}
 use Rattle.std.specs.Vec.Iter.{into_iter_items}
 use Rattle.bt_keycode.specs.Keys.{Key}
-use Rattle.bt_messages.specs.Effects.{effect_of}
+use Rattle.bt_message.specs.Effects.{effect_of}
 use Rattle.bt_form.specs.Parts.{AreRising}
 use Rattle.bt_form.specs.Portions.{Chained, HaveThere}
 use Rattle.bt_portions.specs.KeyShares.{HasRisingKeys, HasValues}

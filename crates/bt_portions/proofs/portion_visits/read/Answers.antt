@@ -1,6 +1,6 @@
 use Rattle.std.proofs.Common.{◌∙◌, ap, fold}
 use Rattle.std.specs.Option.{option_copied}
-use Rattle.bt_messages.specs.Effects.{effect_of}
+use Rattle.bt_message.specs.Effects.{effect_of}
 use Rattle.bt_form.specs.Flushes.{holds}
 use Rattle.bt_form.specs.Messages.{between}
 use Rattle.bt_form.specs.Portions.{rows_of}

@@ -1,7 +1,7 @@
 use Rattle.std.proofs.Common.{rules, [], ◌≡◌, ◌∷◌, ◌++◌, ap, get_or, map, subst, sym, ◌∙◌}
 use Rattle.std.proofs.lemmas.List.{nil_from_length}
 use Rattle.bt_keycode.specs.Keys.{IsSorted}
-use Rattle.bt_messages.specs.Effects.{effect_of}
+use Rattle.bt_message.specs.Effects.{effect_of}
 use Rattle.bt_form.specs.Messages.{from}
 use Rattle.bt_read.specs.inside.ValuesSoFar.{option_of}
 use Rattle.bt_read.specs.inside.Together.{values_after}

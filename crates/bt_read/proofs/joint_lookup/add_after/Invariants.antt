@@ -1,5 +1,5 @@
 use Rattle.std.proofs.Common.{◌≡◌, ◌++◌, [], get_or, map}
-use Rattle.bt_messages.specs.Effects.{effect_of}
+use Rattle.bt_message.specs.Effects.{effect_of}
 use Rattle.bt_read.specs.inside.ValuesSoFar.{option_of}
 use Rattle.bt_read.specs.inside.Together.{values_after}
 use Rattle.bt_read.proofs.joint_lookup.add_after.Given as goal

@@ -1,7 +1,7 @@
 use Rattle.std.proofs.Common.{◌≡◌, true, fold, length}
 use Rattle.std.specs.FinMap.{is_sorted}
 use Rattle.bt_keycode.specs.Keys.{IsSorted, key_cmp}
-use Rattle.bt_messages.specs.Effects.{effect_of}
+use Rattle.bt_message.specs.Effects.{effect_of}
 use Rattle.bt_form.specs.Messages.{rows_after}
 use Rattle.bt_read.specs.inside.Limits.{limited}
 use Rattle.bt_read.proofs.leaf_visits.visit_leaf.Given as goal

@@ -5,8 +5,8 @@ use Rattle.std.specs.Option.{option_or}
 use Rattle.bt_keycode.specs.Keys.{AllWithin, IsSorted, Key, is_before_lower, is_before_upper, is_between}
 use Rattle.bt_value.specs.Lists.{concatenation}
 use Rattle.bt_messages.specs.Bins.{LieBetween}
-use Rattle.bt_messages.specs.Messages.{messages_outside as outside}
-use Rattle.bt_messages.specs.declared.message.Message.{Message}
+use Rattle.bt_message.specs.Messages.{messages_outside as outside}
+use Rattle.bt_message.specs.declared.message.Message.{Message}
 use Rattle.bt_form.specs.Fits.{IsInOrder}
 use Rattle.bt_form.specs.Flushes.{holds}
 use Rattle.bt_form.specs.Messages.{Messages, between, rows_after, value_after, with_messages}

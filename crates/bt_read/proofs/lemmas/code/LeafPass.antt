@@ -11,7 +11,7 @@ use Rattle.std.specs.declared.cmp.Ordering.TheVariants.{Less, Equal, Greater}
 use Rattle.std.specs.declared.option.Option.{Option}
 use Rattle.std.specs.declared.option.Option.TheVariants.{None, Some}
 use Rattle.bt_keycode.specs.Keys.{AllFrom, IsSorted, Key, is_before, key_cmp}
-use Rattle.bt_messages.specs.Messages.{messages_past}
+use Rattle.bt_message.specs.Messages.{messages_past}
 use Rattle.bt_form.specs.Messages.{Messages, Rows, before, between, from, rows_after, value_after, with_value}
 use Rattle.bt_keycode.proofs.offered.Order.{is_less, neither_before, not_before_itself, total_keys}
 use Rattle.bt_messages.proofs.offered.Rows.{value_before}

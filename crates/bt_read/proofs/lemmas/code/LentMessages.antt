@@ -8,8 +8,8 @@ use Rattle.std.specs.Ordering.{eq_by_cmp, is_eq}
 use Rattle.std.specs.declared.option.Option.{Option}
 use Rattle.std.specs.declared.option.Option.TheVariants.{None, Some}
 use Rattle.bt_keycode.specs.Keys.{AllFrom, IsSorted, Key, is_before, is_before_upper, key_cmp}
-use Rattle.bt_messages.specs.Messages.{messages_past, messages_up_to}
-use Rattle.bt_messages.specs.Messages.{messages_outside as outside}
+use Rattle.bt_message.specs.Messages.{messages_past, messages_up_to}
+use Rattle.bt_message.specs.Messages.{messages_outside as outside}
 use Rattle.bt_form.specs.Messages.{Messages, before, between, from, value_after, with_messages}
 use Rattle.bt_keycode.proofs.offered.Order.{all_within-from, from_earlier, later_chain, neither_before, not_after, not_before_itself, same_key, total_keys}
 use Rattle.bt_messages.proofs.offered.Placed.{alone, first_stays, newer_first}

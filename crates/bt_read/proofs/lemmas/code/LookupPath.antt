@@ -7,7 +7,7 @@ use Rattle.std.specs.declared.cmp.Ordering.TheVariants.{Less, Equal, Greater}
 use Rattle.std.specs.declared.option.Option.{Option}
 use Rattle.std.specs.declared.option.Option.TheVariants.{None, Some}
 use Rattle.bt_keycode.specs.Keys.{AllFrom, Key, key_cmp, is_before, IsSorted}
-use Rattle.bt_messages.specs.declared.message.Message.{Message}
+use Rattle.bt_message.specs.declared.message.Message.{Message}
 use Rattle.bt_form.specs.Messages.{Messages, from, value_after}
 use Rattle.bt_form.specs.Trees.{Siblings, Tree, inner, nodes}
 use Rattle.bt_read.specs.inside.Lookups.{pivots_up_to, tree_value, value_below}

@@ -4,9 +4,9 @@ use Rattle.std.specs.FinMap.{find}
 use Rattle.std.specs.declared.option.Option.{Option}
 use Rattle.std.specs.declared.option.Option.TheVariants.{Some}
 use Rattle.bt_keycode.specs.Keys.{Key, key_cmp, is_before, is_before_lower, is_before_upper, is_between}
-use Rattle.bt_messages.specs.declared.message.Message.{Message}
+use Rattle.bt_message.specs.declared.message.Message.{Message}
 use Rattle.bt_form.specs.Fits.{Lies}
-use Rattle.bt_messages.specs.Messages.{messages_past}
+use Rattle.bt_message.specs.Messages.{messages_past}
 use Rattle.bt_form.specs.Messages.{Messages, rows_after, value_after}
 use Rattle.bt_form.specs.Parts.{AreRising}
 use Rattle.bt_read.specs.inside.Together.{values_after, tree_values}

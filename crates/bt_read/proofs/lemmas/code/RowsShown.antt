@@ -4,8 +4,8 @@ use Rattle.std.specs.FinMap.{find, is_sorted}
 use Rattle.std.specs.declared.option.Option.{Option}
 use Rattle.std.specs.declared.option.Option.TheVariants.{None, Some}
 use Rattle.bt_keycode.specs.Keys.{AllWithin, IsSorted, Key, is_before_lower, is_before_upper, is_between, key_cmp}
-use Rattle.bt_messages.specs.Messages.{messages_outside as outside}
-use Rattle.bt_messages.specs.declared.message.Message.{Message}
+use Rattle.bt_message.specs.Messages.{messages_outside as outside}
+use Rattle.bt_message.specs.declared.message.Message.{Message}
 use Rattle.bt_form.specs.Fits.{IsInOrder, SiblingsLie}
 use Rattle.bt_form.specs.Flushes.{all_hold, holds}
 use Rattle.bt_read.specs.inside.Lookups.{pivots_up_to, tree_value}

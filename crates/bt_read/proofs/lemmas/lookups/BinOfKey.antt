@@ -7,7 +7,7 @@ use Rattle.bt_messages.specs.Bins.{AllBefore, LieBetween}
 use Rattle.bt_messages.proofs.offered.Parts.{lie_length}
 use Rattle.bt_messages.proofs.offered.Rows.{value_before}
 use Rattle.bt_read.specs.inside.Lookups.{pivots_up_to}
-use Rattle.bt_messages.specs.declared.message.Message.{Message}
+use Rattle.bt_message.specs.declared.message.Message.{Message}
 use Rattle.bt_form.specs.Messages.{Messages, between, value_after}
 use Rattle.bt_read.specs.declared.value_so_far.ValueSoFar.{ValueSoFar}
 use Rattle.bt_read.specs.inside.ValuesSoFar.{BeginsWith}

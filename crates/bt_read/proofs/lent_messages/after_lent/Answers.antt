@@ -1,5 +1,5 @@
 use Rattle.std.proofs.Common.{◌∙◌, arith, sym}
-use Rattle.bt_messages.specs.Effects.{effect_of}
+use Rattle.bt_message.specs.Effects.{effect_of}
 use Rattle.bt_read.specs.inside.ValuesSoFar.{option_of}
 use Rattle.bt_read.proofs.lemmas.code.LentMessages.{first_left}
 use Rattle.bt_read.proofs.lemmas.code.LookupPath.{none_left, one_more, rest_from, rest_sorted}

@@ -1,6 +1,6 @@
 use Rattle.std.proofs.Common.{◌≡◌, ◌++◌}
 use Rattle.bt_keycode.specs.Keys.{IsSorted}
-use Rattle.bt_messages.specs.Messages.{with_messages}
+use Rattle.bt_message.specs.Messages.{with_messages}
 use Rattle.bt_read.proofs.lent_messages.with_messages.Given as goal
 
 -- the messages so far, and then the others

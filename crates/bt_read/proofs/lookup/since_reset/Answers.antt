@@ -1,6 +1,6 @@
 use Rattle.std.proofs.Common.{◌≡◌, ◌∙◌, [], get_or, subst, sym}
 use Rattle.bt_keycode.specs.Keys.{IsSorted}
-use Rattle.bt_messages.specs.Effects.{effect_of}
+use Rattle.bt_message.specs.Effects.{effect_of}
 use Rattle.bt_form.specs.Messages.{from}
 use Rattle.bt_read.proofs.lemmas.code.LookupPath.{all_left, begins_anew, goes_on, leads_from, left_from, rest_from, rest_sorted}
 use Rattle.bt_read.proofs.lookup.since_reset.Goals as goal

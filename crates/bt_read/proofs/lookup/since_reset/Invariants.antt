@@ -1,6 +1,6 @@
 use Rattle.std.proofs.Common.{[], get_or}
 use Rattle.bt_keycode.specs.Keys.{AllFrom, IsSorted}
-use Rattle.bt_messages.specs.Effects.{effect_of}
+use Rattle.bt_message.specs.Effects.{effect_of}
 use Rattle.bt_read.specs.inside.ValuesSoFar.{BeginsWith}
 use Rattle.bt_read.proofs.lemmas.code.LookupPath.{LeadsTo}
 use Rattle.bt_read.proofs.lookup.since_reset.Given as goal

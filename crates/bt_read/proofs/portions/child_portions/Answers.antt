@@ -1,6 +1,6 @@
 use Rattle.std.proofs.Common.{◌≡◌, ◌++◌, ◌∷◌, [], None, false, ap, rules, subst, sym, option_to_list}
 use Rattle.std.proofs.lemmas.List.{append-nil}
-use Rattle.bt_messages.specs.Effects.{effect_of}
+use Rattle.bt_message.specs.Effects.{effect_of}
 use Rattle.bt_form.specs.Portions.{Divide}
 use Rattle.bt_form.specs.Walks.{is_leaf}
 use Rattle.bt_read.proofs.lemmas.code.PortionSteps.{child_added}

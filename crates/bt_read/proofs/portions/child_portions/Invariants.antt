@@ -1,5 +1,5 @@
 use Rattle.std.proofs.Common.{◌≡◌, ◌++◌, ◌∷◌, [], false}
-use Rattle.bt_messages.specs.Effects.{effect_of}
+use Rattle.bt_message.specs.Effects.{effect_of}
 use Rattle.bt_form.specs.Portions.{Divide}
 use Rattle.bt_form.specs.Walks.{is_leaf}
 use Rattle.bt_read.specs.inside.Openings.{children_left}

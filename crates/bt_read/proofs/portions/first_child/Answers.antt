@@ -3,7 +3,7 @@ use Rattle.std.specs.Option.{option_copied, option_or}
 use Rattle.bt_keycode.specs.Keys.{IsSorted, is_between}
 use Rattle.bt_value.specs.Lists.{concatenation}
 use Rattle.bt_messages.specs.Bins.{LieBetween}
-use Rattle.bt_messages.specs.Effects.{effect_of}
+use Rattle.bt_message.specs.Effects.{effect_of}
 use Rattle.bt_form.specs.inside.NodeKinds.{HasBins, tree_of}
 use Rattle.bt_read.proofs.lemmas.code.ChildBounds.{or_copied, present}
 use Rattle.bt_read.proofs.lemmas.code.FirstChild.{child_and_others, child_meets, first_child, fewer_left, last_child, lower, others_meet}

@@ -1,6 +1,6 @@
 use Rattle.std.proofs.Common.{◌∷◌, []}
 use Rattle.std.specs.Option.{option_copied}
-use Rattle.bt_messages.specs.Effects.{effect_of}
+use Rattle.bt_message.specs.Effects.{effect_of}
 use Rattle.bt_form.specs.Portions.{whole}
 use Rattle.bt_read.proofs.lemmas.code.PortionSteps.{divide-chain}
 use Rattle.bt_read.proofs.portions.portions_at.Goals as goal

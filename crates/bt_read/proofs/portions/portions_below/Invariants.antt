@@ -1,6 +1,6 @@
 use Rattle.std.proofs.Common.{◌++◌}
 use Rattle.std.specs.Vec.Iter.{into_iter_items}
-use Rattle.bt_messages.specs.Effects.{effect_of}
+use Rattle.bt_message.specs.Effects.{effect_of}
 use Rattle.bt_form.specs.Portions.{Divide}
 use Rattle.bt_read.proofs.portions.portions_below.Given as goal
 

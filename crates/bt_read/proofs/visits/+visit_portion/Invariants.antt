@@ -1,5 +1,5 @@
 use Rattle.std.proofs.Common.{◌≡◌, false, fold}
-use Rattle.bt_messages.specs.Effects.{effect_of}
+use Rattle.bt_message.specs.Effects.{effect_of}
 use Rattle.bt_form.specs.Portions.{rows_of}
 use Rattle.bt_form.specs.Trees.{height}
 use Rattle.bt_form.specs.Walks.{is_leaf}

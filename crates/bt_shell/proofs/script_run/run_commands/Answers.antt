@@ -4,7 +4,7 @@ use Rattle.bt_shell.specs.Runs.{one_where, refused_count}
 use Rattle.bt_script.specs.Commands.{commands}
 use Rattle.bt_script.proofs.offered.Streams.{Took-kept, Took-nil, prefix-all}
 use Rattle.bt_shell.proofs.Faults.{left_as_it_was, left_at_end, left_by_next, left_later, logs_at_end, logs_between, logs_within, lost_is_left, stops_at_end, stops_between, stops_within}
-use Rattle.bt_shell.proofs.Sound.{commands_keep_sound, hold_unless_lost, left_keeps_sound}
+use Rattle.bt_shell.proofs.Sound.{commands_keep_sound, left_stays_consistent}
 use Rattle.bt_shell.proofs.Turns.{count_ends, count_goes_on, log_begins, log_ends, log_goes_on, on_err, run_breaks, run_goes_on, run_leaves, run_prefix}
 use Rattle.bt_table.specs.Standing.{IsSound}
 use Rattle.bt_shell.proofs.script_run.run_commands.Goals as goal
@@ -38,13 +38,10 @@ pub returns-in_err-reply-clause-lost : goal.returns-in_err-reply-clause-lost
 returns-in_err-reply-clause-lost g c =
     lost_is_left c.args.table.now c.next_reply.new.table (commands c.args.script.now) _ (left_later c.commands.invariant.logs.so_far c.next_reply.new.table c.in_err-reply.ensures.left)
 
-pub returns-in_err-reply-clause-sound : goal.returns-in_err-reply-clause-sound
-returns-in_err-reply-clause-sound g c =
-    left_keeps_sound c.args.table.now c.next_reply.new.table (commands c.args.script.now) _ c.soundness.ensures
+pub returns-in_err-reply-clause-consistent : goal.returns-in_err-reply-clause-consistent
+returns-in_err-reply-clause-consistent g c =
+    left_stays_consistent c.args.table.now c.next_reply.new.table (commands c.args.script.now) _ c.soundness.ensures
     (left_later c.commands.invariant.logs.so_far c.next_reply.new.table c.in_err-reply.ensures.left)
-
-pub returns-in_err-reply-clause-complete : goal.returns-in_err-reply-clause-complete
-returns-in_err-reply-clause-complete g c = hold_unless_lost c.next_reply.new.table (returns-in_err-reply-clause-sound g c)
 
 -- ---- the reply is not written whole
 
@@ -72,13 +69,10 @@ returns-in_err-write_to-clause-lost g c =
     let next = rw c.in-Some.is at c.in_ok-reply.ensures.step in
     lost_is_left c.args.table.now c.next_reply.new.table (commands c.args.script.now) _ (left_by_next c.commands.invariant.logs.so_far next)
 
-pub returns-in_err-write_to-clause-sound : goal.returns-in_err-write_to-clause-sound
-returns-in_err-write_to-clause-sound g c =
+pub returns-in_err-write_to-clause-consistent : goal.returns-in_err-write_to-clause-consistent
+returns-in_err-write_to-clause-consistent g c =
     let next = rw c.in-Some.is at c.in_ok-reply.ensures.step in
-    left_keeps_sound c.args.table.now c.next_reply.new.table (commands c.args.script.now) _ c.soundness.ensures (left_by_next c.commands.invariant.logs.so_far next)
-
-pub returns-in_err-write_to-clause-complete : goal.returns-in_err-write_to-clause-complete
-returns-in_err-write_to-clause-complete g c = hold_unless_lost c.next_reply.new.table (returns-in_err-write_to-clause-sound g c)
+    left_stays_consistent c.args.table.now c.next_reply.new.table (commands c.args.script.now) _ c.soundness.ensures (left_by_next c.commands.invariant.logs.so_far next)
 
 -- ---- the reply is written, and out of memory for the log
 
@@ -111,13 +105,10 @@ returns-in_err-add-clause-lost g c =
     let next = rw c.in-Some.is at c.in_ok-reply.ensures.step in
     lost_is_left c.args.table.now c.next_reply.new.table (commands c.args.script.now) _ (left_by_next c.commands.invariant.logs.so_far next)
 
-pub returns-in_err-add-clause-sound : goal.returns-in_err-add-clause-sound
-returns-in_err-add-clause-sound g c =
+pub returns-in_err-add-clause-consistent : goal.returns-in_err-add-clause-consistent
+returns-in_err-add-clause-consistent g c =
     let next = rw c.in-Some.is at c.in_ok-reply.ensures.step in
-    left_keeps_sound c.args.table.now c.next_reply.new.table (commands c.args.script.now) _ c.soundness.ensures (left_by_next c.commands.invariant.logs.so_far next)
-
-pub returns-in_err-add-clause-complete : goal.returns-in_err-add-clause-complete
-returns-in_err-add-clause-complete g c = hold_unless_lost c.next_reply.new.table (returns-in_err-add-clause-sound g c)
+    left_stays_consistent c.args.table.now c.next_reply.new.table (commands c.args.script.now) _ c.soundness.ensures (left_by_next c.commands.invariant.logs.so_far next)
 
 pub commands-preserved : goal.commands-preserved
 commands-preserved g c =
@@ -166,14 +157,11 @@ returns-in_err-flush_output-clause-lost g c =
     let kept : c.next_reply.new.table ≡ c.commands.table = search rules in
     rw kept (lost_is_left c.args.table.now c.commands.table (commands c.args.script.now) _ (left_at_end c.commands.invariant.logs.so_far none))
 
-pub returns-in_err-flush_output-clause-sound : goal.returns-in_err-flush_output-clause-sound
-returns-in_err-flush_output-clause-sound g c =
+pub returns-in_err-flush_output-clause-consistent : goal.returns-in_err-flush_output-clause-consistent
+returns-in_err-flush_output-clause-consistent g c =
     let none : commands (drop c.commands.at c.args.script.now) ≡ [] = search rules in
     let kept : c.next_reply.new.table ≡ c.commands.table = search rules in
-    rw kept (left_keeps_sound c.args.table.now c.commands.table (commands c.args.script.now) _ c.soundness.ensures (left_at_end c.commands.invariant.logs.so_far none))
-
-pub returns-in_err-flush_output-clause-complete : goal.returns-in_err-flush_output-clause-complete
-returns-in_err-flush_output-clause-complete g c = hold_unless_lost c.next_reply.new.table (returns-in_err-flush_output-clause-sound g c)
+    rw kept (left_stays_consistent c.args.table.now c.commands.table (commands c.args.script.now) _ c.soundness.ensures (left_at_end c.commands.invariant.logs.so_far none))
 
 -- ---- all commands have their replies
 
@@ -195,14 +183,11 @@ returns-clause-lost g c =
     let kept : c.next_reply.new.table ≡ c.commands.table = search rules in
     rw kept (lost_is_left c.args.table.now c.commands.table (commands c.args.script.now) _ (left_at_end c.commands.invariant.logs.so_far none))
 
-pub returns-clause-sound : goal.returns-clause-sound
-returns-clause-sound g c =
+pub returns-clause-consistent : goal.returns-clause-consistent
+returns-clause-consistent g c =
     let none : commands (drop c.commands.at c.args.script.now) ≡ [] = search rules in
     let kept : c.next_reply.new.table ≡ c.commands.table = search rules in
-    rw kept (left_keeps_sound c.args.table.now c.commands.table (commands c.args.script.now) _ c.soundness.ensures (left_at_end c.commands.invariant.logs.so_far none))
-
-pub returns-clause-complete : goal.returns-clause-complete
-returns-clause-complete g c = hold_unless_lost c.next_reply.new.table (returns-clause-sound g c)
+    rw kept (left_stays_consistent c.args.table.now c.commands.table (commands c.args.script.now) _ c.soundness.ensures (left_at_end c.commands.invariant.logs.so_far none))
 
 pub returns-clause-kept : goal.returns-clause-kept
 returns-clause-kept g c = λ sound.

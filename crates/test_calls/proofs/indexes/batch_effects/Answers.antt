@@ -1,6 +1,6 @@
 use Rattle.std.proofs.Common.{◌∙◌, ap, subst, sym}
 use Rattle.std.specs.List.{All}
-use Rattle.bt_messages.specs.Messages.{sorted_batch}
+use Rattle.bt_message.specs.Messages.{sorted_batch}
 use Rattle.bt_form.specs.Flushes.{holds}
 use Rattle.bt_fanout.specs.Effects.{SuitsEffect, effects_of, row_effect}
 use Rattle.bt_fanout.proofs.offered.Covers.{effects-whole}

@@ -1,5 +1,5 @@
 use Rattle.std.proofs.Common.{rules}
-use Rattle.bt_messages.specs.Meanings.{meaning_of}
+use Rattle.bt_message.specs.Meanings.{meaning_of}
 use Rattle.bt_gather.specs.Views.{pieces_of}
 use Rattle.bt_form.specs.Fits.{IsRoomy}
 use Rattle.bt_form.specs.declared.mode.Mode.TheVariants.{Absorb}

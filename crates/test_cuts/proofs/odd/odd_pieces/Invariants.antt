@@ -2,7 +2,7 @@ use Rattle.std.proofs.Common.{◌≡◌, None, drop, map}
 use Rattle.std.specs.FinMap.{find}
 use Rattle.std.specs.List.{AllByRecursion as Each}
 use Rattle.bt_gather.specs.Views.{pieces_of}
-use Rattle.bt_messages.specs.Meanings.{meaning_of}
+use Rattle.bt_message.specs.Meanings.{meaning_of}
 use Rattle.bt_plan.specs.Pieces.{node_place_cmp}
 use Rattle.bt_plan.specs.Views.{node_place}
 use Rattle.test_cuts.specs.Turns.{AreRun}

@@ -1,5 +1,5 @@
 use Rattle.std.proofs.Common.{map, rules}
-use Rattle.bt_messages.specs.Meanings.{meaning_of}
+use Rattle.bt_message.specs.Meanings.{meaning_of}
 use Rattle.bt_plan.specs.Views.{node_place}
 use Rattle.test_cuts.proofs.Turning.{left-step, run-step}
 use Rattle.test_cuts.proofs.odd.run_at.Goals as goal

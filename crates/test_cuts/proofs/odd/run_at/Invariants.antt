@@ -1,6 +1,6 @@
 use Rattle.std.proofs.Common.{map}
 use Rattle.bt_gather.specs.Views.{pieces_of}
-use Rattle.bt_messages.specs.Meanings.{meaning_of}
+use Rattle.bt_message.specs.Meanings.{meaning_of}
 use Rattle.bt_plan.specs.Views.{node_place}
 use Rattle.test_cuts.specs.Turns.{AreInOrder, AreRunBefore}
 use Rattle.test_cuts.proofs.odd.run_at.Given as goal

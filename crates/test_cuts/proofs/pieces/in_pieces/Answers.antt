@@ -1,6 +1,6 @@
 use Rattle.std.proofs.Common.{◌≡◌, rules, subst}
-use Rattle.bt_messages.specs.Meanings.{meaning_of}
-use Rattle.bt_messages.specs.Weights.{weigh_of}
+use Rattle.bt_message.specs.Meanings.{meaning_of}
+use Rattle.bt_message.specs.Weights.{weigh_of}
 use Rattle.bt_form.specs.Fits.{AreFit, IsRoomy}
 use Rattle.test_cuts.proofs.Turning.{cut-in_order, cut-turned, turned-in_order}
 use Rattle.test_cuts.proofs.pieces.in_pieces.Goals as goal

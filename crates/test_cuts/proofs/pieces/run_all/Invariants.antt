@@ -1,6 +1,6 @@
 use Rattle.std.proofs.Common.{◌≡◌, ◌++◌, map}
 use Rattle.bt_gather.specs.Views.{pieces_of}
-use Rattle.bt_messages.specs.Meanings.{meaning_of}
+use Rattle.bt_message.specs.Meanings.{meaning_of}
 use Rattle.bt_plan.specs.Cuts.{outcomes}
 use Rattle.bt_plan.specs.Views.{job_of}
 use Rattle.test_cuts.specs.Turns.{AreInOrder}

@@ -1,7 +1,7 @@
 use Rattle.std.proofs.Common.{◌≡◌, ◌∷◌, ◌-◌, ◌∙◌, ap, arith, length, subst, sym, take, true, rules}
 use Rattle.std.specs.FinMap.{is_sorted}
-use Rattle.bt_messages.specs.Effects.{effect_of}
-use Rattle.bt_messages.specs.declared.message.Message.{Message}
+use Rattle.bt_message.specs.Effects.{effect_of}
+use Rattle.bt_message.specs.declared.message.Message.{Message}
 use Rattle.bt_keycode.specs.Keys.{Key, key_cmp}
 use Rattle.bt_form.proofs.offered.code.RowPass.{at_end, before_of, changed_sorted, pass_step, put_in_front, result_sorted, sorted_from}
 use Rattle.bt_messages.proofs.offered.Fronts.{one_taken, sorted_take}

@@ -1,6 +1,6 @@
 use Rattle.std.proofs.Common.{◌≡◌, ◌+◌, ◌-◌, ◌≤◌, ◌++◌, true, drop, length, take, vec_len, vec_capacity}
 use Rattle.std.specs.FinMap.{is_sorted}
-use Rattle.bt_messages.specs.Effects.{effect_of}
+use Rattle.bt_message.specs.Effects.{effect_of}
 use Rattle.bt_keycode.specs.Keys.{key_cmp}
 use Rattle.bt_form.specs.Messages.{rows_after}
 use Rattle.bt_form.proofs.rows.Rows.after.Given as goal

@@ -1,6 +1,6 @@
 use Rattle.std.proofs.Common.{◌∙◌, ap, arith, length}
 use Rattle.std.proofs.lemmas.List.{length-map}
-use Rattle.bt_messages.specs.Meanings.{meaning_of}
+use Rattle.bt_message.specs.Meanings.{meaning_of}
 use Rattle.bt_gather.specs.inside.Eithers.{either_map}
 use Rattle.bt_gather.specs.inside.RoundJobs.{IsRunnable, piece_of}
 use Rattle.bt_gather.proofs.Eithers.{all-hold, own-items}

@@ -1,9 +1,9 @@
 use Rattle.std.proofs.Common.{◌≡◌, ◌∙◌, ap, arith, subst, sym, take}
 use Rattle.std.proofs.Math.Seq.{take-length}
 use Rattle.std.proofs.lemmas.Result.{on_ok_weaker}
-use Rattle.bt_messages.specs.Messages.{with_messages}
+use Rattle.bt_message.specs.Messages.{with_messages}
 use Rattle.bt_messages.specs.Shares.{IsShare}
-use Rattle.bt_messages.specs.Weights.{weigh_of}
+use Rattle.bt_message.specs.Weights.{weigh_of}
 use Rattle.bt_messages.specs.declared.share.Share.{Share}
 use Rattle.bt_messages.proofs.buffer.Buffer.add.Goals as goal
 

@@ -1,7 +1,7 @@
 use Rattle.std.proofs.Common.{◌<◌, ◌∙◌, ap, arith, length, subst, sym, take}
 use Rattle.bt_keycode.specs.Keys.{IsSorted}
-use Rattle.bt_messages.specs.Messages.{with_messages}
-use Rattle.bt_messages.specs.Weights.{IsSum, weigh_of}
+use Rattle.bt_message.specs.Messages.{with_messages}
+use Rattle.bt_message.specs.Weights.{IsSum, weigh_of}
 use Rattle.bt_messages.specs.inside.Sums.{IsBuffer}
 use Rattle.bt_messages.proofs.Errors.{at_error}
 use Rattle.bt_messages.proofs.Weighing.{share-small}

@@ -1,6 +1,6 @@
 use Rattle.std.proofs.Common.{◌≡◌, ◌<◌, [], ap, arith, length, subst}
 use Rattle.std.specs.Option.{IfSome}
-use Rattle.bt_messages.specs.Weights.{weigh_of}
+use Rattle.bt_message.specs.Weights.{weigh_of}
 use Rattle.bt_messages.proofs.Weighing.{sum-both, sum-first, sum-small}
 use Rattle.bt_messages.proofs.offered.Totals.{nothing_pending}
 use Rattle.bt_messages.proofs.buffer.Buffer.sum_with.Goals as goal

@@ -1,6 +1,6 @@
 use Rattle.std.proofs.Common.{◌≡◌, ◌∙◌, [], ap, sym}
 use Rattle.std.specs.Option.{option_copied}
-use Rattle.bt_messages.specs.Messages.{messages_between, messages_outside}
+use Rattle.bt_message.specs.Messages.{messages_between, messages_outside}
 use Rattle.bt_messages.proofs.offered.Totals.{nothing_pending}
 use Rattle.bt_messages.proofs.buffer.Buffer.take_range.Goals as goal
 

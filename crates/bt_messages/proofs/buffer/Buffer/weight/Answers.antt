@@ -1,5 +1,5 @@
 use Rattle.std.proofs.Common.{◌≡◌, ◌<◌, ◌∙◌, ap, arith, length}
-use Rattle.bt_messages.specs.Weights.{weigh_of, weight}
+use Rattle.bt_message.specs.Weights.{weigh_of, weight}
 use Rattle.bt_messages.proofs.Weighing.{sum-small}
 use Rattle.bt_messages.proofs.offered.Loads.{weight-small}
 use Rattle.bt_messages.proofs.buffer.Buffer.weight.Goals as goal

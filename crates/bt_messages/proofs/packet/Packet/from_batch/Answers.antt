@@ -1,6 +1,6 @@
 use Rattle.std.proofs.Common.{◌∙◌, T, ap, subst, sym}
 use Rattle.std.proofs.lemmas.Result.{IfOk-weaker}
-use Rattle.bt_messages.specs.Effects.{effect_of, rows_after}
+use Rattle.bt_message.specs.Effects.{effect_of, rows_after}
 use Rattle.bt_messages.proofs.offered.Rows.{rows_after-sorted_batch}
 use Rattle.bt_messages.proofs.packet.Packet.from_batch.Goals as goal
 

@@ -2,8 +2,8 @@ use Rattle.std.proofs.Common.{◌≤◌, ◌∙◌, ap, arith, length, map, subs
 use Rattle.bt_messages.specs.Bins.{parts}
 use Rattle.bt_messages.specs.Parts.{parted, total}
 use Rattle.bt_messages.specs.Shares.{AreShares, counts, share_of}
-use Rattle.bt_messages.specs.Weights.{weigh_of}
-use Rattle.bt_messages.specs.declared.measure.Measure.TheVariants as measures
+use Rattle.bt_message.specs.Weights.{weigh_of}
+use Rattle.bt_message.specs.declared.measure.Measure.TheVariants as measures
 use Rattle.bt_messages.proofs.Weighing.{are-shares, counts-weighed, length-counts, shares-counted}
 use Rattle.bt_messages.proofs.stream.Stream.shares.Goals as goal
 

@@ -1,6 +1,6 @@
 use Rattle.std.proofs.Common.{◌∙◌, ap, arith, length, take}
 use Rattle.std.proofs.lemmas.List.{length-drop, length-take}
-use Rattle.bt_messages.specs.Weights.{weigh_of}
+use Rattle.bt_message.specs.Weights.{weigh_of}
 use Rattle.bt_messages.proofs.Weighing.{left-next, weight-next}
 use Rattle.bt_messages.proofs.offered.Loads.{weight-small}
 use Rattle.bt_messages.proofs.stream_messages.StreamMessages.weigh_next.Goals as goal

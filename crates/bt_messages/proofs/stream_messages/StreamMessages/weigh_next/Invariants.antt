@@ -1,5 +1,5 @@
 use Rattle.std.proofs.Common.{◌≡◌, ◌+◌, ◌≤◌, drop, length, take}
-use Rattle.bt_messages.specs.Weights.{weigh_of, weight}
+use Rattle.bt_message.specs.Weights.{weigh_of, weight}
 use Rattle.bt_messages.proofs.stream_messages.StreamMessages.weigh_next.Given as goal
 
 abbrev pub invariant-loop-left : goal.invariant-loop-left

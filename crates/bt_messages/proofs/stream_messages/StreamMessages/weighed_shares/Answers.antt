@@ -1,6 +1,6 @@
 use Rattle.std.proofs.Common.{◌≡◌, ◌<◌, Some, ap, arith, length, length-set, refl, take}
 use Rattle.std.proofs.lemmas.List.{length-drop}
-use Rattle.bt_messages.specs.Weights.{weigh_of, weight}
+use Rattle.bt_message.specs.Weights.{weigh_of, weight}
 use Rattle.bt_messages.specs.declared.share.Share.{Share}
 use Rattle.bt_messages.proofs.Weighing.{weighed-all, weighed-done, weighed-enough, weighed-rest, weighed-within}
 use Rattle.bt_messages.proofs.stream_messages.StreamMessages.weighed_shares.Goals as goal

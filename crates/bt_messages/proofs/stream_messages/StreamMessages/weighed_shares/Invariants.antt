@@ -1,8 +1,8 @@
 use Rattle.std.proofs.Common.{◌≡◌, ◌<◌, ◌≤◌, ◌++◌, ◌^◌, drop, length, map, take}
 use Rattle.bt_messages.specs.Parts.{parted, total}
 use Rattle.bt_messages.specs.Shares.{counts, share_of}
-use Rattle.bt_messages.specs.Weights.{weigh_of}
-use Rattle.bt_messages.specs.declared.measure.Measure.TheVariants as measures
+use Rattle.bt_message.specs.Weights.{weigh_of}
+use Rattle.bt_message.specs.declared.measure.Measure.TheVariants as measures
 use Rattle.bt_messages.proofs.stream_messages.StreamMessages.weighed_shares.Given as goal
 
 abbrev pub invariant-loop-place : goal.invariant-loop-place

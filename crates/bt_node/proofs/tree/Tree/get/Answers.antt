@@ -2,8 +2,8 @@ use Rattle.std.proofs.Common.{◌∙◌, ap, subst, sym}
 use Rattle.std.proofs.lemmas.Result.{IfOk-weaker}
 use Rattle.std.specs.FinMap.{find}
 use Rattle.bt_keycode.specs.Keys.{key_cmp}
-use Rattle.bt_messages.specs.Effects.{effect_of}
-use Rattle.bt_messages.specs.Weights.{weigh_of}
+use Rattle.bt_message.specs.Effects.{effect_of}
+use Rattle.bt_message.specs.Weights.{weigh_of}
 use Rattle.bt_form.specs.Fits.{IsInOrder}
 use Rattle.bt_form.specs.Flushes.{holds}
 use Rattle.bt_read.proofs.offered.RowsOfChildren.{shape_in_order}

@@ -1,6 +1,6 @@
 use Rattle.std.proofs.Common.{◌∙◌, ap}
 use Rattle.std.proofs.lemmas.Result.{IfOk-weaker}
-use Rattle.bt_messages.specs.Effects.{effect_of}
+use Rattle.bt_message.specs.Effects.{effect_of}
 use Rattle.bt_form.specs.Flushes.{holds}
 use Rattle.bt_form.proofs.offered.rows.Between.{between-all}
 use Rattle.bt_node.proofs.tree.Tree.rows.Goals as goal

@@ -1,6 +1,6 @@
 use Rattle.std.proofs.Common.{◌∙◌, ap}
 use Rattle.std.specs.declared.option.Option.TheVariants.{None}
-use Rattle.bt_messages.specs.Effects.{effect_of}
+use Rattle.bt_message.specs.Effects.{effect_of}
 use Rattle.bt_form.specs.Flushes.{holds}
 use Rattle.bt_form.specs.Messages.{rows_after}
 use Rattle.bt_flush.proofs.offered.Laws.{anywhere}

@@ -1,7 +1,7 @@
 use Rattle.std.proofs.Common.{◌≡◌, ◌++◌, None, length}
 use Rattle.std.specs.Option.{option_copied}
 use Rattle.bt_keycode.specs.Keys.{IsSorted}
-use Rattle.bt_messages.specs.Messages.{messages_between, messages_outside}
+use Rattle.bt_message.specs.Messages.{messages_between, messages_outside}
 use Rattle.bt_read.proofs.lent_messages.LentMessages.take_before.Given as goal
 
 abbrev pub invariant-loop-key : goal.invariant-loop-key

@@ -1,7 +1,7 @@
 use Rattle.std.proofs.Common.{◌∙◌}
 use Rattle.bt_keycode.specs.Keys.{Key}
-use Rattle.bt_messages.specs.Effects.{effect_of}
-use Rattle.bt_messages.specs.declared.message.Message.{Message}
+use Rattle.bt_message.specs.Effects.{effect_of}
+use Rattle.bt_message.specs.declared.message.Message.{Message}
 use Rattle.bt_read.specs.inside.ValuesSoFar.{option_of}
 use Rattle.bt_read.proofs.lemmas.code.LentMessages.{none_applied, one_applied, one_past, past_left, rest_from_key, rest_in_order}
 use Rattle.bt_read.proofs.lent_messages.LentMessages.take_effect.Goals as goal

@@ -1,7 +1,7 @@
 use Rattle.std.proofs.Common.{◌≡◌, length}
 use Rattle.bt_keycode.specs.Keys.{AllFrom, IsSorted}
-use Rattle.bt_messages.specs.Effects.{effect_of}
-use Rattle.bt_messages.specs.Messages.{messages_past}
+use Rattle.bt_message.specs.Effects.{effect_of}
+use Rattle.bt_message.specs.Messages.{messages_past}
 use Rattle.bt_form.specs.Messages.{value_after}
 use Rattle.bt_read.specs.inside.ValuesSoFar.{option_of}
 use Rattle.bt_read.proofs.lent_messages.LentMessages.take_effect.Given as goal

@@ -1,8 +1,8 @@
 use Rattle.std.proofs.Common.{◌∙◌, ap, sym}
 use Rattle.std.proofs.lemmas.Result.{IfOk-weaker}
 use Rattle.std.proofs.lemmas.Result.{on_ok_weaker}
-use Rattle.bt_messages.specs.Effects.{effect_of}
-use Rattle.bt_messages.specs.Messages.{messages_past}
+use Rattle.bt_message.specs.Effects.{effect_of}
+use Rattle.bt_message.specs.Messages.{messages_past}
 use Rattle.bt_read.specs.inside.ValuesSoFar.{option_of}
 use Rattle.bt_read.proofs.lemmas.code.LentMessages.{past_from, rest_sorted_from}
 use Rattle.bt_read.proofs.lemmas.code.LookupPath.{all_left, left_from}

@@ -1,5 +1,5 @@
 use Rattle.std.proofs.Common.{◌∙◌, ap}
-use Rattle.bt_messages.specs.Effects.{effect_of}
+use Rattle.bt_message.specs.Effects.{effect_of}
 use Rattle.bt_form.specs.Portions.{rows_of}
 use Rattle.bt_read.proofs.lemmas.code.RowsShown.{copied_all}
 use Rattle.bt_read.proofs.portions.Portion.rows.Goals as goal

@@ -1,6 +1,6 @@
 use Rattle.std.proofs.Common.{◌∙◌, None, ap, fold}
 use Rattle.std.proofs.lemmas.Result.{on_ok_weaker}
-use Rattle.bt_messages.specs.Effects.{effect_of}
+use Rattle.bt_message.specs.Effects.{effect_of}
 use Rattle.bt_form.specs.Portions.{rows_of}
 use Rattle.bt_read.specs.inside.Limits.{limited}
 use Rattle.bt_read.proofs.lemmas.code.RowsLimited.{first_rows_shown}

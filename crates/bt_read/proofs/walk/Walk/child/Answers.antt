@@ -1,6 +1,6 @@
 use Rattle.std.proofs.Common.{◌<◌, ◌∙◌, Some, ap, arith, length, option_map, slice_get, sym}
 use Rattle.std.proofs.lemmas.List.{length-map}
-use Rattle.bt_messages.specs.declared.message.Message.{Message}
+use Rattle.bt_message.specs.declared.message.Message.{Message}
 use Rattle.bt_keycode.specs.Keys.{Key}
 use Rattle.bt_form.specs.Trees.{Tree}
 use Rattle.bt_form.proofs.offered.code.SiblingParts.{children_seen, read_at}

@@ -1,6 +1,6 @@
 use Rattle.std.proofs.Common.{◌∙◌, ap}
 use Rattle.std.proofs.lemmas.Result.{IfOk-weaker}
-use Rattle.bt_messages.specs.Effects.{effect_of}
+use Rattle.bt_message.specs.Effects.{effect_of}
 use Rattle.bt_read.specs.inside.Lookups.{tree_value}
 use Rattle.bt_read.proofs.lemmas.lookups.HeldValues.{tree_value-held}
 use Rattle.bt_read.proofs.walk.Walk.get.Goals as goal

@@ -1,5 +1,5 @@
 use Rattle.std.proofs.Common.{◌<◌, ◌-◌, ◌∙◌, ap, arith, length, option_map, slice_get}
-use Rattle.bt_messages.specs.declared.message.Message.{Message}
+use Rattle.bt_message.specs.declared.message.Message.{Message}
 use Rattle.bt_keycode.specs.Keys.{Key}
 use Rattle.bt_form.specs.Trees.{Tree}
 use Rattle.bt_form.proofs.offered.code.SiblingParts.{children_seen, pivot_at, pivots_length}

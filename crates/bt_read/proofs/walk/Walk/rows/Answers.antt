@@ -1,6 +1,6 @@
 use Rattle.std.proofs.Common.{◌∙◌}
 use Rattle.std.specs.Option.{option_copied}
-use Rattle.bt_messages.specs.Effects.{effect_of}
+use Rattle.bt_message.specs.Effects.{effect_of}
 use Rattle.bt_read.proofs.lemmas.code.RowsShown.{copied_all, held_between-sorted}
 use Rattle.bt_read.proofs.walk.Walk.rows.Goals as goal
 

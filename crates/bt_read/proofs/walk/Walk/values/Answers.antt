@@ -1,6 +1,6 @@
 use Rattle.std.proofs.Common.{◌∙◌, ap, map}
 use Rattle.std.proofs.lemmas.Result.{IfOk-weaker}
-use Rattle.bt_messages.specs.Effects.{effect_of}
+use Rattle.bt_message.specs.Effects.{effect_of}
 use Rattle.bt_read.specs.inside.Together.{tree_values}
 use Rattle.bt_read.proofs.lemmas.code.Together.{all_held}
 use Rattle.bt_read.proofs.walk.Walk.values.Goals as goal

@@ -1,0 +1,2 @@
+pub mod NoKeys
+pub mod offered
