@@ -156,4 +156,3 @@ consistent_is_sound (Some table) consistent = consistent.sound
 
 pub left_stays_consistent : (begin left : State) (answers : List Answer) (n : ℕ) → IfSome begin IsConsistent → IsLeftAfter begin left answers n → IfSome left IsConsistent
 left_stays_consistent begin left answers n consistent is = unless_lost_is_consistent left (left_keeps_sound begin left answers n (consistent_is_sound begin consistent) is)
-
