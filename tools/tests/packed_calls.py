@@ -366,7 +366,7 @@ def worked_scripts_in_values_leave_the_trees_that_they_leave():
                 found = groups_of(reply, kinds[: int(words[2])]) if name == "betable_sums" else rows_of(reply, kinds)[0]
                 expect((script.name, part, found), (script.name, part, rows))
             expect((script.name, part, by_bytes.images() == by_script.images()), (script.name, part, True))
-    expect([said[name] > least for name, least in zip(CALLS, (140, 30, 50, 20))] + [refused > 10], [True] * 5)
+    expect([said[name] > least for name, least in zip(CALLS, (100, 30, 50, 20))] + [refused > 10], [True] * 5)
 
 
 def replied(session, part):
