@@ -176,6 +176,143 @@ def typed_calls_know_the_columns_of_a_table_that_is_opened_again():
                 expect_fault(betable().Refused, lambda: table.run("index i on t\n"))
 
 
+# ---- reads ----
+
+INDEXED = TABLE + "index by_city on city include qty\nbuild by_city 1\nindex building on qty\n"
+ROWS = [(number, "abc"[number % 3], number * 7) for number in range(40)]
+READS = [
+    lambda one: [one.get(key) for key in (0, 39, 40, -1)],
+    lambda one: one.scan(),
+    lambda one: one.scan("by_city", ("a",), ("c",), 5),
+    lambda one: one.scan("by_city", limit=0),
+    lambda one: one.scan("by_city", after=("a", 36), limit=2),
+    lambda one: list(one.iterate("by_city", ("b",), page=3)),
+    lambda one: one.scan_columns("by_city", ("a",), ("b",), 4),
+    lambda one: one.sums("by_city", 1, "qty", ("b",)),
+    lambda one: one.columns("by_city"),
+    lambda one: one.usage("by_city"),
+    lambda one: one.check("get 1\nget x\nbatch\nput 1\nend\n"),
+]
+WRONG_READS = [
+    lambda one: one.get("1"),
+    lambda one: one.get((1,)),
+    lambda one: one.get(2**63),
+    lambda one: one.scan("none"),
+    lambda one: one.scan("building", limit=1),
+    lambda one: one.scan("by_city", ("a", 1, 2)),
+    lambda one: one.scan(limit=-1),
+    lambda one: one.scan("by_city", after=("a",)),
+    lambda one: one.scan(after=(2**63,)),
+    lambda one: one.iterate(page=0),
+    lambda one: list(one.iterate("building")),
+    lambda one: one.sums("by_city", 1, "city"),
+    lambda one: one.usage("none"),
+    lambda one: one.columns("none"),
+    lambda one: one.check(5),
+]
+
+
+def of_no_script(*_):
+    raise AssertionError("a read has run a script")
+
+
+def reads_are_those_of_the_session_and_run_no_script():
+    """Also those that are refused, which are put in words by a script."""
+    with folder() as path, durable().open(path / "t") as table, betable().Session() as session:
+        for one in (table, session):
+            one.run(INDEXED)
+            one.put(ROWS)
+        for number, call in enumerate(WRONG_READS):
+            found, wanted = fault_of(lambda: call(table)), fault_of(lambda: call(session))
+            expect((number, type(found), str(found)), (number, type(wanted), str(wanted)))
+            expect((number, wanted is None), (number, False))
+        table.replies = table._replies_with_places = table._session._ran = of_no_script
+        for number, call in enumerate(READS):
+            expect((number, call(table)), (number, call(session)))
+        # Of the 13 rows of b and c after it.
+        expect(table.scan("by_city", after=("b", 19))[0], ("b", 22, 154))
+        expect([row[:2] for row in table.scan("by_city", ("c",), after=("b", 19), limit=1)], [("c", 2)])
+
+
+def reads_change_nothing_of_the_file():
+    with folder() as path, durable().open(path / "t") as table:
+        table.run(INDEXED)
+        table.put(ROWS)
+        before = table.number, table.log_bytes, files_of(path)
+        with table.group():
+            for call in READS:
+                call(table)
+        expect((table.number, table.log_bytes, files_of(path)), before)
+
+
+def reads_see_what_their_group_has_changed():
+    with folder() as path, durable().open(path / "t") as table:
+        table.run(TABLE)
+        with table.group():
+            table.put(ROWS)
+            expect((table.get(3), len(table.scan(limit=9))), (ROWS[3], 9))
+
+        def rolled_back():
+            with table.group():
+                table.delete(3)
+                expect((table.get(3), table.scan("primary", (3,), limit=1)), (None, [ROWS[4]]))
+                raise KeyError
+
+        expect_fault(KeyError, rolled_back)
+        expect((table.get(3), table.scan()), (ROWS[3], ROWS))
+
+
+def an_iterator_goes_on_over_a_rollback():
+    """It reads the next page from the table that was made again. A tree that was dropped and made again meanwhile ends it, as in a session."""
+    with folder() as path, durable().open(path / "t", make=failing_session("whole")) as table:
+        table.run(INDEXED)
+        table.put(ROWS)
+        rows = table.iterate("by_city", page=2)
+        found = [next(rows) for _ in range(2)]
+        before = table._session
+        expect_fault(durable().RolledBack, lambda: table.put([(2, "drop fails", 1)]))
+        found += [next(rows) for _ in range(3)]
+        expect((table._session is before, found + list(rows)), (False, table.scan("by_city")))
+        rows = table.iterate("by_city", page=2)
+        next(rows), next(rows)
+        table.run("drop by_city\nindex by_city on city include qty\nbuild by_city 100\n")
+        expect_fault(RuntimeError, lambda: next(rows), "the tree 'by_city' was dropped, or made again")
+        rows = table.iterate(page=1)
+        next(rows)
+    expect_fault(ValueError, lambda: next(rows), "the table is closed")
+
+
+def a_read_that_runs_out_of_memory_is_rolled_back():
+    """With its group, and the table is made again from the file."""
+    client = betable()
+
+    class Starved(client.Session):
+        fails = False
+
+        def get(self, *key):
+            if self.fails:
+                raise client.OutOfMemory
+            return super().get(*key)
+
+    with folder() as path, durable().open(path / "t", make=Starved) as table:
+        table.run(TABLE)
+        table.put(ROWS)
+
+        def in_group():
+            with table.group():
+                table.delete(1)
+                table._session.fails = True
+                expect_fault(durable().RolledBack, lambda: table.get(1))
+                for call in (lambda: table.get(1), table.scan, lambda: table.replies(ADD)):
+                    expect_fault(durable().RolledBack, call, "a call of the group failed before")
+
+        expect_fault(durable().RolledBack, in_group)
+        expect((table.get(1), table.number), (ROWS[1], 2))
+        table._session.fails = True
+        expect(type(expect_fault(durable().RolledBack, lambda: table.get(1)).__cause__), client.OutOfMemory)
+        expect((table.get(1), table.scan()), (ROWS[1], ROWS))
+
+
 # ---- all or nothing ----
 
 
@@ -1192,6 +1329,14 @@ def scripts_over_a_layer_are_run_by_it():
             with durable().open(path / "t", make=Layer) as table:
                 table.replies(TABLE if table.state.table is None else ADD)
         expect((Layer.scripts, Layer.closed), ([TABLE.encode(), TABLE.encode(), ADD.encode()], 2))
+        with durable().open(path / "t", make=Layer) as table:
+            table.put([(2, "a", 2), (3, "b", 3)])
+            expect((table.get(2), table.scan(limit=2), table.scan(after=(1,))), ((2, "a", 2), [(1, "", 1), (2, "a", 2)], [(2, "a", 2), (3, "b", 3)]))
+            expect((table.scan("primary", (3,), after=(1,)), list(table.iterate(page=1))), ([(3, "b", 3)], table.scan()))
+            expect((table.scan_columns(limit=1)["city"], table.columns()[0]), ([""], ("id", "int", True)))
+            for call in (table.usage, lambda: table.check("get 1\n")):
+                expect_fault(NotImplementedError, call, "only a session")
+            expect_fault(betable().Refused, lambda: table.columns("none"), "NoSuchTree")
 
 
 # ---- crashes ----
@@ -1239,6 +1384,11 @@ TESTS_OF_TEXTS = [
     what_is_not_answered_yet_is_kept_by_the_end_of_a_killed_process,
     scripts_that_change_nothing_are_not_kept,
     typed_calls_know_the_columns_of_a_table_that_is_opened_again,
+    reads_are_those_of_the_session_and_run_no_script,
+    reads_change_nothing_of_the_file,
+    reads_see_what_their_group_has_changed,
+    an_iterator_goes_on_over_a_rollback,
+    a_read_that_runs_out_of_memory_is_rolled_back,
     a_script_that_runs_out_of_memory_is_rolled_back_whole,
     an_interrupt_rolls_back_too,
     a_group_is_kept_whole_or_not_at_all,

@@ -17,7 +17,7 @@ from hashlib import sha256
 from pathlib import Path
 
 from clients import library
-from common import SECONDS, TOP, expect, expect_within, imported, type_of_fault
+from common import SECONDS, TOP, expect, expect_within, fault_of, imported, type_of_fault
 
 PYTHON = "/usr/bin/python3"
 TABLE = "table 16 64 16 1 id:int city:text qty:int\n"
@@ -153,6 +153,10 @@ def calls_on_shards_are_those_of_a_session():
             lambda one: one.scan(),
             lambda one: one.scan("c", ("O",), ("P",)),
             lambda one: one.sums("c", 1, "qty"),
+            lambda one: one.scan("c", limit=7),
+            lambda one: one.scan("c", ("x",), after=one.scan("c")[9][:2], limit=7),
+            lambda one: list(one.iterate("c", page=7)),
+            lambda one: one.columns("c"),
             lambda one: [one.get(key) for key in (-20, 5, 79, 80)],
             lambda one: one.run("batch\ndel 5\ndel 50\nend\nscan primary\nfrom 4\nto 6\ngo\n")[1].rows,
             lambda one: str(raised(package.Refused, lambda: one.batch([package.delete(1), package.upsert(50, add={"id": 1})]))),
@@ -363,6 +367,41 @@ CALLS = (
     lambda replica: replica.scan(), lambda replica: replica.catch_up(), lambda replica: replica.put([(9, "x", 9)]),
     lambda replica: replica.replies("drain primary\n"), lambda replica: replica.once("id", "get 1\n"), lambda replica: replica.checkpoint(),
 )  # fmt: skip
+
+
+def reads_of_a_replica_are_those_of_its_session():
+    """Each asks the log once for what is new, and an iterator for each page. None is in the log, and none runs a script."""
+    package, log = betable(), Log()
+    rows = [(key, "abc"[key % 3], key) for key in range(30)]
+    with package.Session() as session, package.replicas.Replicas(log) as one, package.replicas.Replicas(log) as two:
+        for table in (session, one):
+            table.run(TABLE + INDEX)
+            table.put(rows)
+        two.catch_up()
+        ends, end = [], log.end
+        log.end = lambda position: ends.append(position) or end(position)
+        two.replies = two._replies_with_places = two._runner._ran = interrupt
+        for count, call in (
+            (1, lambda table: table.get(7)),
+            (1, lambda table: table.get(99)),
+            (1, lambda table: table.scan("c", ("b",), limit=4)),
+            (1, lambda table: table.scan_columns("c", limit=4)),
+            (1, lambda table: table.sums("c", 1, "qty")),
+            (1, lambda table: table.columns("c")),
+            (1, lambda table: table.usage("c")),
+            (1, lambda table: table.check("get x\n")),
+            (5, lambda table: list(table.iterate("c", page=9))),
+        ):
+            wanted = call(session)
+            ends.clear()
+            expect((call(two), len(ends)), (wanted, count))
+        del two.replies, two._replies_with_places, two._runner._ran
+        found = two.iterate(page=29)
+        expect([next(found)[0] for _ in rows[1:]], [*range(29)])
+        one.put([(29, "new", 1), (30, "new", 1)])
+        expect([row[0] for row in found], [29, 30])
+        wrong = [fault_of(lambda: call(table)) for table in (session, two) for call in (lambda table: table.get("x"), lambda table: table.scan(limit=-1))]
+        expect([(type(fault), str(fault)) for fault in wrong[:2]], [(type(fault), str(fault)) for fault in wrong[2:]])
 
 
 def a_replica_whose_scripts_were_lost_stops_and_changes_nothing():
@@ -718,6 +757,7 @@ TESTS_OF_TEXTS = [
     replicas_reply_as_one_session_does,
     requests_are_run_once,
     reads_see_what_they_say,
+    reads_of_a_replica_are_those_of_its_session,
     a_replica_whose_scripts_were_lost_stops_and_changes_nothing,
     a_replica_that_has_run_nothing_follows_any_log,
     the_checkpoint_of_a_wrong_replica_is_refused,

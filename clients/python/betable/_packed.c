@@ -1154,9 +1154,9 @@ static PyMethodDef methods[] = {
      "batch($self, messages, most=65536)\n--\n\nApplies messages in order, and returns their number."},
     {"get", FAST(call_get), METH_FASTCALL | METH_KEYWORDS, "get($self, *key)\n--\n\nThe row of a key, or None."},
     {"scan", FAST(call_scan), METH_FASTCALL | METH_KEYWORDS,
-     "scan($self, tree='primary', start=None, stop=None, limit=None)\n--\n\n"
-     "The rows of a tree in ascending order of their keys, from those that begin with the values `start` to before those that begin with `stop`, at most\n"
-     "as many as the limit."},
+     "scan($self, tree='primary', start=None, stop=None, limit=None, after=None)\n--\n\n"
+     "The rows of a tree in ascending order of their keys, from those that begin with the values `start` to before those that begin with `stop`, directly\n"
+     "after the row of the key `after`, and at most as many as the limit."},
     {"sums", FAST(call_sums), METH_FASTCALL | METH_KEYWORDS,
      "sums($self, tree, columns, column, start=None, stop=None)\n--\n\n"
      "For each group of rows that are equal in the tree's first columns: their number, the sum of a column, and the values of those columns."},

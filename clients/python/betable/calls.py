@@ -11,7 +11,7 @@ from collections.abc import Callable, Iterable, Iterator, Mapping, Sequence
 from copy import copy
 from io import BytesIO
 from itertools import islice
-from typing import Any, NamedTuple
+from typing import Any, NamedTuple, NoReturn
 
 from . import language
 from .csv_input import BLOCK, Part, parts
@@ -20,6 +20,7 @@ from .faults import MEANINGS, Fault, faults_of_refusal
 from .forms import head_faults, name_fault
 from .language import Command, State, Table
 from .messages import Message, delete, message_lines, record, upsert
+from .packed import MOST_ROWS, TreeColumn, Usage
 from .replies import Place, Reply, answered, kinds_of_rows, rows_of_reply
 from .rows import (
     ARRAY_TYPES, UNKNOWN, VALUES, Column, ColumnValues, Layout, Value, as_iterator, as_tuple, columns_of, columns_of_rows, key_fields, layout,
@@ -43,6 +44,22 @@ class Tree(NamedTuple):
     include: tuple[str, ...]
     where: tuple[str, str, Value] | None
     is_complete: bool
+
+
+class Range(NamedTuple):
+    """What a scan is of: a tree and its columns, the two bounds, the key of the row directly after which it begins, if it is not before the bound, and the
+    script, which begins with that row."""
+
+    name: str
+    there: Layout
+    start: Bound
+    stop: Bound
+    after: Bound
+    script: str
+
+
+# What calls a function with that which reads a table, and returns what it gives.
+Read = Callable[[Callable[[Any], Any]], Any]
 
 
 class Calls(ABC):
@@ -171,11 +188,39 @@ class Calls(ABC):
         rows = self._rows(b"get", f"get {','.join(key_fields(key, there.key, 'a key'))}\n", there.kinds)
         return rows[0] if rows else None
 
-    def scan(self, tree: str = "primary", start: Bound = None, stop: Bound = None) -> list[Row]:
-        """The rows of a tree in ascending order of their keys, from those that begin with the values `start` to before those that begin with `stop`."""
+    def scan(
+        self, tree: str = "primary", start: Bound = None, stop: Bound = None, limit: int | None = None, after: Bound = None
+    ) -> list[Row]:
+        """The rows of a tree in ascending order of their keys, from those that begin with the values `start` to before those that begin with `stop`. If the key
+        of a row is given as `after`, they begin directly after that row. With a limit they are the first ones, no more than that."""
+        most, found = checked_limit(limit), self._range(tree, start, stop, after)
+        rows = self._rows(b"scan", found.script, found.there.kinds)
+        if found.after is not None and rows and rows[0][: len(found.after)] == found.after:
+            del rows[0]
+        return rows[:most]
+
+    def iterate(
+        self, tree: str = "primary", start: Bound = None, stop: Bound = None, page: int = 1_000
+    ) -> Iterator[Row]:
+        """The rows that a scan gives, which are read a page at a time as they are asked for. Each page begins directly after the last row of the one before, so
+        no row comes twice; the rows that follow are those of the table when their page is read. What has only scripts reads all rows at once."""
+        return self._iterated(lambda call: call(self), tree, start, stop, page)
+
+    def columns(self, tree: str = "primary") -> list[TreeColumn]:
+        """The columns of the rows of a tree, each with its name, its kind, and whether it belongs to the key of the tree."""
         name = checked_name(tree, "a tree")
         there = layout(self.state.table, name)
-        return self._rows(b"scan", f"scan {name}\n{bounds(there, start, stop)}go\n", there.kinds)
+        if there is UNKNOWN:
+            self._refuse_tree(name)
+        return [TreeColumn(column.name, column.kind, place < len(there.key)) for place, column in enumerate(there.columns)]
+
+    def usage(self, tree: str = "primary") -> Usage:
+        """How much a tree holds."""
+        raise NotImplementedError("only a session, or a table over one, has 'usage': what has only scripts cannot tell it")
+
+    def check(self, script: str | bytes) -> list[int]:
+        """The places of the commands of a script that would be refused, counted from 0 as in the list that `run` returns."""
+        raise NotImplementedError("only a session, or a table over one, has 'check': what has only scripts cannot tell it")
 
     def sums(
         self, tree: str, columns: int, column: str, start: Bound = None, stop: Bound = None
@@ -187,18 +232,22 @@ class Calls(ABC):
         script = f"sums {name} {columns:d} {checked_name(column, 'a column')}\n{bounds(there, start, stop)}go\n"
         return self._rows(b"sums", script, there.key_kinds[:columns])
 
-    def scan_columns(self, tree: str = "primary", start: Bound = None, stop: Bound = None) -> dict[str, ColumnValues]:
+    def scan_columns(
+        self, tree: str = "primary", start: Bound = None, stop: Bound = None, limit: int | None = None
+    ) -> dict[str, ColumnValues]:
         """The rows of `scan` by columns: a dict from their names to an `array` of ints, or to a list of other values."""
-        rows = self.scan(tree, start, stop)
+        rows = self.scan(tree, start, stop, limit)
         there = layout(self.state.table, tree)
         return by_names(there, columns_of_rows(rows, there.kinds))
 
-    def scan_frame(self, tree: str = "primary", start: Bound = None, stop: Bound = None) -> Any:
+    def scan_frame(
+        self, tree: str = "primary", start: Bound = None, stop: Bound = None, limit: int | None = None
+    ) -> Any:
         """The rows of `scan` as a data frame of pandas."""
         import numpy
         import pandas  # type: ignore
 
-        columns = self.scan_columns(tree, start, stop)
+        columns = self.scan_columns(tree, start, stop, limit)
         kinds = {column.name: column.kind for column in layout(self.state.table, tree).columns}
         return pandas.DataFrame({name: numpy.asarray(values, dtype=ARRAY_TYPES[kinds[name]]) for name, values in columns.items()})
 
@@ -244,6 +293,29 @@ class Calls(ABC):
     def _replies_with_places(self, script: bytes) -> tuple[bytes, list[Place] | None]:
         """The bytes of the replies to a script, and the place of each, or None where nothing but their text says that."""
         return self.replies(script), None
+
+    def _iterated(self, read: Read, tree: str, start: Bound, stop: Bound, page: int) -> Iterator[Row]:
+        """The rows of `iterate`. `read` calls what it is given with that which reads, a page at a time, if there are pages."""
+        checked_page(page)
+        return iter(self.scan(tree, start, stop))
+
+    def _range(self, tree: Any, start: Bound, stop: Bound, after: Bound = None) -> Range:
+        """What a scan is of, whose arguments are checked."""
+        name = checked_name(tree, "a tree")
+        there = layout(self.state.table, name)
+        lines = bounds(there, start, stop)
+        if after is not None and there is not UNKNOWN:
+            key_fields(after, there.key, "the key of the row before")
+            if start is not None and in_order(after[: len(start)], there) < in_order(start, there):
+                after = None
+            else:
+                after, lines = tuple(after), bounds(there, after, stop)
+        return Range(name, there, start, stop, after, f"scan {name}\n{lines}go\n")
+
+    def _refuse_tree(self, name: str) -> NoReturn:
+        """Raises the refusal, in words, of a call on a tree that is unknown."""
+        self._rows(b"scan", f"scan {name}\ngo\n", [])
+        raise RuntimeError(f"a call on the tree '{name}' is refused, and its rows are not")
 
     def _condition(self, where: Any) -> str:
         """The condition of an index."""
@@ -320,9 +392,9 @@ class Calls(ABC):
         return int(reply.split()[1])
 
     def _rows(self, word: bytes, script: str, kinds: Sequence[str]) -> list[Row]:
-        reply = self.replies(script)
-        if reply.startswith(b"refused "):
-            self._refuse_if_refused(script.encode(), reply, 0, None)
+        given = script.encode()
+        reply = self.replies(given)
+        self._refuse_if_refused(given, reply, 0, None)
         return rows_of_reply(word, reply.decode(), kinds)
 
     def _refuse_if_refused(
@@ -356,6 +428,11 @@ def bounds(there: Layout, start: Any, stop: Any) -> str:
     return "".join(f"{word} {','.join(key_fields(values, there.key, 'a bound', is_prefix=True))}\n" for word, values in given)
 
 
+def in_order(values: Sequence[Any], there: Layout) -> list[Any]:
+    """The first values of a key, as they are compared."""
+    return [bytes(value) if column.kind == "bytes" else value for value, column in zip(values, there.key)]
+
+
 def as_script(script: Any) -> bytes:
     """A script as bytes."""
     if isinstance(script, str):
@@ -373,6 +450,24 @@ def checked_name(name: Any, what: str) -> str:
     if not language.NAME.fullmatch(encoded):
         raise ValueError(f"{what}: {name_fault(encoded)}")
     return name
+
+
+def checked_limit(limit: Any) -> int:
+    """The most rows of a scan."""
+    return MOST_ROWS if limit is None else _checked_count(limit, "the limit of a scan", 0)
+
+
+def checked_page(page: Any) -> int:
+    """The most rows of a page."""
+    return _checked_count(page, "the size of a page", 1)
+
+
+def _checked_count(count: Any, what: str, least: int) -> int:
+    if isinstance(count, bool) or not isinstance(count, int):
+        raise TypeError(f"{what} is an int, and not {shown(count)}")
+    if count < least:
+        raise ValueError(f"{what} is {least} or more, and not {shown(count)}")
+    return min(count, MOST_ROWS)
 
 
 def checked_group(columns: Any) -> int:

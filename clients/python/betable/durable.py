@@ -28,16 +28,18 @@ from collections.abc import Callable, Iterable, Iterator
 from contextlib import AbstractContextManager, closing, contextmanager, nullcontext, suppress
 from hashlib import sha256
 from io import FileIO
-from typing import Any, NoReturn, Protocol
+from typing import Any, NoReturn, Protocol, TypeVar
 
 from .calls import Calls, as_script, note
 from .errors import before
 from .file_lock import lock
 from .language import PRIMARY, State, Table, commands
+from .reads import Reads, reader_of
 from .replies import Place, answered
 from .session import Session
 from .wal import FIRST_GENERATION, FOREIGN, SYNCED, UNSYNCED, fault_of_log, mark_of, new_mark, renew_mark
 
+T = TypeVar("T")
 FORMAT = 2  # of the file: raised when an older program could not read it
 ENGINE = 1  # raised when a script may give other replies, or other trees, than before
 APPLICATION_ID = 0x6274626C
@@ -180,7 +182,7 @@ def open(path: str | os.PathLike[str], *, sync: bool = True, most_requests: int 
     return Durable(path, sync=sync, most_requests=most_requests, make=make)
 
 
-class Durable(Calls):
+class Durable(Reads):
     """A durable table. Only the thread and the process that opened it may use it."""
 
     def __init__(self, path: str | os.PathLike[str], *, sync: bool, most_requests: int, make: Callable[[], Runner]) -> None:
@@ -373,6 +375,16 @@ class Durable(Calls):
             with self._all_or_nothing():
                 return self._run(script)
 
+    def _read(self, call: Callable[[Any], T]) -> T:
+        """What a call gives of the session. After a failed request for memory the session goes, as after a script that failed."""
+        if self._is_in_group:
+            self._refuse_after_failure()
+        try:
+            return call(reader_of(self, self._ready()))
+        except MemoryError:
+            with self._some_group(), self._all_or_nothing():
+                raise
+
     def once(self, request_id: str, script: str | bytes) -> bytes:
         """Like `replies`, but a script that comes again with the same request id is not run again: the call returns the replies that were kept with the id.
         So a caller that got no reply sends the request again. RequestReused if another script had the id."""
@@ -483,8 +495,7 @@ class Durable(Calls):
     @contextmanager
     def _all_or_nothing(self) -> Iterator[None]:
         """Rolls the group back when what is run fails, and says so."""
-        if self._is_rolled_back:
-            raise RolledBack(f"{self.path}: a call of the group failed before, and nothing of the group is kept")
+        self._refuse_after_failure()
         try:
             yield
         except BaseException as fault:
@@ -495,6 +506,11 @@ class Durable(Calls):
             if isinstance(fault, Exception) and not isinstance(fault, Corrupt):
                 raise RolledBack(f"{self.path}: nothing of the script was kept: {str(fault) or type(fault).__name__}") from fault
             raise
+
+    def _refuse_after_failure(self) -> None:
+        """That no call of the group has failed."""
+        if self._is_rolled_back:
+            raise RolledBack(f"{self.path}: a call of the group failed before, and nothing of the group is kept")
 
     def _write(self, statement: str, *values: Any) -> sqlite3.Cursor:
         """Carries out a statement in the transaction of the group."""

@@ -232,16 +232,17 @@ class Packing:
 
     def bound(self, values: Sequence[Any] | None) -> bytes | None:
         """The bound before all rows that begin with these values, or the one that is none. None if a value is too large to be packed."""
-        if values is None:
-            return bytes([NO_BOUND])
+        return bytes([NO_BOUND]) if values is None else self._bound(bytes([PREFIX, len(values)]), values)
+
+    def after(self, key: Sequence[Any]) -> bytes | None:
+        """The bound directly after the row of a key. None if a value is too large to be packed."""
+        return self._bound(bytes([AFTER]), key)
+
+    def _bound(self, head: bytes, values: Sequence[Any]) -> bytes | None:
         try:
-            return bytes([PREFIX, len(values)]) + b"".join(map(value_bytes, values, self._there.key_kinds))
+            return head + b"".join(map(value_bytes, values, self._there.key_kinds))
         except (ValueError, OverflowError):
             return None
-
-    def after(self, row: Sequence[Value]) -> bytes:
-        """The bound directly after a row."""
-        return bytes([AFTER]) + b"".join(map(value_bytes, row, self._there.key_kinds))
 
 
 def packing(there: Layout) -> Packing:

@@ -26,10 +26,11 @@ from contextlib import suppress
 from functools import partial
 from typing import Any, Literal, NamedTuple, TypeVar
 
-from .calls import Calls, as_script, note
+from .calls import as_script, note
 from .durable import CHANGING_LINE, DEFINED, ENGINE, REFUSED, IndexBuilding, RequestReused, Runner, _records
 from .language import PRIMARY, State, commands
 from .logs import ANOTHER_CHECKPOINT, LONGEST_WAIT, Checkpoint, Entry, Log, Unreachable, UnusableLog, check_request_id, log_of
+from .reads import Reads, reader_of
 from .replies import answered
 from .session import Session
 from .sharded import NotSharded
@@ -111,7 +112,7 @@ class Outcomes:
             self.found[earlier] = of._replace(replies=None)
 
 
-class Replicas(Calls):
+class Replicas(Reads):
     """A replica of a table, which the log of a name has. It is used by the thread that opened it alone.
 
     With the reads `latest`, a script that only reads sees every script that was answered before, by any replica. With `local` it sees what this replica has run
@@ -173,6 +174,15 @@ class Replicas(Calls):
             return self.once(uuid.uuid4().hex, text)
         self._see()
         return self._kept(lambda runner: runner.replies(text))
+
+    def _read(self, call: Callable[[Any], T]) -> T:
+        """What a call gives of the session, which sees what a read is to see. After a failed request for memory the session goes."""
+        self._see()
+        try:
+            return call(reader_of(self, self._ready()))
+        except MemoryError:
+            self._drop()
+            raise
 
     def _see(self) -> None:
         """Runs what a read is to see."""

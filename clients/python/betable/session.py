@@ -16,12 +16,15 @@ from types import ModuleType, TracebackType
 from typing import TYPE_CHECKING, Any
 
 from . import language
-from .calls import Bound, Calls, Lines, Row, as_script, bounds, by_names, checked_group, checked_name, column_lines, note, note_unanswered, put_lines
+from .calls import (
+    Bound, Calls, Lines, Range, Read, Row, as_script, bounds, by_names, checked_group, checked_limit, checked_name, checked_page, column_lines, note,
+    note_unanswered, put_lines,
+)  # fmt: skip
 from .errors import OutOfMemory
 from .language import PRIMARY, State, Table, counted
 from .messages import Message, Shape, message_lines
 from .packed import (
-    MOST_ROWS, NOT_TAKEN, TreeColumn, Usage, columns_of_reply, description, groups_of_reply, name_bytes, packing, page_bytes, sums_bytes, usage_of_reply,
+    NOT_TAKEN, TreeColumn, Usage, columns_of_reply, description, groups_of_reply, name_bytes, packing, page_bytes, sums_bytes, usage_of_reply,
 )  # fmt: skip
 from .replies import Place, answered
 from .rows import UNKNOWN, ColumnValues, Layout, columns_of_rows, layout, rows_of_columns, shown, tuples_of_dicts
@@ -249,32 +252,17 @@ class PureSession(Calls):
         return super().get(*key)
 
     def scan(
-        self, tree: str = "primary", start: Bound = None, stop: Bound = None, limit: int | None = None
+        self, tree: str = "primary", start: Bound = None, stop: Bound = None, limit: int | None = None, after: Bound = None
     ) -> list[Row]:
-        """The rows of a tree in ascending order of their keys, from those that begin with the values `start` to before those that begin with `stop`. With a
-        limit they are the first ones, no more than that, and the library reads no others."""
-        most = MOST_ROWS if limit is None else _checked_count(limit, "the limit of a scan", 0)
-        name = checked_name(tree, "a tree")
-        there = layout(self.state.table, name)
-        script = f"scan {name}\n{bounds(there, start, stop)}go\n"
-        if there is UNKNOWN:
-            return self._rows(b"scan", script, there.kinds)[:limit]
-        packed = packing(there)
-        return self._page(name, there, most, packed.bound(start), packed.bound(stop), script)
+        """The rows of a tree in ascending order of their keys, from those that begin with the values `start` to before those that begin with `stop`. If the key
+        of a row is given as `after`, they begin directly after that row. With a limit they are the first ones, no more than that, and the library reads no
+        others."""
+        most, found = checked_limit(limit), self._range(tree, start, stop, after)
+        return self._rows(b"scan", found.script, [])[:most] if found.there is UNKNOWN else self._page(found, most, *packed_bounds(found))
 
-    def iterate(
-        self, tree: str = "primary", start: Bound = None, stop: Bound = None, page: int = 1_000
-    ) -> Iterator[Row]:
-        """The rows that a scan gives, which are read a page at a time as they are asked for. Each page begins directly after the last row of the one before, so
-        no row comes twice; the rows that follow are those of the table when their page is read."""
-        most = _checked_count(page, "the size of a page", 1)
-        name = checked_name(tree, "a tree")
-        there = layout(self.state.table, name)
-        script = f"scan {name}\n{bounds(there, start, stop)}go\n"
-        if there is UNKNOWN:
-            return iter(self._rows(b"scan", script, there.kinds))
-        packed = packing(there)
-        return self._pages(name, there, most, packed.bound(start), packed.bound(stop), script)
+    def _iterated(self, read: Read, tree: str, start: Bound, stop: Bound, page: int) -> Iterator[Row]:
+        most, found = checked_page(page), self._range(tree, start, stop)
+        return iter(self._rows(b"scan", found.script, [])) if found.there is UNKNOWN else _rows_of_pages(self, read, found, most)
 
     def columns(self, tree: str = "primary") -> list[TreeColumn]:
         """The columns of the rows of a tree, each with its name, its kind, and whether it belongs to the key of the tree."""
@@ -343,42 +331,54 @@ class PureSession(Calls):
         """The reply to a call on the name of a tree, which is refused only if there is no such tree."""
         reply = self._reply(call, name_bytes(name))
         if reply is None:
-            # The same refusal, in words.
-            self._rows(b"scan", f"scan {name}\ngo\n", [])
-            raise RuntimeError(f"a call on the tree '{name}' is refused, and its rows are not")
+            self._refuse_tree(name)
         return reply
 
     def _raise_out_of_memory(self) -> None:
         raise OutOfMemory(b"", False, self.is_lost)
 
-    def _page(self, name: str, there: Layout, most: int, lower: bytes | None, upper: bytes | None, script: str) -> list[Row]:
+    def _page(self, found: Range, most: int, lower: bytes | None, upper: bytes | None) -> list[Row]:
         """The first rows between two packed bounds. Where there is none, or where the page is refused, the script of the scan takes its place."""
-        rows = None if lower is None or upper is None else self._page_rows(name, page_bytes(name, most, lower, upper))
-        return self._rows(b"scan", script, there.kinds)[:most] if rows is None else rows
+        rows = None if lower is None or upper is None else self._page_rows(found.name, page_bytes(found.name, most, lower, upper))
+        return super().scan(found.name, found.start, found.stop, most, found.after) if rows is None else rows
+
+    def _next_page(self, before: PureSession, found: Range, most: int, lower: bytes | None, upper: bytes | None) -> tuple[Range, list[Row]]:
+        """The range with its next page. The pages before were read by this session, or by one of the same table that this one has taken the place of."""
+        there = layout(self.state.table, found.name)
+        is_same = there is found.there or (self is not before and (there.columns, there.key) == (found.there.columns, found.there.key))
+        if not is_same:
+            raise RuntimeError(f"the tree '{found.name}' was dropped, or made again, while its rows were read")
+        found = found._replace(there=there)
+        return found, self._page(found, most, lower, upper)
 
     def _page_rows(self, name: str, page: bytes) -> list[Row] | None:
         """The rows of a page, or None if it is refused."""
         reply = self._reply(self._library.betable_page, page)
         return None if reply is None else packing(layout(self.state.table, name)).rows(reply)
 
-    def _pages(self, name: str, there: Layout, most: int, lower: bytes | None, upper: bytes | None, script: str) -> Iterator[Row]:
-        while True:
-            if layout(self.state.table, name) is not there:
-                raise RuntimeError(f"the tree '{name}' was dropped, or made again, while its rows were read")
-            rows = self._page(name, there, most, lower, upper, script)
-            yield from rows
-            if len(rows) < most:
-                return
-            lower = packing(there).after(rows[-1])
+
+def packed_bounds(found: Range) -> tuple[bytes | None, bytes | None]:
+    """The packed bounds of a range, each None if it has a value that is too large to be packed."""
+    packed = packing(found.there)
+    return packed.bound(found.start) if found.after is None else packed.after(found.after), packed.bound(found.stop)
 
 
-def _checked_count(count: Any, what: str, least: int) -> int:
-    """A number of rows, or the most that a page has."""
-    if isinstance(count, bool) or not isinstance(count, int):
-        raise TypeError(f"{what} is an int, and not {shown(count)}")
-    if count < least:
-        raise ValueError(f"{what} is {least} or more, and not {shown(count)}")
-    return min(count, MOST_ROWS)
+def _rows_of_pages(session: PureSession, read: Read, found: Range, most: int) -> Iterator[Row]:
+    """The rows of a range, page after page. `read` may read one by a session that has taken the place of the one before."""
+    lower, upper = packed_bounds(found)
+
+    def page(now: PureSession) -> list[Row]:
+        nonlocal session, found
+        found, rows = now._next_page(session, found, most, lower, upper)
+        session = now
+        return rows
+
+    while rows := read(page):
+        yield from rows
+        if len(rows) < most:
+            return
+        found = found._replace(after=rows[-1][: len(found.there.key)])
+        lower, _ = packed_bounds(found)
 
 
 def _extension() -> ModuleType | None:

@@ -1,0 +1,80 @@
+"""Reads of a table whose scripts are kept, as by a durable table or by a replica. They change nothing, so nothing of them is kept: they are the calls of the
+session that has the table, on packed bytes. A layer over sessions, as shards, replies to scripts alone, so reads go to it by scripts."""
+
+from __future__ import annotations
+
+from abc import abstractmethod
+from collections.abc import Callable, Iterator
+from typing import Any, TypeVar
+
+from .calls import Bound, Calls, Row
+from .language import State
+from .packed import TreeColumn, Usage
+from .rows import ColumnValues
+from .session import PureSession
+
+T = TypeVar("T")
+
+
+class Reads(Calls):
+    """The calls that only read. What they do is said where a session has them."""
+
+    @abstractmethod
+    def _read(self, call: Callable[[Any], T]) -> T:
+        """What a call gives of the reader of the table, which `reader_of` finds."""
+
+    def get(self, *key: Any) -> Row | None:
+        return self._read(lambda reader: reader.get(*key))
+
+    def scan(
+        self, tree: str = "primary", start: Bound = None, stop: Bound = None, limit: int | None = None, after: Bound = None
+    ) -> list[Row]:
+        return self._read(lambda reader: reader.scan(tree, start, stop, limit, after))
+
+    def iterate(
+        self, tree: str = "primary", start: Bound = None, stop: Bound = None, page: int = 1_000
+    ) -> Iterator[Row]:
+        return self._read(lambda reader: reader._iterated(self._read, tree, start, stop, page))
+
+    def scan_columns(
+        self, tree: str = "primary", start: Bound = None, stop: Bound = None, limit: int | None = None
+    ) -> dict[str, ColumnValues]:
+        return self._read(lambda reader: reader.scan_columns(tree, start, stop, limit))
+
+    def scan_frame(
+        self, tree: str = "primary", start: Bound = None, stop: Bound = None, limit: int | None = None
+    ) -> Any:
+        return self._read(lambda reader: reader.scan_frame(tree, start, stop, limit))
+
+    def sums(
+        self, tree: str, columns: int, column: str, start: Bound = None, stop: Bound = None
+    ) -> list[Row]:
+        return self._read(lambda reader: reader.sums(tree, columns, column, start, stop))
+
+    def columns(self, tree: str = "primary") -> list[TreeColumn]:
+        return self._read(lambda reader: reader.columns(tree))
+
+    def usage(self, tree: str = "primary") -> Usage:
+        return self._read(lambda reader: reader.usage(tree))
+
+    def check(self, script: str | bytes) -> list[int]:
+        return self._read(lambda reader: reader.check(script))
+
+
+class ByScripts(Calls):
+    """The calls on a table, whose scripts a layer runs."""
+
+    def __init__(self, table: Calls) -> None:
+        self._owner = table
+
+    def replies(self, script: str | bytes) -> bytes:
+        return self._owner.replies(script)
+
+    @property
+    def state(self) -> State:
+        return self._owner.state
+
+
+def reader_of(table: Calls, runner: object) -> Calls:
+    """What reads a table: the session that runs its scripts, or the calls by scripts if that is a layer."""
+    return runner if isinstance(runner, PureSession) else ByScripts(table)
