@@ -274,6 +274,72 @@ def rows_go_in_and_come_out():
 
 
 @with_aiohttp
+def a_page_after_a_key_begins_with_the_next_row():
+    """Pages of any size are all rows, byte for byte, also if the row of the key is gone by then."""
+    hard = ["Oslo", "a,b", 'say "so"', "", "  ", ".", "end", "row 1", "æøå", "\ufeffx", "Oslo", "Oslo"]
+    with server() as found:
+        found.ask("POST", "/rows", "".join(betable().record((key, city, key * 10)) + "\n" for key, city in enumerate(hard)).encode())
+        for tree, keys in (("primary", 1), ("by_city", 2)):
+            whole, wanted = found.json(f"/rows/{tree}")["rows"], found.ask("GET", f"/rows/{tree}")[2]
+            expect(len(whole), len(hard))
+            for limit in (1, 5, len(hard) - 1, len(hard), len(hard) + 1):
+                rows, text, after, is_more, pages = [], b"", "", True, 0
+                while is_more:
+                    path = f"/rows/{tree}?limit={limit}{after}"
+                    page = found.json(path)
+                    status, headers, part = found.ask("GET", path + "&format=csv")
+                    expect((status, headers["Betable-More"]), (200, str(page["more"]).lower()))
+                    rows, text, is_more, pages = rows + page["rows"], text + part, page["more"], pages + 1
+                    after = "".join(f"&after={quote(str(value))}" for value in rows[-1][:keys])
+                expect((tree, limit, rows, text, pages), (tree, limit, whole, wanted, -(-len(hard) // limit)))
+            # The row of the key, and then all rows after it.
+            expect(found.json(f"/rows/{tree}?limit=1{after}")["rows"], [])
+        expect(found.json("/rows/by_city?after=Oslo&after=0")["rows"][0], ["Oslo", 10, 100])
+        expect(found.json("/rows/by_city?after=Oslo&after=5&limit=1")["rows"], [["Oslo", 10, 100]])
+        found.run(b"batch\ndel 10\nend\n")
+        expect(found.json("/rows/by_city?after=Oslo&after=10&limit=1")["rows"], [["Oslo", 11, 110]])
+        expect(found.json("/rows/by_city?from=Oslo&to=P&after=Oslo&after=0")["rows"], [["Oslo", 11, 110]])
+        # The later one of the two is the first.
+        expect(found.json("/rows/by_city?from=end&after=Oslo&after=11&limit=1")["rows"], [["end", 6, 60]])
+        expect(found.json("/rows/by_city?from=O&after=Oslo&after=0&limit=1")["rows"], [["Oslo", 11, 110]])
+        expect(found.json("/rows/primary?after=-9&to=2&limit=9"), {"columns": ["id", "city", "qty"], "more": False, "rows": [[0, "Oslo", 0], [1, "a,b", 10]]})
+
+
+def pages_are_read_without_a_script():
+    """The worker asks for no more rows than the page has, and one to see whether more follow."""
+    betable()
+    engine = __import__("betable.engine").engine
+    with tempfile.TemporaryDirectory() as folder:
+        worker = engine.Worker(f"{folder}/table")
+        with worker.table as table:
+            table.run("table 4 8 4 2 on:flag id:int data:bytes note:text\nindex i on note\nbuild i 1\nindex late on data\n")
+            table.put([(number % 2 == 1, number, bytes([number]), f"n,{number}") for number in range(8)])
+            scan, limits = table.scan, []
+            table.scan = lambda tree, start, stop, limit, after: limits.append(limit) or scan(tree, start, stop, limit, after)
+            table.replies = None
+
+            def page(*words, most=2):
+                [answer] = worker.run_group([engine.Work(f"scan {words[0]}\ngo\n".encode(), None, most, page=engine.Page(*words))]).answers
+                return answer
+
+            found = page("primary", None, None, ["FALSE", "004"])
+            expect((found.replies, found.is_cut, limits), (b'row false,6,06,"n,6"\nrow true,1,01,"n,1"\nrows 2\n', True, [3]))
+            expect(found.columns, [("on", "flag"), ("id", "int"), ("data", "bytes"), ("note", "text")])
+            expect(page("primary", ["true"], ["true", "5"], None).replies, b'row true,1,01,"n,1"\nrow true,3,03,"n,3"\nrows 2\n')
+            expect(page("i", None, None, ["n,5", "true", "5"]).replies, b'row "n,6",false,6\nrow "n,7",true,7\nrows 2\n')
+            expect(page("i", ["o"], None, None).replies, b"rows 0\n")
+            for key, part in ((["true"], "1 value, and the key has 2 (on, id)"), (["true", "x"], "'after': column 'id' (int): 'x' is no whole number")):
+                fault = page("primary", None, None, key)
+                expect(type(fault), engine.WrongKey)
+                expect_within(part, str(fault))
+            # What is refused is run, so that its reply says why.
+            table.replies = lambda script: b"refused\n"
+            refused = [("none", None, None, ["x"]), ("late", None, None, None), ("primary", ["x"], None, None), ("primary", None, ["true", "1", "2"], ["x"])]
+            for words in refused:
+                expect((words, page(*words).replies), (words, b"refused\n"))
+
+
+@with_aiohttp
 def values_of_each_kind_are_written():
     table = b"table 4 8 4 2 on:flag id:int data:bytes note:text\nload\non,id,data,note\n"
     table += b'true,-9223372036854775808,00ff,"a\nrow b"\nfalse,9223372036854775807,,x\n.\n'
@@ -281,7 +347,9 @@ def values_of_each_kind_are_written():
         rows = [[False, 2**63 - 1, "", "x"], [True, -(2**63), "00ff", "a\nrow b"]]
         expect(found.json("/rows/primary")["rows"], rows)
         expect(found.json("/row?key=true&key=-9223372036854775808")["rows"], rows[1:])
-        expect(found.ask("GET", "/rows/primary")[2], b'false,9223372036854775807,,x\ntrue,-9223372036854775808,00ff,"a\nrow b"\n')
+        for path in ("/rows/primary", "/rows/primary?limit=2"):
+            expect(found.ask("GET", path)[2], b'false,9223372036854775807,,x\ntrue,-9223372036854775808,00ff,"a\nrow b"\n')
+            expect(found.json(path)["rows"], rows)
 
 
 @with_aiohttp
@@ -391,8 +459,8 @@ window.isAway = true;
 const table = {columns: [{name: "id", kind: "int"}, {name: "city", kind: "text"}], key: ["id"], trees: {primary: {columns: ["id", "city"], key: ["id"]}}};
 const json = (found, status = 200) => new Response(JSON.stringify(found), {status});
 window.fetch = async (path, options = {}) => {
-  const url = new URL(path, "http://localhost/"), from = Number(url.searchParams.get("from") || 0), limit = Number(url.searchParams.get("limit"));
-  const ids = [...Array(120).keys()].filter(id => id >= from);
+  const url = new URL(path, "http://localhost/"), after = Number(url.searchParams.get("after") || -1), limit = Number(url.searchParams.get("limit"));
+  const ids = [...Array(120).keys()].filter(id => id > after);
   if (isAway) throw new TypeError("Failed to fetch");
   switch (url.pathname) {
     case "/trees": return json(table);
@@ -474,6 +542,16 @@ BAD_REQUESTS = [
     ("GET", "/rows/primary?from=%ff", {}, None, 400, "utf-8"),
     ("GET", "/rows/primary?from=x", {}, None, 422, "id"),
     ("GET", "/rows/primary?from=1&from=2", {}, None, 422, "2"),
+    ("GET", "/rows/primary?from=x&limit=1", {}, None, 422, "id"),
+    ("GET", "/rows/primary?from=x&after=1", {}, None, 422, "id"),
+    ("GET", "/rows/primary?after=x", {}, None, 400, "'after': column 'id' (int): 'x' is no whole number"),
+    ("GET", "/rows/primary?after=1&after=2", {}, None, 400, "'after': 2 values, and the key has 1 (id)"),
+    ("GET", "/rows/by_city?after=Oslo", {}, None, 400, "'after': 1 value, and the key has 2 (city, id)"),
+    ("GET", "/rows/by_city?after=a%0ab&after=1", {}, None, 400, "'after': 'a\\nb' has a line break"),
+    ("GET", "/rows/none?after=x", {}, None, 404, "none"),
+    ("GET", "/rows/building?limit=1", {}, None, 409, "building"),
+    ("GET", "/sums/primary?of=qty&after=1", {}, None, 400, "'after' is no parameter"),
+    ("GET", "/rows/primary?limit=abc", {}, None, 400, "'limit' is a number from 1 to 999999999, and not 'abc'"),
     ("GET", "/rows/primary?limit=0", {}, None, 400, "limit"),
     ("GET", "/rows/primary?limit=-1", {}, None, 400, "limit"),
     ("GET", "/rows/primary?limit=1234567890", {}, None, 400, "limit"),
@@ -1039,6 +1117,8 @@ TESTS_OF_TEXTS = [
     replies_come_as_json_with_their_commands,
     long_json_of_replies_comes_in_parts,
     rows_go_in_and_come_out,
+    a_page_after_a_key_begins_with_the_next_row,
+    pages_are_read_without_a_script,
     values_of_each_kind_are_written,
     sums_are_of_groups,
     trees_are_told_and_drawn,

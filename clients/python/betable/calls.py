@@ -24,7 +24,7 @@ from .packed import MOST_ROWS, TreeColumn, Usage
 from .replies import Place, Reply, answered, kinds_of_rows, rows_of_reply
 from .rows import (
     ARRAY_TYPES, UNKNOWN, VALUES, Column, ColumnValues, Layout, Value, as_iterator, as_tuple, columns_of, columns_of_rows, key_fields, layout,
-    line_field, part_of_column, records, rows_of_columns, shown, values_by_column,
+    line_field, part_of_column, records, rows_of_columns, shown, value_of_field, values_by_column,
 )  # fmt: skip
 
 MOST_MESSAGES = language.MOST_MESSAGES
@@ -510,9 +510,9 @@ def _shown_condition(index: language.Index, kinds: dict[bytes, bytes]) -> tuple[
     """The condition of an index, with its value as one of Python."""
     if index.condition is None:
         return None
-    column, operator, constant = index.condition
-    kind = kinds[column]
-    return column.decode(), operator.decode(), VALUES[kind.decode()](language.KINDS[kind].printed(constant).decode())
+    name, operator, constant = index.condition
+    column = Column(name.decode(), kinds[name].decode())
+    return column.name, operator.decode(), value_of_field(constant.decode(), column)
 
 
 def _refuse_gzip(start: bytes, path: str | os.PathLike[str]) -> None:

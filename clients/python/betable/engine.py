@@ -19,12 +19,12 @@ from collections.abc import Callable
 from pathlib import Path
 from typing import Any, BinaryIO, NamedTuple
 
-from .durable import FAULTS, ReplyDamaged, RequestReused, RolledBack, ScriptTooLong, open as open_table
-from .errors import OutOfMemory
-from .language import State
+from .durable import FAULTS, ReplyDamaged, RequestReused, ScriptTooLong, open as open_table
+from .errors import Refused
+from .language import State, counted
 from .packed import Usage
 from .replies import reply_end
-from .session import Session
+from .rows import UNKNOWN, Layout, Value, layout, printed_records, value_of_field
 
 # The largest number of requests in a group, and the bytes of scripts that close one.
 MOST_GROUP, GROUP_BYTES = 256, 16 << 20
@@ -39,14 +39,25 @@ PR_SET_PDEATHSIG = 1
 LAST_WORDS = {b"row ": b"rows", b"sum ": b"sums"}
 
 
+class Page(NamedTuple):
+    """Rows of a tree: from a key to before another, and after the key of a row. Each is given by the fields of its values, or is None."""
+
+    tree: str
+    start: list[str] | None
+    stop: list[str] | None
+    after: list[str] | None
+
+
 class Work(NamedTuple):
     """A script to be run, or a checkpoint if there is none. A script with the id of a request is run exactly once. A script with `most_rows` is one `get`,
-    `scan` or `sums`: at most that many rows or groups of its reply are returned, and their columns. A script with `image_of` is the `image` of that tree."""
+    `scan` or `sums`: at most that many rows or groups of its reply are returned, and their columns. A script with `page` is the `scan` of that range, and the
+    page is read in its place unless it is refused. A script with `image_of` is the `image` of that tree."""
 
     script: bytes | None
     request: str | None = None
     most_rows: int | None = None
     image_of: str | None = None
+    page: Page | None = None
 
 
 class Answer(NamedTuple):
@@ -71,6 +82,10 @@ class Result(NamedTuple):
     log_bytes: int = 0
     request_bytes: int = 0
     state: State | None = None
+
+
+class WrongKey(Exception):
+    """A page cannot begin after this key, as the tree has no such keys."""
 
 
 class Lost(Exception):
@@ -113,15 +128,10 @@ def main() -> int:
 
 
 class Worker:
-    """The durable table of a server, and the session that runs its scripts."""
+    """The durable table of a server."""
 
     def __init__(self, path: str) -> None:
-        self.session: Session
-        self.table = open_table(path, make=self._made)
-
-    def _made(self) -> Session:
-        self.session = Session()
-        return self.session
+        self.table = open_table(path)
 
     def run_group(self, group: list[Work]) -> Result:
         """Runs works and keeps what they changed by one commit. If one of them fails, nothing of the group is kept, and each is run by itself."""
@@ -147,7 +157,11 @@ class Worker:
         if work.image_of is not None and (usage := self._usage(work.image_of)) and usage.rows + usage.messages > MOST_IMAGE_ITEMS:
             return Answer(b"", table.number, usage=usage)
         try:
+            if work.page is not None and (answer := self._page(work.page, work.most_rows or ALL_ROWS)):
+                return answer
             replies = table.replies(script) if work.request is None else table.once(work.request, script)
+        except WrongKey as fault:
+            return fault
         except (RequestReused, ReplyDamaged, ScriptTooLong) as fault:
             return fault  # nothing was run, and the group goes on
         if work.image_of is not None and len(replies) > MOST_IMAGE_BYTES:
@@ -159,13 +173,37 @@ class Worker:
 
     def _usage(self, tree: str) -> Usage | None:
         """How much a tree holds, if there is one of this name."""
-        known = self.table.state.table
-        if known is None or not known.has_tree(tree.encode()):
+        return None if layout(self.table.state.table, tree) is UNKNOWN else self.table.usage(tree)
+
+    def _page(self, page: Page, most: int) -> Answer | None:
+        """At most that many rows of a page, written as the reply to a scan of them. None if the scan would be refused."""
+        there = layout(self.table.state.table, page.tree)
+        if there is UNKNOWN:
             return None
         try:
-            return self.session.usage(tree)
-        except OutOfMemory as fault:
-            raise RolledBack(str(fault)) from fault
+            start, stop = _key_values(page.start, there), _key_values(page.stop, there)
+        except ValueError:
+            return None
+        try:
+            after = _key_values(page.after, there, len(there.key))
+        except ValueError as fault:
+            raise WrongKey(f"'after': {fault}") from None
+        try:
+            rows = self.table.scan(page.tree, start, stop, None if most == ALL_ROWS else most + 1, after)
+        except Refused:
+            return None
+        found = printed_records(rows[:most], there.kinds)
+        replies = "".join([f"row {line}\n" for line in found]) + f"rows {len(found)}\n"
+        return Answer(replies.encode(), self.table.number, len(rows) > most, [(column.name, column.kind) for column in there.columns])
+
+
+def _key_values(fields: list[str] | None, there: Layout, least: int = 1) -> tuple[Value, ...] | None:
+    """The values of the fields of a key, or of the first ones of it. A ValueError says why there are none."""
+    if fields is None:
+        return None
+    if not least <= len(fields) <= len(there.key):
+        raise ValueError(f"{counted(len(fields), 'value')}, and the key has {len(there.key)} ({', '.join(column.name for column in there.key)})")
+    return tuple([value_of_field(field, column) for field, column in zip(fields, there.key)])
 
 
 def _columns(state: State, script: bytes) -> list[tuple[str, str]]:

@@ -10,7 +10,7 @@ from urllib.parse import parse_qsl
 from aiohttp import web
 
 from .durable import CHANGING_LINE, IndexBuilding, ReplyDamaged, RequestReused, ScriptTooLong
-from .engine import Closed, Lost
+from .engine import Closed, Lost, Page, WrongKey
 from .errors import Refused
 from .forms import name_fault
 from .language import NUMBER, broken_quotes_of_lines
@@ -44,7 +44,7 @@ def problem_of(fault: Exception) -> Problem:
         return Problem(503, reason, {"Retry-After": "1"})
     if isinstance(fault, Closed):
         return Problem(503, "the engine is starting: nothing was done, so try again", {"Retry-After": "1"})
-    for kind, status in ((IndexBuilding, 409), (RequestReused, 422), (ScriptTooLong, 413), (ReplyDamaged, 500)):
+    for kind, status in ((WrongKey, 400), (IndexBuilding, 409), (RequestReused, 422), (ScriptTooLong, 413), (ReplyDamaged, 500)):
         if isinstance(fault, kind):
             return Problem(status, str(fault))
     return Problem(507, str(fault))
@@ -81,7 +81,7 @@ def number_of(query: dict[str, list[str]], name: str, otherwise: int) -> int:
         return otherwise
     word = query[name][0]
     if not NUMBER.fullmatch(word.encode("utf-8", "replace")) or int(word) == 0:
-        raise Problem(400, f"'{name}' is a number of 1 to 9 digits, and not 0")
+        raise Problem(400, f"'{name}' is a number from 1 to 999999999, and not '{word[:40]}'")
     return int(word)
 
 
@@ -106,6 +106,15 @@ def record_of(name: str, values: list[str]) -> str:
 def bounds_of(query: dict[str, list[str]]) -> str:
     """The lines of a block that bound a range: a parameter has a value for each column."""
     return "".join(f"{word} {record_of(word, query[word])}\n" for word in ("from", "to") if word in query)
+
+
+def page_of(tree: str, query: dict[str, list[str]]) -> Page | None:
+    """The page that is asked for, or None for all rows of a range."""
+    if "after" in query:
+        record_of("after", query["after"])
+    elif "limit" not in query:
+        return None
+    return Page(tree, query.get("from"), query.get("to"), query.get("after"))
 
 
 def request_id(request: web.Request) -> str | None:

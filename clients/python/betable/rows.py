@@ -20,7 +20,7 @@ from collections.abc import Callable, Iterable, Iterator, Mapping, Sequence, Set
 from typing import Any, NamedTuple, TypeAlias
 
 from .errors import RowTypeError, RowValueError
-from .language import GREATEST_INT, LEAST_INT, PRIMARY, Index, Table, counted
+from .language import GREATEST_INT, KINDS, LEAST_INT, PRIMARY, Index, Table, counted
 
 Value = int | str | bool | bytes
 # The values of a column: of one of kind int, or of another.
@@ -358,6 +358,14 @@ def line_field(value: Any, column: Column, row: int | None, taken: int = 0) -> s
 # ---- records as rows ----
 
 
+def value_of_field(field: str, column: Column) -> Value:
+    """The value of a field of a column. A ValueError says why it is none."""
+    kind, given = KINDS[column.kind.encode()], field.encode()
+    if reason := kind.fault(given):
+        raise ValueError(f"column '{column.name}' ({column.kind}): {reason}")
+    return VALUES[column.kind](kind.printed(given).decode())
+
+
 def rows_of(lines: list[str], kinds: Sequence[str]) -> list[tuple[Value, ...]]:
     """The rows of records as they are printed, by the kinds of their columns. Where no kind is known a value is its text."""
     if not lines:
@@ -373,3 +381,27 @@ def rows_of(lines: list[str], kinds: Sequence[str]) -> list[tuple[Value, ...]]:
         count = len(fields) // len(lines)
         columns = [fields[place::count] for place in range(count)]
     return list(zip(*[column if kind == "text" else map(VALUES[kind], column) for kind, column in zip(kinds or ["text"] * len(columns), columns)]))
+
+
+# ---- rows as they are printed ----
+
+
+class _Lines(list[str]):
+    """What a writer of CSV has written: a record at a time."""
+
+    write = list.append
+
+
+def printed_records(rows: list[tuple[Value, ...]], kinds: Sequence[str]) -> list[str]:
+    """The records of rows, as the library prints them in a reply."""
+    printed = [PRINTED.get(kind) for kind in kinds]
+    if any(printed):
+        rows = list(zip(*[values if write is None else map(write, values) for values, write in zip(zip(*rows), printed)]))
+    lines = _Lines()
+    # With this end of lines a text with either of its letters is in quotes.
+    csv.writer(lines, lineterminator="\r\n").writerows(rows)
+    return [line[:-2] for line in lines]
+
+
+# By kind, how its values are printed where `str` does not do it.
+PRINTED: dict[str, Callable[[Any], str]] = {"flag": _flag_field, "bytes": bytes.hex}

@@ -24,7 +24,7 @@ from prometheus_client import CollectorRegistry, Counter, Gauge, Histogram, Proc
 
 from .calls import refusal
 from .durable import FAULTS
-from .engine import ALL_ROWS, Answer, Closed, Engine, Lost, Result, Work
+from .engine import ALL_ROWS, Answer, Closed, Engine, Lost, Page, Result, Work, WrongKey
 from .errors import Refused
 from .http_answers import (
     content_policy, csv_rows, event_of, json_replies, json_rows, picture_of, refusal_of_rows, refused_count, start_event, too_large, trees_of,
@@ -32,7 +32,8 @@ from .http_answers import (
 from .http_connections import FILES_BESIDE, Connections, client_of, raised_limit_of_files
 from .http_notices import Notices
 from .http_requests import (
-    Problem, batch_of, bounds_of, changing_word, checked_name, host_name, is_json, is_loopback, number_of, problem_of, query_of, record_of, request_id, tree_of,
+    Problem, batch_of, bounds_of, changing_word, checked_name, host_name, is_json, is_loopback, number_of, page_of, problem_of, query_of, record_of, request_id,
+    tree_of,
 )  # fmt: skip
 from .language import MOST_SCRIPT_BYTES, State, commands
 from .replies import BLOCK_BYTES
@@ -150,7 +151,7 @@ class Service:
             response = response_of(Problem(fault.status, f"{fault.reason}: {request.method} {request.path}", allowed))
         except Problem as problem:
             response = response_of(problem)
-        except (Refused, Lost, Closed, *FAULTS) as fault:
+        except (Refused, Lost, Closed, WrongKey, *FAULTS) as fault:
             response = response_of(problem_of(fault))
         except web.RequestPayloadError:
             response = response_of(Problem(400, "the body cannot be read: its chunks are not those of HTTP/1.1"))
@@ -338,8 +339,8 @@ class Service:
         return await self.rows(request, f"get {record_of('key', query['key'])}\n", query)
 
     async def get_rows(self, request: web.Request) -> web.StreamResponse:
-        query = query_of(request, "from", "to", "limit", "format")
-        return await self.rows(request, f"scan {tree_of(request)}\n{bounds_of(query)}go\n", query)
+        query, tree = query_of(request, "from", "to", "after", "limit", "format"), tree_of(request)
+        return await self.rows(request, f"scan {tree}\n{bounds_of(query)}go\n", query, page_of(tree, query))
 
     async def get_sums(self, request: web.Request) -> web.StreamResponse:
         query = query_of(request, "columns", "of", "from", "to", "limit", "format")
@@ -348,11 +349,11 @@ class Service:
         head = f"sums {tree_of(request)} {number_of(query, 'columns', 1)} {checked_name(query['of'][0])}\n"
         return await self.rows(request, f"{head}{bounds_of(query)}go\n", query)
 
-    async def rows(self, request: web.Request, text: str, query: dict[str, list[str]]) -> web.StreamResponse:
-        """The rows of a `get`, a `scan` or of `sums`, as CSV or as JSON."""
+    async def rows(self, request: web.Request, text: str, query: dict[str, list[str]], page: Page | None = None) -> web.StreamResponse:
+        """The rows of a `get`, of a `scan` or a page of it, or of `sums`, as CSV or as JSON."""
         script, as_json = text.encode(), is_json(request, query.get("format", [""])[0])
         with self.place():
-            answer = await self.engine.run(Work(script, None, number_of(query, "limit", ALL_ROWS)))
+            answer = await self.engine.run(Work(script, None, number_of(query, "limit", ALL_ROWS), page=page))
         self.hold(request, len(answer.replies))
         if answer.replies.startswith(b"refused "):
             raise refusal(next(commands(script)), answer.replies, self.engine.state, [])
