@@ -889,6 +889,45 @@ def a_csv_file_of_any_size_is_put_in_batches():
             expect([type(fault_of(lambda: session.put_csv(path, None, most))) for most in (0, "1")], [ValueError, TypeError])
 
 
+@both_ways
+def a_csv_file_is_cut_by_lines_where_it_has_no_quotes():
+    """With the same records, and the same lines of faults, as a load has. Where a block has a quote or a carriage return, its records are found one by one."""
+    client, module = betable(), sys.modules["betable.csv_input"]
+    block, cut, cuts = module.BLOCK, module._records, []
+    plain = "\ufeffid,city\n" + "".join(f"{number},city {number % 9}\n" + "\n" * (number % 3 == 0) for number in range(200))
+    quoted = "".join(f'{number},"a ""b"", {number}"\r\n\r\n' for number in range(200, 240))
+    after = "".join(f"{number},{'x' * (number % 60)}\n" for number in range(240, 400))
+    module._records = lambda *given: cuts.append(given[0]) or cut(*given)
+    try:
+        with tempfile.TemporaryDirectory() as folder:
+            path = Path(folder) / "cities.csv"
+            for text, count in ((plain, 200), (plain + quoted, 240), (plain + quoted + after, 400), (plain.removesuffix("\n"), 200), (plain.replace("\n", "\r"), 200)):
+                path.write_text(text, newline="")
+                for module.BLOCK in (1, 30, 64, 1_000, block):
+                    cuts.clear()
+                    with client.Session() as session, client.Session() as loaded:
+                        session.table("id:int city:text")
+                        loaded.table("id:int city:text")
+                        expect((session.put_csv(path, most=50), loaded.load_csv(path)), (count, count))
+                        expect((module.BLOCK, count, session.scan() == loaded.scan()), (module.BLOCK, count, True))
+                    expect((module.BLOCK, bool(cuts)), (module.BLOCK, '"' in text or "\r" in text))
+                    if module.BLOCK < 1_000 and text.endswith(after):
+                        # After the quotes it is cut by lines again.
+                        expect(any(b"399," in one for one in cuts), False)
+                wrong = text + "\n\nx,y\n"
+                path.write_text(wrong, newline="")
+                line = wrong[: wrong.index("x,y")].count("\n") + 1
+                for module.BLOCK in (1, 30, 1_000, block):
+                    with client.Session() as session:
+                        session.table("id:int city:text")
+                        fault = fault_of(lambda: session.put_csv(path, most=50))
+                        expect(type(fault), client.Refused)
+                        expect_within(f"{path}, line {line}: column 1 'id' (int): 'x' is no", str(fault))
+                        expect((fault.taken, len(session.scan())), ((count + 1) // 50 * 50 - 1, (count + 1) // 50 * 50 - 1))
+    finally:
+        module.BLOCK, module._records = block, cut
+
+
 def exceptions_can_be_pickled():
     client = betable()
     faults = [
@@ -1016,6 +1055,7 @@ TESTS_OF_TEXTS = [
     names_that_are_no_text_are_refused,
     a_load_names_the_line_of_its_file,
     a_csv_file_of_any_size_is_put_in_batches,
+    a_csv_file_is_cut_by_lines_where_it_has_no_quotes,
     exceptions_can_be_pickled,
     a_session_says_what_it_has,
     a_missing_library_is_named,

@@ -330,10 +330,10 @@ class Calls(ABC):
 
     def _put_part(self, part: Part, taken: int, path: str | os.PathLike[str]) -> None:
         """Puts the records of a part of a CSV file."""
-        for line, record in zip(part.lines, part.records):
-            if b"\n" in record or b"\r" in record:
-                raise RowValueError(f"{os.fspath(path)}, line {line}: a field has a line break, which only load_csv takes", value=record, taken=taken)
-        script = b"batch\n%bend\n" % b"".join([b"put %b\n" % record for record in part.records])
+        script = b"batch\nput %b\nend\n" % b"\nput ".join(part.records) if part.records else b"batch\nend\n"
+        if script.count(b"\n") > len(part.records) + 2 or b"\r" in script:
+            line, record = next(one for one in zip(part.lines, part.records) if b"\n" in one[1] or b"\r" in one[1])
+            raise RowValueError(f"{os.fspath(path)}, line {line}: a field has a line break, which only load_csv takes", value=record, taken=taken)
         try:
             reply = self.replies(script)
         except OutOfMemory as fault:
