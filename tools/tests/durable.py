@@ -245,6 +245,19 @@ def reads_change_nothing_of_the_file():
         expect((table.number, table.log_bytes, files_of(path)), before)
 
 
+def rows_of_a_durable_table_are_written_as_those_of_a_session():
+    with folder() as path, durable().open(path / "t") as table, betable().Session() as session:
+        for number, one in enumerate((table, session)):
+            one.run(INDEXED)
+            one.put([*ROWS, (40, 'a "b", c', 1), (41, "", 2)])
+            expect((one.to_csv(path / f"rows{number}"), one.to_csv(path / f"index{number}", "by_city", ("b",))), (42, 26))
+        for name in ("rows", "index"):
+            expect((path / f"{name}0").read_bytes(), (path / f"{name}1").read_bytes())
+        with durable().open(path / "copy") as copied:
+            copied.run(TABLE)
+            expect((copied.put_csv(path / "rows0", most=5), copied.scan()), (42, table.scan()))
+
+
 def reads_see_what_their_group_has_changed():
     with folder() as path, durable().open(path / "t") as table:
         table.run(TABLE)
@@ -1386,6 +1399,7 @@ TESTS_OF_TEXTS = [
     typed_calls_know_the_columns_of_a_table_that_is_opened_again,
     reads_are_those_of_the_session_and_run_no_script,
     reads_change_nothing_of_the_file,
+    rows_of_a_durable_table_are_written_as_those_of_a_session,
     reads_see_what_their_group_has_changed,
     an_iterator_goes_on_over_a_rollback,
     a_read_that_runs_out_of_memory_is_rolled_back,

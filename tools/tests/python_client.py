@@ -328,6 +328,7 @@ def names_are_never_a_piece_of_a_script():
         "state": None,
         "sums": lambda s: s.sums("by_city", 1, text),
         "table": lambda s: s.table([(text, "int")]),
+        "to_csv": lambda s: s.to_csv("/nowhere/rows.csv", text),
         "trees": None,
         "upsert": lambda s: s.upsert(4, set={"city": text}),
         "usage": lambda s: s.usage(text),
@@ -928,6 +929,71 @@ def a_csv_file_is_cut_by_lines_where_it_has_no_quotes():
         module.BLOCK, module._records = block, cut
 
 
+@both_ways
+def rows_come_back_from_a_csv_file_as_they_were():
+    """Of more rows than a page has, with all that needs quotes, in the order of the tree. What `put_csv` takes has no line breaks."""
+    client, module = betable(), sys.modules["betable.calls"]
+    texts = ["", ".", "..", " x ", "a,b", '"', 'say "so"', "\ufeff", "\ufeffx", "æ", "\0", "end", "put 1", "'", "#", "\t"]
+    breaks = ["a\nb", "\r\n", "\n\n", 'x"\n,"y', "a\rb", "\n"]
+    page = module.CSV_ROWS
+    with tempfile.TemporaryDirectory() as folder:
+        path = Path(folder) / "rows.csv"
+        try:
+            for module.CSV_ROWS in (1, 7, page):
+                for given, calls in ((texts, ("load_csv", "put_csv")), (texts + breaks, ("load_csv",))):
+                    for columns, rows in (
+                        ("t:text", [(text,) for text in given]),
+                        ("t:text n:int f:flag b:bytes", [(text, place - 3, place % 2 == 1, bytes(range(place))) for place, text in enumerate(given)]),
+                        ("n:int t:text", []),
+                    ):
+                        with client.Session() as session:
+                            session.table(columns)
+                            session.load(rows)
+                            expect(session.to_csv(path), len(rows))
+                            wanted = session.scan()
+                        for call in calls:
+                            with client.Session() as session:
+                                session.table(columns)
+                                expect((columns, call, getattr(session, call)(path)), (columns, call, len(rows)))
+                                expect((columns, call, session.scan()), (columns, call, wanted))
+                        path.unlink()
+        finally:
+            module.CSV_ROWS = page
+        path.write_bytes(b'id,city\r\n\r\n2,"a ""b"", c"\r\n\r\n\r\n1,Oslo\r\n3,\r\n')
+        with client.Session() as session, client.Session() as again:
+            for one in (session, again):
+                one.table("id:int city:text")
+            session.index("by_city", on="city")
+            expect((session.put_csv(path), session.to_csv(f"{folder}/a.csv")), (3, 3))
+            expect(Path(folder, "a.csv").read_bytes(), b'id,city\n1,Oslo\n2,"a ""b"", c"\n3,""\n')
+            expect((again.put_csv(f"{folder}/a.csv"), again.scan()), (3, session.scan()))
+            expect(session.to_csv(Path(folder, "b.csv"), "by_city", ("O",), ("a",)), 1)
+            expect(Path(folder, "b.csv").read_bytes(), b"city,id\nOslo,1\n")
+
+
+@both_ways
+def a_csv_file_that_is_not_written_leaves_nothing():
+    client = betable()
+    with tempfile.TemporaryDirectory() as folder, client.Session() as session, client.Session() as other:
+        path = Path(folder) / "rows.csv"
+        session.table("id:int city:text")
+        session.put([(number, "x") for number in range(9)])
+        session.index("building", on="city", build=False)
+        path.write_bytes(b"before\n")
+        for call, kind, said in (
+            (lambda: session.to_csv(path), FileExistsError, f"{path} is there already"),
+            (lambda: session.to_csv(f"{folder}/none/rows.csv"), FileNotFoundError, "none/rows.csv.part"),
+            (lambda: session.to_csv(f"{folder}/a", "none"), client.Refused, "no tree is named 'none'"),
+            (lambda: session.to_csv(f"{folder}/b", "building"), client.Refused, "refused 11 Building"),
+            (lambda: session.to_csv(f"{folder}/c", "primary", 5), client.RowTypeError, "a bound is a tuple"),
+            (lambda: other.to_csv(f"{folder}/d"), client.Refused, "refused 3 NoTable"),
+        ):
+            fault = fault_of(call)
+            expect((said, type(fault)), (said, kind))
+            expect_within(said, str(fault))
+        expect(([one.name for one in Path(folder).iterdir()], path.read_bytes()), (["rows.csv"], b"before\n"))
+
+
 def exceptions_can_be_pickled():
     client = betable()
     faults = [
@@ -1056,6 +1122,8 @@ TESTS_OF_TEXTS = [
     a_load_names_the_line_of_its_file,
     a_csv_file_of_any_size_is_put_in_batches,
     a_csv_file_is_cut_by_lines_where_it_has_no_quotes,
+    rows_come_back_from_a_csv_file_as_they_were,
+    a_csv_file_that_is_not_written_leaves_nothing,
     exceptions_can_be_pickled,
     a_session_says_what_it_has,
     a_missing_library_is_named,

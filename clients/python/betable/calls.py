@@ -8,6 +8,7 @@ import sys
 from abc import ABC, abstractmethod
 from array import array
 from collections.abc import Callable, Iterable, Iterator, Mapping, Sequence
+from contextlib import suppress
 from copy import copy
 from io import BytesIO
 from itertools import islice
@@ -28,6 +29,7 @@ from .rows import (
 )  # fmt: skip
 
 MOST_MESSAGES = language.MOST_MESSAGES
+CSV_ROWS = 10_000  # of a page that is written to a CSV file
 Row = tuple[Value, ...]
 # The first values of a key, or no bound.
 Bound = tuple[Any, ...] | None
@@ -179,6 +181,27 @@ class Calls(ABC):
                 if progress is not None:
                     progress(part.end, size)
         return taken
+
+    def to_csv(self, path: str | os.PathLike[str], tree: str = "primary", start: Bound = None, stop: Bound = None) -> int:
+        """Writes the rows that a scan gives to a new CSV file, in UTF-8 and with a header, and returns their number. They are read and written a page at a time.
+        Texts are in quotes where `load_csv` and `put_csv` need them. The file has its name once it is whole."""
+        path = os.path.abspath(os.fsdecode(path))
+        columns, rows = layout(self.state.table, checked_name(tree, "a tree")).columns, self.iterate(tree, start, stop, CSV_ROWS)
+        if os.path.lexists(path):
+            raise FileExistsError(f"{path} is there already: rows are written to a new file")
+        part, count = f"{path}.part", 0
+        try:
+            with open(part, "wb") as file:
+                file.write(f"{','.join(column.name for column in columns)}\n".encode())
+                while page := list(islice(rows, CSV_ROWS)):
+                    file.write(records(page, columns, is_load=True).encode())
+                    count += len(page)
+            os.rename(part, path)
+        except BaseException:
+            with suppress(OSError):
+                os.remove(part)
+            raise
+        return count
 
     def get(self, *key: Any) -> Row | None:
         """The row of a key, or None."""
