@@ -400,8 +400,10 @@ def reads_of_a_replica_are_those_of_its_session():
         expect([next(found)[0] for _ in rows[1:]], [*range(29)])
         one.put([(29, "new", 1), (30, "new", 1)])
         expect([row[0] for row in found], [29, 30])
+        runner = two._runner
         wrong = [fault_of(lambda: call(table)) for table in (session, two) for call in (lambda table: table.get("x"), lambda table: table.scan(limit=-1))]
         expect([(type(fault), str(fault)) for fault in wrong[:2]], [(type(fault), str(fault)) for fault in wrong[2:]])
+        expect(two._runner is runner, True)
 
 
 def a_replica_whose_scripts_were_lost_stops_and_changes_nothing():

@@ -869,6 +869,7 @@ def a_csv_file_of_any_size_is_put_in_batches():
                 ("id,city\n1,a\n\n2,b,x\n", client.Refused, f"{path}, line 4: 3 fields, and a put has 2 (id, city)"),
                 ('id,city\n1,a\nx,"b"\n', client.Refused, f"{path}, line 3: column 1 'id' (int): 'x' is no"),
                 ('id,city\n1,a\n3,"b\nc"\n', client.RowValueError, f"{path}, line 3: a field has a line break, which only load_csv takes"),
+                ('id,city\n1,a\n\n3,"b\rc"\n', client.RowValueError, f"{path}, line 4: a field has a line break, which only load_csv takes"),
                 ('id,city\n1,a\n3,"b\n', client.RowValueError, f"{path}, line 3: a field has a line break"),
                 ("id,town\n1,a\n", client.RowValueError, f"{path}, line 1: the header is 'id,town', and the columns are id,city"),
                 ("\n\n1,a\n", client.RowValueError, f"{path}, line 3: the header is '1,a', and the columns are id,city"),

@@ -183,8 +183,8 @@ class Calls(ABC):
         return taken
 
     def to_csv(self, path: str | os.PathLike[str], tree: str = "primary", start: Bound = None, stop: Bound = None) -> int:
-        """Writes the rows that a scan gives to a new CSV file, in UTF-8 and with a header, and returns their number. They are read and written a page at a time.
-        Texts are in quotes where `load_csv` and `put_csv` need them. The file has its name once it is whole."""
+        """Writes the rows that a scan gives to a new CSV file, in UTF-8 and with a header, and returns their number. They are read and written a page at a
+        time. Texts are in quotes where `load_csv` and `put_csv` need them. The file has its name once it is whole."""
         path = os.path.abspath(os.fsdecode(path))
         columns, rows = layout(self.state.table, checked_name(tree, "a tree")).columns, self.iterate(tree, start, stop, CSV_ROWS)
         if os.path.lexists(path):
