@@ -13,8 +13,9 @@ other and begins with another one:
     redis      redis-server, if it is installed: a hash for a row, in one MULTI for a batch, written before the clock runs; appendonly, appendfsync always
 
 Printed are rows a second by the clock, and the ratios to SQLite in the same round, the middle ones of all rounds. Then the time to open a table of many rows,
-from its log and from a checkpoint, beside SQLite's to open a file of the same rows and read each of them once. The files are in a folder that is made in
-FOLDER, or where temporary files are. The library is that of BETABLE_LIBRARY, or of out/ of this repository.
+from its log and from a checkpoint, beside SQLite's to open a file of the same rows and read each of them once. Then the processor time of single reads of a
+durable table, of a session with the same rows, and of SQLite. The files are in a folder that is made in FOLDER, or where temporary files are. The library is
+that of BETABLE_LIBRARY, or of out/ of this repository.
 """
 
 import argparse
@@ -28,7 +29,7 @@ import sys
 import tempfile
 import time
 from collections.abc import Callable, Iterator
-from contextlib import contextmanager
+from contextlib import closing, contextmanager
 from pathlib import Path
 from statistics import median
 
@@ -42,6 +43,7 @@ CITIES = ["Oslo", "Bergen", "Trondheim", "Stavanger", "Molde"]
 # Rows of a batch, and of all batches.
 SIZES = {1: 2_000, 100: 200_000, 1_000: 400_000, 10_000: 400_000}
 GROUP, LARGE_BATCH = 16, 10_000
+READS, PAGE = 2_000, 100  # calls of each kind of read, and rows of a page
 Row = tuple[int, str, int]
 Way = Callable[[str, list[Row], int], float]
 
@@ -226,6 +228,46 @@ def starts(folder: str, count: int, rounds: int) -> None:
         print(f"| {name} | {median(seconds):.4f} | {count / median(seconds):,.0f} | {notes.get(name, '')} |")
 
 
+def reads(folder: str, count: int, rounds: int) -> None:
+    rows, dice, found = rows_of(count), random.Random(2), {}
+    keys = [dice.randrange(count) for _ in range(READS)]
+    path = f"{folder}/reads"
+    with durable.open(path, sync=False) as table, Session() as session, closing(sqlite_file(f"{path}.sqlite")) as db:
+        for one in (table, session):
+            one.run(HEAD + INDEX)
+            one.put(rows)
+        db.execute("CREATE INDEX by_city ON t(city, id, qty)")
+        with db:
+            db.execute("BEGIN")
+            db.executemany("INSERT INTO t VALUES(?, ?, ?)", rows)
+        ways: dict[str, tuple[Callable[[int], object], ...]] = {
+            "a row": (table.get, session.get, lambda key: db.execute("SELECT * FROM t WHERE id = ?", (key,)).fetchone()),
+            f"{PAGE} rows from a key on": (
+                lambda key: table.scan("primary", (key,), None, PAGE), lambda key: session.scan("primary", (key,), None, PAGE),
+                lambda key: db.execute("SELECT * FROM t WHERE id >= ? ORDER BY id LIMIT ?", (key, PAGE)).fetchall(),
+            ),
+            f"{PAGE} rows of a city after a key": (
+                lambda key: table.scan("by_city", None, ("Oslo\0",), PAGE, ("Oslo", key)),
+                lambda key: session.scan("by_city", None, ("Oslo\0",), PAGE, ("Oslo", key)),
+                lambda key: db.execute("SELECT city, id, qty FROM t WHERE city = 'Oslo' AND id > ? ORDER BY id LIMIT ?", (key, PAGE)).fetchall(),
+            ),
+        }  # fmt: skip
+        for name, calls in ways.items():
+            if len({repr(call(keys[0])) for call in calls}) > 1:
+                sys.exit(f"durable: {name} differs")
+            seconds: list[list[float]] = [[] for _ in calls]
+            for _ in range(rounds):
+                for call, times in zip(calls, seconds):
+                    begin = time.process_time()
+                    for key in keys:
+                        call(key)
+                    times.append(time.process_time() - begin)
+            found[name] = [1e6 * median(times) / READS for times in seconds]
+    print(f"\n| one read of {count:,} rows, in microseconds | durable | session | sqlite |\n|---|---|---|---|")
+    for name, figures in found.items():
+        print(f"| {name} | {' | '.join(f'{figure:.1f}' for figure in figures)} |")
+
+
 def main() -> None:
     parser = argparse.ArgumentParser(description=__doc__, formatter_class=argparse.RawDescriptionHelpFormatter)
     parser.add_argument("--rounds", type=int, default=5)
@@ -239,6 +281,7 @@ def main() -> None:
     with tempfile.TemporaryDirectory(dir=words.folder) as folder:
         ingest(folder, words.rounds)
         starts(folder, words.start_rows, words.rounds)
+        reads(folder, words.start_rows, words.rounds)
     print(f"\nload {', '.join(f'{load:.1f}' for load in os.getloadavg())}")
 
 
