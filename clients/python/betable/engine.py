@@ -160,9 +160,7 @@ class Worker:
             if work.page is not None and (answer := self._page(work.page, work.most_rows or ALL_ROWS)):
                 return answer
             replies = table.replies(script) if work.request is None else table.once(work.request, script)
-        except WrongKey as fault:
-            return fault
-        except (RequestReused, ReplyDamaged, ScriptTooLong) as fault:
+        except (RequestReused, ReplyDamaged, ScriptTooLong, WrongKey) as fault:
             return fault  # nothing was run, and the group goes on
         if work.image_of is not None and len(replies) > MOST_IMAGE_BYTES:
             return Answer(b"", table.number, usage=self._usage(work.image_of))

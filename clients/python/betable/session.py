@@ -262,7 +262,9 @@ class PureSession(Calls):
 
     def _iterated(self, read: Read, tree: str, start: Bound, stop: Bound, page: int) -> Iterator[Row]:
         most, found = checked_page(page), self._range(tree, start, stop)
-        return iter(self._rows(b"scan", found.script, [])) if found.there is UNKNOWN else _rows_of_pages(self, read, found, most)
+        if found.there is UNKNOWN:
+            return iter(self._rows(b"scan", found.script, []))
+        return _rows_of_pages(self, read, found, most, *packed_bounds(found))
 
     def columns(self, tree: str = "primary") -> list[TreeColumn]:
         """The columns of the rows of a tree, each with its name, its kind, and whether it belongs to the key of the tree."""
@@ -363,9 +365,8 @@ def packed_bounds(found: Range) -> tuple[bytes | None, bytes | None]:
     return packed.bound(found.start) if found.after is None else packed.after(found.after), packed.bound(found.stop)
 
 
-def _rows_of_pages(session: PureSession, read: Read, found: Range, most: int) -> Iterator[Row]:
-    """The rows of a range, page after page. `read` may read one by a session that has taken the place of the one before."""
-    lower, upper = packed_bounds(found)
+def _rows_of_pages(session: PureSession, read: Read, found: Range, most: int, lower: bytes | None, upper: bytes | None) -> Iterator[Row]:
+    """The rows between two packed bounds, page after page. `read` may read one by a session that has taken the place of the one before."""
 
     def page(now: PureSession) -> list[Row]:
         nonlocal session, found
@@ -377,8 +378,8 @@ def _rows_of_pages(session: PureSession, read: Read, found: Range, most: int) ->
         yield from rows
         if len(rows) < most:
             return
-        found = found._replace(after=rows[-1][: len(found.there.key)])
-        lower, _ = packed_bounds(found)
+        key = rows[-1][: len(found.there.key)]
+        found, lower = found._replace(after=key), packing(found.there).after(key)
 
 
 def _extension() -> ModuleType | None:
