@@ -2,14 +2,13 @@
 use Rattle.std.proofs.Common.{◌≡◌, ℕ, suc, ◌+◌, ◌<◌, List, [], ◌∷◌, get_or, length, refl, ap, ◌∙◌, arith}
 use Rattle.bt_value.specs.declared.value.Value.{Value}
 use Rattle.bt_keycode.specs.Standing.{row_key}
-use Rattle.bt_load.specs.Steps.{AreKeysOrNone, no_key}
+use Rattle.bt_load.specs.Steps.{AreKeysOrNone, Placed, no_key}
 use Rattle.bt_load.specs.inside.Sorts.{HaveKeys, placed_from}
-use Rattle.bt_load.specs.declared.placed.Placed.{Placed}
 use Rattle.bt_load.proofs.Repeats.{same_placed}
 
 -- keys with the places of rows from a place on
 keys_from : (keys place : ℕ) (rows : List (List Value)) (placed : List Placed) → length placed ≡ length rows
-    → ((k : ℕ) → k < length placed → get_or placed k no_key ≡ record { key = row_key keys (get_or rows k []); place = place + k })
+    → ((k : ℕ) → k < length placed → get_or placed k no_key ≡ (row_key keys (get_or rows k []), place + k))
     → placed ≡ placed_from keys place rows
 keys_from keys place [] [] long are = refl
 keys_from keys place [] (p ∷ placed) long are = absurd (omega (arith, long))
@@ -29,4 +28,4 @@ pub all_keys : (keys : ℕ) (rows : List (List Value)) (placed : List Placed) �
 all_keys keys rows placed long are some =
     keys_from keys 0 rows placed long (λ k low.
     let here : 0 + k ≡ k = omega arith in
-    are k low (some k low) ∙ ap (λ n. record { key = row_key keys (get_or rows n []); place = 0 + k }) here)
+    are k low (some k low) ∙ ap (λ n. (row_key keys (get_or rows n []), 0 + k)) here)

@@ -1,5 +1,6 @@
 pub mod Lefts
 pub mod Maps
+mod Moved
 pub mod offered
 pub mod Orders
 pub mod Typed

@@ -1,6 +1,6 @@
 -- Keys in order: if none repeats the one before it, they strictly rise. The smallest place of one that does is the first whose key an earlier place has.
 use Rattle.std.proofs.Common.{◌≡◌, ◌≢◌, ℕ, zero, suc, ◌+◌, ◌-◌, ◌<◌, ◌≤◌, false, T, List, [], ◌∷◌, get_or, length, map, refl}
-use Rattle.std.proofs.Common.{sym, ap, ◌∙◌, subst, ◌⊎◌, inl, inr, min, ⊎_elim, true≢false, arith, Option, Some, None, Err}
+use Rattle.std.proofs.Common.{sym, zero-add, ap, ◌∙◌, subst, ◌⊎◌, inl, inr, min, ⊎_elim, true≢false, arith, Option, Some, None, Err}
 use Rattle.std.proofs.lemmas.Bool.{cases_lt, lt-ltb}
 use Rattle.std.proofs.lemmas.Bool.Decides.{eqb_tells}
 use Rattle.std.proofs.Math.Nat.{min-eq_left, min-eq_right, min-le_left, min-le_right}
@@ -22,9 +22,8 @@ use Rattle.bt_keycode.proofs.offered.Order.{neither_before, same_key, total_keys
 use Rattle.bt_keycode.proofs.offered.Truths.{not_true, t_both}
 use Rattle.bt_keycode.specs.Standing.{RowMap, row_key}
 use Rattle.bt_load.specs.Maps.{key_at, keyed_rows, map_of}
-use Rattle.bt_load.specs.Steps.{placed_cmp}
+use Rattle.bt_load.specs.Steps.{AreAtTheirPlaces, Placed, no_key, placed_cmp}
 use Rattle.bt_load.specs.inside.Sorts.{IsFirstRepeat, IsKeyBelow, Repeats, at, lower_of, pair_at, placed_from}
-use Rattle.bt_load.specs.declared.placed.Placed.{Placed}
 use Rattle.bt_load.proofs.Maps.{refused_is_first}
 use Rattle.bt_load.proofs.Orders.{placed_before, placed_ranks}
 use Rattle.bt_load.proofs.Places.{distinct_placed, occurs_twice}
@@ -35,19 +34,19 @@ pub length-placed_from : (keys place : ℕ) (rows : List (List Value)) → lengt
 length-placed_from keys place [] = refl
 length-placed_from keys place (row ∷ rows) = ap suc (length-placed_from keys (place + 1) rows)
 
-pub same_placed : (key : Key) (m n : ℕ) → m ≡ n → ◌≡◌ {A = Placed} (record { key = key; place = m }) (record { key = key; place = n })
-same_placed key m n e = let f : ℕ → Placed = λ k. record { key = key; place = k } in ap f e
+pub same_placed : (key : Key) (m n : ℕ) → m ≡ n → ◌≡◌ {A = Placed} (key, m) (key, n)
+same_placed key m n e = let f : ℕ → Placed = λ k. (key, k) in ap f e
 
-placed_at : (keys place : ℕ) (rows : List (List Value)) (n : ℕ) (d : Placed) → n < length rows → get_or (placed_from keys place rows) n d ≡ record {
-  key =
-      row_key keys (get_or rows n []);
-  place = place + n;
-}
+placed_at : (keys place : ℕ) (rows : List (List Value)) (n : ℕ) (d : Placed) → n < length rows → get_or (placed_from keys place rows) n d ≡ (row_key keys (get_or rows n []), place + n)
 placed_at keys place [] n d within = absurd (omega (arith, within))
 placed_at keys place (row ∷ rows) zero d within = let here : place ≡ place + 0 = omega arith in same_placed (row_key keys row) place (place + 0) here
 placed_at keys place (row ∷ rows) (suc n) d within =
     let next : place + 1 + n ≡ place + suc n = omega arith in
     placed_at keys (place + 1) rows n d (omega (arith, within)) ∙ same_placed (row_key keys (get_or rows n [])) (place + 1 + n) (place + suc n) next
+
+-- each of these keys is at its own place
+pub at_their_places : (keys : ℕ) (rows : List (List Value)) → AreAtTheirPlaces (placed_from keys 0 rows)
+at_their_places keys rows k l = ap (λ (p : Placed). p.1) (placed_at keys 0 rows k no_key (omega (arith, l, length-placed_from keys 0 rows))) ∙ zero-add k
 
 key-at : (keys : ℕ) (rows : List (List Value)) (n : ℕ) → n < length rows → key_at (keyed_rows keys rows) n ≡ row_key keys (get_or rows n [])
 key-at keys rows n within =
@@ -89,7 +88,7 @@ first_rises p q placed up = up 0 p (omega arith)
 skipped_rises : (p q : Placed) (placed : List Placed) → Rise (p ∷ q ∷ placed) → Rise (p ∷ placed)
 skipped_rises p q [] up k d within = absurd (omega (arith, within))
 skipped_rises p q (r ∷ placed) up zero d within =
-    total_keys.trans p.key q.key r.key (first_rises p q (r ∷ placed) up) (first_rises q r placed (rest_rises p (q ∷ r ∷ placed) up))
+    total_keys.trans p.0 q.0 r.0 (first_rises p q (r ∷ placed) up) (first_rises q r placed (rest_rises p (q ∷ r ∷ placed) up))
 skipped_rises p q (r ∷ placed) up (suc k) d within =
     let next : suc k + 1 ≡ suc (k + 1) = omega arith in
     subst (λ n. IsKeyBelow (get_or (r ∷ placed) k d) (get_or (p ∷ r ∷ placed) n d)) (sym next)
@@ -98,11 +97,11 @@ skipped_rises p q (r ∷ placed) up (suc k) d within =
 less : (o : Ordering) → o ≡ Less → T (is_lt o)
 less o e = subst (λ b. T b) (sym (ap is_lt e)) tt
 
-first_below : (f : Placed → List Value) (p : Placed) (placed : List Placed) → Rise (p ∷ placed) → T (below_all key_cmp p.key (map (λ q. (q.key, f q)) placed))
+first_below : (f : Placed → List Value) (p : Placed) (placed : List Placed) → Rise (p ∷ placed) → T (below_all key_cmp p.0 (map (λ q. (q.0, f q)) placed))
 first_below f p [] up = tt
 first_below f p (q ∷ placed) up = t_both _ _ (less _ (first_rises p q placed up)) (first_below f p placed (skipped_rises p q placed up))
 
-rising_sorted : (f : Placed → List Value) (placed : List Placed) → Rise placed → T (is_sorted key_cmp (map (λ q. (q.key, f q)) placed))
+rising_sorted : (f : Placed → List Value) (placed : List Placed) → Rise placed → T (is_sorted key_cmp (map (λ q. (q.0, f q)) placed))
 rising_sorted f [] up = tt
 rising_sorted f (p ∷ placed) up = t_both _ _ (first_below f p placed up) (rising_sorted f placed (rest_rises p placed up))
 
@@ -117,7 +116,7 @@ pub sorted_pairs : (keys : ℕ) (rows : List (List Value)) (placed : List Placed
     → AllAdjacentBelow IsKeyBelow placed (length placed) → AreSortedPairs keys rows pairs
 sorted_pairs keys rows placed pairs is moved up = subst (AreSortedPairs keys rows) (sym is) (record {
   moved = pairs_moved keys rows placed moved;
-  rising = rising_sorted (λ p. get_or rows p.place []) placed up;
+  rising = rising_sorted (λ p. get_or rows p.1 []) placed up;
 })
 
 -- ---- two neighbours in order
@@ -126,19 +125,19 @@ not_less : (m n : ℕ) → is_lt (nat_cmp m n) ≡ false → n ≤ m
 not_less m n h = ⊎_elim (λ lt. absurd (true≢false (rw (lt-ltb m n lt) at h))) (λ ge. ge) (cases_lt m n)
 
 -- an item that does not come before another has no smaller key
-not_before_key : (p q : Placed) → placed_before p q ≡ false → is_before p.key q.key ≡ false
-not_before_key p q h = by_order (key_cmp p.key q.key) h
+not_before_key : (p q : Placed) → placed_before p q ≡ false → is_before p.0 q.0 ≡ false
+not_before_key p q h = by_order (key_cmp p.0 q.0) h
   where
-    by_order : (o : Ordering) → is_lt (ordering_then o (nat_cmp p.place q.place)) ≡ false → is_lt o ≡ false
+    by_order : (o : Ordering) → is_lt (ordering_then o (nat_cmp p.1 q.1)) ≡ false → is_lt o ≡ false
     by_order Less h = h
     by_order Equal h = refl
     by_order Greater h = refl
 
 -- for equal keys, places decide
-not_before_place : (p q : Placed) → p.key ≡ q.key → placed_before p q ≡ false → q.place ≤ p.place
+not_before_place : (p q : Placed) → p.0 ≡ q.0 → placed_before p q ≡ false → q.1 ≤ p.1
 not_before_place p q same h =
-    let tie : key_cmp p.key q.key ≡ Equal = ap (λ k. key_cmp k q.key) same ∙ tied_itself total_keys q.key in
-    not_less p.place q.place (sym (ap (λ o. is_lt (ordering_then o (nat_cmp p.place q.place))) tie) ∙ h)
+    let tie : key_cmp p.0 q.0 ≡ Equal = ap (λ k. key_cmp k q.0) same ∙ tied_itself total_keys q.0 in
+    not_less p.1 q.1 (sym (ap (λ o. is_lt (ordering_then o (nat_cmp p.1 q.1))) tie) ∙ h)
 
 only_less : (o : Ordering) → is_eq o ≡ false → is_lt (ordering_reverse o) ≡ false → o ≡ Less
 only_less Less e f = refl
@@ -151,24 +150,24 @@ rises placed up none k d within =
     let p = at placed k in
     let q = at placed (k + 1) in
     let back : k + 1 - 1 ≡ k = omega arith in
-    let apart : is_eq (key_cmp p.key q.key) ≡ false = not_true _ (λ same. none (k + 1) within (record {
+    let apart : is_eq (key_cmp p.0 q.0) ≡ false = not_true _ (λ same. none (k + 1) within (record {
       some = omega arith;
       within = within;
-      same = ap (λ n. is_eq (key_cmp (at placed n).key q.key)) back ∙ same;
+      same = ap (λ n. is_eq (key_cmp (at placed n).0 q.0)) back ∙ same;
     })) in
     let order = not_before_key q p (up k _ (omega arith) within) in
-    let rise : IsKeyBelow p q = only_less (key_cmp p.key q.key) apart (ap is_lt (sym (total_keys.antisymm q.key p.key)) ∙ order) in
+    let rise : IsKeyBelow p q = only_less (key_cmp p.0 q.0) apart (ap is_lt (sym (total_keys.antisymm q.0 p.0)) ∙ order) in
     let here = any_default k (omega (arith, within)) in
     let next = any_default (k + 1) within in
     subst (λ (x : Placed). IsKeyBelow x (get_or placed (k + 1) d)) here (subst (λ (x : Placed). IsKeyBelow p x) next rise)
   where
     any_default : (n : ℕ) → n < length placed → at placed n ≡ get_or placed n d
-    any_default n within = get_or_default placed n (record { key = []; place = 0 }) d within
+    any_default n within = get_or_default placed n (([], 0)) d within
 
 module _ (keys : ℕ) (rows : List (List Value)) (placed : List Placed) (moved : IsPermutation (placed_from keys 0 rows) placed) (up : IsSorted placed_cmp placed) where
   -- a key is that of the row at its place
   abbrev IsPlaced : Placed → Type 0
-  IsPlaced p = (p.key ≡ row_key keys (get_or rows p.place [])) × (p.place < length rows)
+  IsPlaced p = (p.0 ≡ row_key keys (get_or rows p.1 [])) × (p.1 < length rows)
 
   all_placed : All IsPlaced (placed_from keys 0 rows)
   all_placed n d within =
@@ -184,66 +183,66 @@ module _ (keys : ℕ) (rows : List (List Value)) (placed : List Placed) (moved :
   record Stood (k : ℕ) : Type 0 where
     n : ℕ
     within : n < length placed
-    place : (at placed n).place ≡ k
-    key : (at placed n).key ≡ row_key keys (get_or rows k [])
+    place : (at placed n).1 ≡ k
+    key : (at placed n).0 ≡ row_key keys (get_or rows k [])
 
   stood : (k : ℕ) → k < length rows → Stood k
   stood k within =
-      let d : Placed = record { key = []; place = 0 } in
+      let d : Placed = ([], 0) in
       let inside : k < length (placed_from keys 0 rows) = omega (arith, within, length-placed_from keys 0 rows) in
       let x = get_or (placed_from keys 0 rows) k d in
       let to = Contains-permutation (placed_from keys 0 rows) placed x moved (Contains-get_or (placed_from keys 0 rows) k d inside) in
-      let is : at placed to.0 ≡ record { key = row_key keys (get_or rows k []); place = 0 + k } =
+      let is : at placed to.0 ≡ (row_key keys (get_or rows k []), 0 + k) =
       get_or_default placed to.0 d x to.1 ∙ to.2 ∙ placed_at keys 0 rows k d within
       in
       let zero_on : 0 + k ≡ k = omega arith in
       record {
         n = to.0;
         within = to.1;
-        place = ap (λ (p : Placed). p.place) is ∙ zero_on;
-        key = ap (λ (p : Placed). p.key) is;
+        place = ap (λ (p : Placed). p.1) is ∙ zero_on;
+        key = ap (λ (p : Placed). p.0) is;
       }
 
   -- a key that repeats the one before it is also that of an earlier row
-  earlier_of : (n : ℕ) → Repeats placed n → (j : ℕ) × (j < (at placed n).place) × (row_key keys (get_or rows j []) ≡ row_key keys (get_or rows (at placed n).place []))
+  earlier_of : (n : ℕ) → Repeats placed n → (j : ℕ) × (j < (at placed n).1) × (row_key keys (get_or rows j []) ≡ row_key keys (get_or rows (at placed n).1 []))
   earlier_of n repeat =
       let low : n - 1 < length placed = omega (arith, repeat.within) in
       let back : n - 1 + 1 ≡ n = omega (arith, repeat.some) in
       let p = at placed (n - 1) in
       let q = at placed n in
-      let one : p.key ≡ q.key = same_key p.key q.key repeat.same in
+      let one : p.0 ≡ q.0 = same_key p.0 q.0 repeat.same in
       let order : placed_before q p ≡ false = subst (λ k. placed_before (at placed k) p ≡ false) back (up (n - 1) _ (omega arith) (omega (arith, back, repeat.within))) in
-      let le : p.place ≤ q.place = not_before_place q p (sym one) order in
-      let few = (distinct_placed keys rows placed moved).once q.place in
-      let apart : p.place ≢ q.place = λ e. let two = occurs_twice placed (n - 1) n _ (omega (arith, back)) repeat.within e in omega (arith, two, few) in
-      (p.place, strictly p.place q.place le apart, sym (source (n - 1) low).0 ∙ one ∙ (source n repeat.within).0)
+      let le : p.1 ≤ q.1 = not_before_place q p (sym one) order in
+      let few = (distinct_placed keys rows placed moved).once q.1 in
+      let apart : p.1 ≢ q.1 = λ e. let two = occurs_twice placed (n - 1) n _ (omega (arith, back)) repeat.within e in omega (arith, two, few) in
+      (p.1, strictly p.1 q.1 le apart, sym (source (n - 1) low).0 ∙ one ∙ (source n repeat.within).0)
     where
       strictly : (j k : ℕ) → j ≤ k → j ≢ k → j < k
       strictly j k le other = omega (arith, le, other)
 
   -- if a row has the key of an earlier one, a key repeats in order
-  repeats_for : (k j : ℕ) → k < length rows → j < k → row_key keys (get_or rows j []) ≡ row_key keys (get_or rows k []) → (n : ℕ) × Repeats placed n × ((at placed n).place ≡ k)
+  repeats_for : (k j : ℕ) → k < length rows → j < k → row_key keys (get_or rows j []) ≡ row_key keys (get_or rows k []) → (n : ℕ) × Repeats placed n × ((at placed n).1 ≡ k)
   repeats_for k j in_k below same =
       let late = stood k in_k in
       let early = stood j (omega (arith, in_k, below)) in
-      let one : (at placed early.n).key ≡ (at placed late.n).key = early.key ∙ same ∙ sym late.key in
+      let one : (at placed early.n).0 ≡ (at placed late.n).0 = early.key ∙ same ∙ sym late.key in
       let order : early.n < late.n = ⊎_elim (λ lt. lt) (λ ge. absurd (backwards late early one ge)) (cases_lt early.n late.n) in
       let m = late.n - 1 in
       let back : m + 1 ≡ late.n = omega (arith, order) in
       let far = not_before_key (at placed m) (at placed early.n) (sorted_far placed_before placed_ranks placed up early.n m _ (omega (arith, order)) (omega (arith, late.within))) in
       let near = not_before_key (at placed late.n) (at placed m) (sorted_far placed_before placed_ranks placed up m late.n _ (omega arith) late.within) in
-      let same_as : (at placed m).key ≡ (at placed late.n).key = neither_before (at placed m).key (at placed late.n).key (subst (λ x. is_before (at placed m).key x ≡ false) one far) near in (
+      let same_as : (at placed m).0 ≡ (at placed late.n).0 = neither_before (at placed m).0 (at placed late.n).0 (subst (λ x. is_before (at placed m).0 x ≡ false) one far) near in (
         late.n,
         record {
           some = omega (arith, order);
           within = late.within;
           same =
-              ap (λ x. is_eq (key_cmp x (at placed late.n).key)) same_as ∙ ap is_eq (tied_itself total_keys (at placed late.n).key);
+              ap (λ x. is_eq (key_cmp x (at placed late.n).0)) same_as ∙ ap is_eq (tied_itself total_keys (at placed late.n).0);
         },
         late.place,
       )
     where
-      backwards : (late : Stood k) (early : Stood j) → (at placed early.n).key ≡ (at placed late.n).key → late.n ≤ early.n → ⊥
+      backwards : (late : Stood k) (early : Stood j) → (at placed early.n).0 ≡ (at placed late.n).0 → late.n ≤ early.n → ⊥
       backwards late early one ge =
           let far = sorted_far placed_before placed_ranks placed up late.n early.n _ ge early.within in
           let le = not_before_place (at placed early.n) (at placed late.n) one far in
@@ -283,12 +282,12 @@ one_more_stays placed most (Some place) not before = (
   λ n within again. elim (eqb_tells n most) [ inl e ↦ absurd (not (subst (Repeats placed) e.1 again)) | inr other ↦ before.1 n (below_more n most within other.1) again ],
 )
 
-pub one_more_repeats : (placed : List Placed) (most : ℕ) (found : Option ℕ) (place : ℕ) → Repeats placed most → place ≡ (at placed most).place → IsFirstRepeat placed most found
+pub one_more_repeats : (placed : List Placed) (most : ℕ) (found : Option ℕ) (place : ℕ) → Repeats placed most → place ≡ (at placed most).1 → IsFirstRepeat placed most found
     → IsFirstRepeat placed (most + 1) (Some (lower_of found place))
 one_more_repeats placed most None place repeat is before = (
   (most, repeat, sym is),
   λ n within again. elim (eqb_tells n most) [
-    | inl e ↦ (let same = ap (λ k. (at placed k).place) e.1 in
+    | inl e ↦ (let same = ap (λ k. (at placed k).1) e.1 in
         omega (arith, is, same))
     | inr other ↦ absurd (before n (below_more n most within other.1) again)
   ],
@@ -296,11 +295,11 @@ one_more_repeats placed most None place repeat is before = (
 one_more_repeats placed most (Some found) place repeat is before = (
   by_order (cases_lt found place),
   λ n within again. elim (eqb_tells n most) [
-    | inl e ↦ (let same = ap (λ k. (at placed k).place) e.1 in let low = min-le_right found place in omega (arith, is, same, low))
+    | inl e ↦ (let same = ap (λ k. (at placed k).1) e.1 in let low = min-le_right found place in omega (arith, is, same, low))
     | inr other ↦ (let lowest = before.1 n (below_more n most within other.1) again in let low = min-le_left found place in omega (arith, lowest, low))
   ],
 )
   where
-    by_order : (found < place) ⊎ (place ≤ found) → (n : ℕ) × Repeats placed n × ((at placed n).place ≡ min found place)
+    by_order : (found < place) ⊎ (place ≤ found) → (n : ℕ) × Repeats placed n × ((at placed n).1 ≡ min found place)
     by_order (inl lt) = (before.0.0, before.0.1, before.0.2 ∙ sym (min-eq_left (omega (arith, lt))))
     by_order (inr ge) = (most, repeat, sym is ∙ sym (min-eq_right ge))

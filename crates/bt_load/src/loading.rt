@@ -1,11 +1,12 @@
 //! How to load: on several threads, or on one.
 ghost use Rattle.std.specs.List.Sorted.{IsPermutation, IsSorted};
 ghost use Rattle.std.specs.Prelude.{◌≡◌, ◌≤◌, ◌+◌, length};
-ghost use Rattle.bt_load.specs.Steps.{AreKeysOrNone, AreRowsOrNone, placed_cmp};
+ghost use Rattle.bt_load.specs.Steps.{AreAtTheirPlaces, AreKeysOrNone, AreRowsOrNone, placed_cmp};
 
 use crate::lines::Lines;
 use crate::placed::{Placed, encode_piece, placed_order};
 use crate::typing::type_piece;
+use bt_message::sort_by_key;
 use bt_row::{Row, Schema};
 use rayon::prelude::*;
 use std::alloc::Global;
@@ -41,9 +42,10 @@ pub trait Loading {
         ensures long { length placed.new ≡ length placed.old }
         ensures encoded { AreKeysOrNone keys 0 rows.now placed.new };
 
-    /// Sorts by key, and for equal keys by place.
-    fn sort(&self, placed: &mut Vec<Placed>)
+    /// Sorts by key, and for equal keys by place. Each key is at its own place before.
+    fn sort(&self, alloc: Global, placed: &mut Vec<Placed>)
         requires ready { accepts self.now }
+        requires places { AreAtTheirPlaces placed.old.items }
         ensures permutation { IsPermutation placed.old.items placed.new.items }
         ensures sorted { IsSorted placed_cmp placed.new.items };
 }
@@ -98,12 +100,12 @@ impl<'a, R: Threads + Sync> Loading for InThreads<'a, R> {
         );
     }
 
-    fn sort(&self, placed: &mut Vec<Placed>) {
+    fn sort(&self, _alloc: Global, placed: &mut Vec<Placed>) {
         par_sort_unstable_by(self.rt, placed.as_mut_slice(), placed_order);
     }
 }
 
-/// Loads on one thread: types one record after the other and sorts all keys at once.
+/// Loads on one thread: types one record after the other and sorts all keys at once, by their numbers.
 #[derive(Clone, Copy)]
 pub struct InTurn;
 
@@ -120,7 +122,10 @@ impl Loading for InTurn {
         encode_piece(alloc, rows, keys, 0, placed);
     }
 
-    fn sort(&self, placed: &mut Vec<Placed>) {
-        placed.as_mut_slice().sort_unstable_by(placed_order);
+    fn sort(&self, alloc: Global, placed: &mut Vec<Placed>) {
+        if sort_by_key(alloc, placed).is_err() {
+            // Out of memory: the keys are as they were, and are sorted in place.
+            placed.as_mut_slice().sort_unstable_by(placed_order);
+        }
     }
 }

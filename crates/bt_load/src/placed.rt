@@ -16,11 +16,7 @@ use std::cmp::Ordering;
 use std::mem;
 
 /// The key of a row, and the place of the row, counted from 0.
-#[derive(Drop)]
-pub struct Placed {
-    pub key: Key,
-    pub place: usize,
-}
+pub type Placed = (Key, usize);
 
 const _: () = prove!(size_of::<Placed>() == 32);
 
@@ -31,10 +27,7 @@ fn no_keys(alloc: Global, count: usize) -> Result<Vec<Placed>, AllocError>
     let mut placed = Vec::new(alloc);
     placed.resize_with(
         count,
-        || Placed {
-            key: Key::new(),
-            place: 0,
-        },
+        || (Key::new(), 0),
     )?;
     Ok(placed)
 }
@@ -44,11 +37,8 @@ fn key_or_none(alloc: Global, row: &Row, keys: usize, place: usize) -> Placed
     ensures { IsKeyOrNone keys row.now place result }
 {
     match encode_row(alloc, row, keys) {
-        Ok(key) => Placed { key, place },
-        Err(_) => Placed {
-            key: Key::new(),
-            place,
-        },
+        Ok(key) => (key, place),
+        Err(_) => (Key::new(), place),
     }
 }
 
@@ -90,7 +80,7 @@ fn keys_or_none<L: Loading>(
 fn all_have_keys(placed: &[Placed]) -> bool
     ensures { result ≡ true → HaveKeys placed.now }
 {
-    placed.iter().all(|one| one.key.len() != 0)
+    placed.iter().all(|one| one.0.len() != 0)
 }
 
 // The keys of rows with their places, encoded one after the other.
@@ -100,7 +90,7 @@ fn encode_in_turn(alloc: Global, rows: &[Row], keys: usize) -> Result<Vec<Placed
     let mut placed = Vec::with_capacity(alloc, rows.len())?;
     for (place, row) in rows.iter().enumerate() {
         let key = encode_row(alloc, row, keys)?;
-        placed.push(Placed { key, place })?;
+        placed.push((key, place))?;
     }
     Ok(placed)
 }
@@ -128,7 +118,7 @@ fn rise(placed: &[Placed]) -> bool
     ensures { result ≡ true → AllAdjacentBelow IsKeyBelow placed.now (length placed.now) }
 {
     for place in 1..placed.len() {
-        if placed[place - 1].key.compare(&placed[place].key) != Ordering::Less {
+        if placed[place - 1].0.compare(&placed[place].0) != Ordering::Less {
             return false;
         }
     }
@@ -139,9 +129,7 @@ fn rise(placed: &[Placed]) -> bool
 pub(crate) fn placed_order(left: &Placed, right: &Placed) -> Ordering
     ensures { result ≡ placed_cmp left.now right.now }
 {
-    left.key
-        .compare(&right.key)
-        .then(left.place.cmp(&right.place))
+    left.0.compare(&right.0).then(left.1.cmp(&right.1))
 }
 
 // Whether the key at a place equals the one before it.
@@ -150,7 +138,7 @@ fn repeats(placed: &[Placed], next: usize) -> bool
     requires within { next < length placed.now }
     ensures { result ≡ repeats_at placed.now next }
 {
-    placed[next - 1].key.compare(&placed[next].key) == Ordering::Equal
+    placed[next - 1].0.compare(&placed[next].0) == Ordering::Equal
 }
 
 // The smaller of a place that was found, if one was, and another place.
@@ -170,7 +158,7 @@ fn first_repeat(placed: &[Placed]) -> Option<usize>
     let mut first: Option<usize> = None;
     for next in 1..placed.len() {
         if repeats(placed, next) {
-            first = Some(lower(first, placed[next].place));
+            first = Some(lower(first, placed[next].1));
         }
     }
     first
@@ -193,7 +181,7 @@ pub(crate) fn ordered_keys<L: Loading>(
     if rise(placed.as_slice()) {
         return Ok(placed);
     }
-    loading.sort(&mut placed);
+    loading.sort(alloc, &mut placed);
     match first_repeat(placed.as_slice()) {
         Some(place) => Err(Refusal::DuplicateKey(place as u64 + 1)),
         None => Ok(placed),
@@ -212,7 +200,7 @@ pub(crate) fn with_rows(
     let mut rows = rows;
     let mut pairs = Vec::with_capacity(alloc, placed.len())?;
     for one in placed {
-        let Placed { key, place } = one;
+        let (key, place) = one;
         pairs.push((key, mem::replace(&mut rows[place], Row::new())))?;
     }
     Ok(pairs)

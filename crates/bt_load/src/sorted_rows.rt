@@ -50,7 +50,7 @@ impl SortedRows {
         let Some(next) = self.placed.next() else {
             return None;
         };
-        let row = mem::replace(&mut self.rows[next.place], Row::new());
-        Some((next.key, row))
+        let row = mem::replace(&mut self.rows[next.1], Row::new());
+        Some((next.0, row))
     }
 }

@@ -1,2 +1,3 @@
 -- The lemmas of this crate that crates above cite.
 pub mod Arrivals
+pub mod Ranges

@@ -24,6 +24,12 @@ impl Model for Entry {
     ghost view = { λ e. e.values };
 }
 
+impl Default for Entry {
+    fn default() -> Self {
+        Entry { values: Row::new() }
+    }
+}
+
 impl Entry {
     /// The index value with the values of this row.
     pub fn new(values: Row) -> Self

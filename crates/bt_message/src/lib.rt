@@ -7,7 +7,7 @@
 //! that a put or an upsert carries, and at most 16,777,215.
 //!
 //! Messages with their keys are sorted by key, and those of one key stay in the order in which they came. [`sorted_places`] gives the
-//! places of a list in that order.
+//! places of a list in that order, and [`sort_by_key`] moves the items of a list into it.
 //!
 //! ```text
 //! let old = effect(alloc, None, Message::Put(row))?;              // the row
@@ -26,4 +26,4 @@ pub use entry::Entry;
 pub use iter::Messages;
 pub use measure::{Measure, weigh_all};
 pub use message::{Merge, Message, effect, effect_borrowed};
-pub use sorting::sorted_places;
+pub use sorting::{sort_by_key, sorted_places};

@@ -1,7 +1,7 @@
 use Rattle.std.proofs.Common.{arith, ◌≡◌, ◌∙◌, ◌+◌, [], get_or, sym, ap, subst, true≢false, Some}
 use Rattle.std.proofs.lemmas.List.{get_or_default}
 use Rattle.bt_load.specs.inside.Sorts.{IsFirstRepeat, Repeats, at}
-use Rattle.bt_load.specs.declared.placed.Placed.{Placed}
+use Rattle.bt_load.specs.Steps.{Placed}
 use Rattle.bt_load.proofs.Repeats.{one_more_repeats, one_more_stays}
 use Rattle.bt_load.proofs.placed.first_repeat.Goals.{then-repeats, else-repeats}
 use Rattle.bt_load.proofs.placed.first_repeat.Goals as goal
@@ -14,9 +14,9 @@ loop-next-preserved c =
       | then-repeats w ↦
           let repeat : Repeats placed next = record { some = omega arith; within = omega arith; same = sym c.repeats.ensures ∙ w.if-repeats.true } in
           let here = get_or placed next w.index-placed-next.result in
-          let is : here.place ≡ (at placed next).place = ap (λ (p : Placed). p.place) (get_or_default placed next w.index-placed-next.result (record { key = []; place = 0 }) (omega arith)) in
+          let is : here.1 ≡ (at placed next).1 = ap (λ (p : Placed). p.1) (get_or_default placed next w.index-placed-next.result (([], 0)) (omega arith)) in
           subst (IsFirstRepeat placed (next + 1)) (sym (w.first-is ∙ ap Some w.lower.ensures))
-          (one_more_repeats placed next c.loop-next.first here.place repeat is c.loop-next.invariant)
+          (one_more_repeats placed next c.loop-next.first here.1 repeat is c.loop-next.invariant)
       | else-repeats w ↦
           let not : Repeats placed next → ⊥ = λ again. true≢false (sym again.same ∙ sym c.repeats.ensures ∙ w.if-repeats.false) in
           subst (IsFirstRepeat placed (next + 1)) (sym w.first-is) (one_more_stays placed next c.loop-next.first not c.loop-next.invariant)

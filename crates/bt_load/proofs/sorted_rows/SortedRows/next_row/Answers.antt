@@ -4,7 +4,7 @@ use Rattle.std.proofs.lemmas.List.{nil_from_length}
 use Rattle.std.specs.Vec.Iter.{into_iter_items}
 use Rattle.bt_keycode.specs.Occurrences.{AreDistinctBelow}
 use Rattle.bt_keycode.proofs.offered.Occurrences.{distinct_none}
-use Rattle.bt_load.specs.declared.placed.Placed.{Placed}
+use Rattle.bt_load.specs.Steps.{Placed}
 use Rattle.bt_load.specs.inside.Sorts.{pair_at, places_of}
 use Rattle.bt_load.proofs.RowsLeft.{next_is, next_within, others_distinct, others_same}
 use Rattle.bt_load.proofs.sorted_rows.SortedRows.next_row.Goals as goal
@@ -35,4 +35,4 @@ returns c =
     let distinct = subst (λ (ps : List Placed). AreDistinctBelow (length rows) (places_of ps)) c.in-Some.ensures.items c.self.invariant in
     let row = next_is rows next rest distinct c.replace-row.result _ (c.replace-row.ensures.value ∙ c.index_mut.ensures.value) in
     sym c.self.view_is ∙ ap (map (pair_at rows)) c.in-Some.ensures.items
-    ∙ (λ i. (next.key, sym row i) ∷ sym (others_same rows next rest distinct c.replace-row.new.dest) i)
+    ∙ (λ i. (next.0, sym row i) ∷ sym (others_same rows next rest distinct c.replace-row.new.dest) i)
