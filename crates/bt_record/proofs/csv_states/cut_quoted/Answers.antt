@@ -1,7 +1,8 @@
-use Rattle.std.proofs.Common.{◌≡◌, ◌≤◌, ◌++◌, ◌∷◌, [], ◌∙◌, arith, sym, ap, refl, true, List, Option, Some, ℕ, length, length-append, get_or, drop, is_some, option_map, unwrap_or}
+use Rattle.std.proofs.Common.{◌≡◌, ◌≤◌, ◌++◌, ◌∷◌, [], ◌∙◌, arith, sym, ap, refl, false, true, List, Option, Some, ℕ, length, length-append, get_or, drop, is_some, option_map, unwrap_or}
 use Rattle.std.proofs.lemmas.Bool.{false≢true}
-use Rattle.csv.specs.Machine.{Read, next_record}
+use Rattle.csv.specs.Machine.{Read, is_end, next_record}
 use Rattle.csv.specs.Reading.{default_config}
+use Rattle.csv.specs.declared.parser.Action.{Action}
 use Rattle.csv.specs.declared.parser.Action.TheVariants as act
 use Rattle.bt_record.specs.inside.Pieces.{pieces}
 use Rattle.bt_record.specs.inside.CsvStates.{csv_action, csv_state}
@@ -9,7 +10,7 @@ use Rattle.bt_record.specs.declared.csv_states.State.{State}
 use Rattle.bt_record.specs.declared.csv_states.State.TheVariants as state
 use Rattle.bt_record.proofs.Found.{many_fields}
 use Rattle.bt_record.proofs.Pieces.{copied_field, copied_fields, ended_fields, ended_within, length_pieces, none_left, same_field, same_fields}
-use Rattle.bt_record.proofs.ReaderSteps.{one_more, record_ends, text_ends, nothing_left}
+use Rattle.bt_record.proofs.ReaderSteps.{TakesByte, one_more, record_ends, text_ends, nothing_left}
 use Rattle.bt_record.proofs.csv_states.cut_quoted.Goals.{in-Skip, in-Copy+in_ok-push-in-Copy, in-EndField+in_ok-push-in-EndField}
 use Rattle.bt_record.proofs.csv_states.cut_quoted.Goals as goal
 
@@ -60,7 +61,6 @@ loop-byte-preserved c =
     let i = c.loop-byte.byte-index in
     let s = csv_state c.loop-byte.state in
     let t = csv_state c.match-action.state in
-    let u = csv_state c.step-next.result.0 in
     let x = csv_action c.step-next.result.1 in
     let old = c.loop-byte.bytes.items in
     let new = c.match-action.bytes.items in
@@ -69,10 +69,10 @@ loop-byte-preserved c =
     let start = c.loop-byte.start in
     let start_new = c.match-action.start in
     let fields = pieces old spans in
-    let fields_new = pieces new spans_new in
     let field = drop start old in
-    let field_new = drop start_new new in
-    let step = c.step-next.ensures in
+    let byte : (a : Action) → x ≡ a → is_end a ≡ false → t ≡ csv_state c.step-next.result.0 → TakesByte text i s t a = λ a action more state.
+    let is = c.step-next.ensures in
+    record { within = c.loop-byte-test.true; action = sym action ∙ is.action; state = state ∙ is.state (ap is_end action ∙ more); more = more } in
     let within = c.loop-byte.invariant.within in
     let starts = c.loop-byte.invariant.starts in
     elim c.match-action.branch [
@@ -82,8 +82,7 @@ loop-byte-preserved c =
           record {
             starts = rw (bytes_is, w.start-is) starts;
             within = rw (spans_is, w.start-is) within;
-            reads = c.loop-byte.invariant.reads ∙ one_more text i s t u x act.Skip fields fields_new field field_new c.loop-byte-test.true step.action
-                step.state (ap csv_action w.in-Skip.is) refl (ap csv_state w.state-is)
+            reads = c.loop-byte.invariant.reads ∙ one_more fields field (byte act.Skip (ap csv_action w.in-Skip.is) refl (ap csv_state w.state-is))
                 (same_fields old new spans spans_new bytes_is spans_is) (same_field old new start start_new bytes_is w.start-is);
           }
       | in-Copy+in_ok-push-in-Copy w ↦
@@ -92,8 +91,7 @@ loop-byte-preserved c =
           record {
             starts = omega (arith, starts, w.start-is, ap length bytes_is, length-append old (get_or text i 0 ∷ []));
             within = rw (spans_is, w.start-is) within;
-            reads = c.loop-byte.invariant.reads ∙ one_more text i s t u x act.Copy fields fields_new field field_new c.loop-byte-test.true step.action
-                step.state (ap csv_action w.in-Copy.is) refl (ap csv_state w.state-is)
+            reads = c.loop-byte.invariant.reads ∙ one_more fields field (byte act.Copy (ap csv_action w.in-Copy.is) refl (ap csv_state w.state-is))
                 (copied_fields old new spans spans_new start (get_or text i 0) within starts bytes_is spans_is) (copied_field old new start start_new (get_or text i 0) starts bytes_is w.start-is);
           }
       | in-EndField+in_ok-push-in-EndField w ↦
@@ -104,8 +102,7 @@ loop-byte-preserved c =
           record {
             starts = omega (arith, start_is, ap length bytes_is);
             within = ended_within start_new spans spans_new start c.len-end.result within (omega (arith, starts, end)) (omega (arith, start_is, end)) spans_is;
-            reads = c.loop-byte.invariant.reads ∙ one_more text i s t u x act.EndField fields fields_new field field_new c.loop-byte-test.true step.action
-                step.state (ap csv_action w.in-EndField.is) refl (ap csv_state w.state-is)
+            reads = c.loop-byte.invariant.reads ∙ one_more fields field (byte act.EndField (ap csv_action w.in-EndField.is) refl (ap csv_state w.state-is))
                 (ended_fields old new spans spans_new start c.len-end.result bytes_is spans_is end) (none_left old new start_new bytes_is start_is);
           }
     ]
