@@ -41,19 +41,29 @@ read_none columns text row none =
     let some : nat_le 0 (length text) ≡ true = le-leb 0 (length text) (omega arith) in
     record { values = ap Some (sym none); others = sym (ap (λ (b : Bool). if b then parts_of text else []) some); plain = refl }
 
+-- the field of a column, between its place in a text and its end, encodes a value
+pub record EncodesValue (columns : List Column) (text : List ℕ) (i at end : ℕ) (v : Value) : Type 0 where
+  pub column : Column
+  pub inside : i < length columns
+  pub is_column : get_or columns i column ≡ column
+  pub within : at ≤ length text
+  pub ends : EndsPlain (drop at text) end
+  pub value : value_of column.kind (take end (drop at text)) ≡ Some v
+
 -- one more field that encodes a value
-pub read_more : (columns : List Column) (text rest : List ℕ) (row : List Value) (i at end : ℕ) (column : Column) (v : Value) → ReadTo columns text row i at
-    → i < length columns → get_or columns i column ≡ column
-    → at ≤ length text → rest ≡ drop at text → EndsPlain rest end → value_of column.kind (take end rest) ≡ Some v → ReadTo columns text (row ++ v ∷ []) (i + 1) (at + (end + 1))
-read_more columns text rest row i at end column v so_far inside is_column within is ends value =
+pub read_more : {columns : List Column} {text : List ℕ} {row : List Value} {i at end : ℕ} {v : Value} → ReadTo columns text row i at
+    → EncodesValue columns text i at end v → ReadTo columns text (row ++ v ∷ []) (i + 1) (at + (end + 1))
+read_more {columns} {text} {row} {i} {at} {end} {v} so_far next =
+    let parts = parts_of text in
+    let field = take end (drop at text) in
     let e : i + 1 ≡ suc i = omega arith in
-    let here = item_at (parts_of text) i (take end rest) (fields_from (at + (end + 1)) text) (so_far.others ∙ next_cut text rest at end within is ends) in
-    let first : take (i + 1) columns ≡ take i columns ++ column ∷ [] = take_more columns i column inside ∙ ap (λ (c : Column). take i columns ++ c ∷ []) is_column in
-    let fields : take (i + 1) (parts_of text) ≡ take i (parts_of text) ++ take end rest ∷ [] = ap (λ n. take n (parts_of text)) e ∙ here.0 in
+    let here = item_at parts i field (fields_from (at + (end + 1)) text) (so_far.others ∙ next_cut text (drop at text) at end next.within refl next.ends) in
+    let first : take (i + 1) columns ≡ take i columns ++ next.column ∷ [] = take_more columns i next.column next.inside ∙ ap (λ (c : Column). take i columns ++ c ∷ []) next.is_column in
+    let fields : take (i + 1) parts ≡ take i parts ++ field ∷ [] = ap (λ n. take n parts) e ∙ here.0 in
     record {
-      values = rw (first, fields) (values_more (take i columns) (take i (parts_of text)) row column (take end rest) v so_far.values value);
-      others = ap (λ n. drop n (parts_of text)) e ∙ here.1;
-      plain = so_far.plain ∙ next_plain text rest at end is ends;
+      values = rw (first, fields) (values_more (take i columns) (take i parts) row next.column field v so_far.values next.value);
+      others = ap (λ n. drop n parts) e ∙ here.1;
+      plain = so_far.plain ∙ next_plain text (drop at text) at end refl next.ends;
     }
 
 -- all columns were read
@@ -78,17 +88,26 @@ row_read columns text row at read past found =
 
 -- ---- an upsert of plain fields
 
-pub upsert_read : (schema : Schema) (item : ℕ) (text : List ℕ) (row : List Value) (at : ℕ) (word name argument : List ℕ) (op : Op) → schema.keys ≤ length schema.columns
-    → HasRead (take schema.keys schema.columns) text row at → fields_from at text ≡ word ∷ name ∷ argument ∷ [] → list_any is_special (drop at text) ≡ false → is_some (csv_record text) ≡ true
-    → op_of schema item word name argument ≡ Ok op → upsert_as schema item (fields_in text) ≡ Ok (row, op ∷ [])
-upsert_read schema item text row at word name argument op within read three plain found spelled =
+-- the fields of a text from a place on are plain, and encode one operation
+pub record EncodesOp (schema : Schema) (item : ℕ) (text : List ℕ) (at : ℕ) (op : Op) : Type 0 where
+  pub word : List ℕ
+  pub name : List ℕ
+  pub argument : List ℕ
+  pub fields : fields_from at text ≡ word ∷ name ∷ argument ∷ []
+  pub plain : list_any is_special (drop at text) ≡ false
+  pub read : op_of schema item word name argument ≡ Ok op
+
+pub upsert_read : {schema : Schema} {item : ℕ} {text : List ℕ} {row : List Value} {at : ℕ} {op : Op} → schema.keys ≤ length schema.columns
+    → HasRead (take schema.keys schema.columns) text row at → EncodesOp schema item text at op → is_some (csv_record text) ≡ true
+    → upsert_as schema item (fields_in text) ≡ Ok (row, op ∷ [])
+upsert_read {schema} {item} {text} {row} {at} {op} within read group found =
     let keys = schema.keys in
     let columns = schema.columns in
     let parts = parts_of text in
-    let same : fields_in text ≡ parts = plain_text text found (read.plain ∙ plain) in
+    let same : fields_in text ≡ parts = plain_text text found (read.plain ∙ group.plain) in
     let size : length (take keys columns) ≡ keys = length-take-le keys columns within in
-    let group : drop keys parts ≡ word ∷ name ∷ argument ∷ [] = ap (λ k. drop k parts) (sym size) ∙ read.others ∙ three in
-    let long : length parts ≡ keys + 3 = omega (arith, ap length group, length-drop keys parts) in
+    let three : drop keys parts ≡ group.word ∷ group.name ∷ group.argument ∷ [] = ap (λ k. drop k parts) (sym size) ∙ read.others ∙ group.fields in
+    let long : length parts ≡ keys + 3 = omega (arith, ap length three, length-drop keys parts) in
     let least_long : nat_le (keys + 3) (length parts) ≡ true = le-leb (keys + 3) (length parts) (omega (arith, long)) in
     let most_long : nat_le (length parts) (keys + 3 * most_ops) ≡ true = le-leb (length parts) (keys + 3 * most_ops) (omega (arith, long)) in
     let over : length parts - keys ≡ 3 = omega (arith, long) in
@@ -98,7 +117,7 @@ upsert_read schema item text row at word name argument op within read three plai
     (both_true (nat_le (keys + 3) (length parts)) (nat_le (length parts) (keys + 3 * most_ops)) least_long most_long) threes in
     let key : key_as schema item parts ≡ Ok row = ap (or_refused (BadField item)) (ap (λ k. values_of (take keys columns) (take k parts)) (sym size) ∙ read.values) in
     let ops : ops_as schema item parts ≡ Ok (op ∷ []) =
-    ap (λ (b : Bool). if b then all_read (ops_of schema item (drop keys parts)) else Err (BadLength item)) test ∙ ap (λ (l : List (List ℕ)). all_read (ops_of schema item l)) group
-    ∙ ap (λ (o : Result Op Refusal). all_read (o ∷ [])) spelled in
+    ap (λ (b : Bool). if b then all_read (ops_of schema item (drop keys parts)) else Err (BadLength item)) test ∙ ap (λ (l : List (List ℕ)). all_read (ops_of schema item l)) three
+    ∙ ap (λ (o : Result Op Refusal). all_read (o ∷ [])) group.read in
     ap (upsert_as schema item) same ∙ ap (λ (b : Bool). if b then both_read (key_as schema item parts) (ops_as schema item parts) else Err (BadLength item)) test
     ∙ ap (λ (k : Result (List Value) Refusal). both_read k (ops_as schema item parts)) key ∙ ap (λ (o : Result (List Op) Refusal). both_read {S = List Value} (Ok row) o) ops

@@ -1,7 +1,9 @@
-use Rattle.std.proofs.Common.{ℕ, ◌+◌, ◌≤◌, List, arith, drop, length, length-drop, subst, sym}
+use Rattle.std.proofs.Common.{ℕ, ◌+◌, ◌∙◌, List, ap, arith, drop, length-drop, subst, sym, take}
+use Rattle.bt_value.specs.PlainFields.{EndsPlain}
+use Rattle.bt_value.specs.Values.{value_of}
 use Rattle.bt_value.specs.Views.{value_of_ref}
 use Rattle.bt_value.specs.declared.value.Value.{Value}
-use Rattle.bt_rowtype.proofs.PlainRows.{ReadTo, read_columns, read_more, read_none}
+use Rattle.bt_rowtype.proofs.PlainRows.{EncodesValue, ReadTo, read_columns, read_more, read_none}
 use Rattle.bt_rowtype.proofs.plain_row.read_plain_columns.Goals as goal
 
 pub loop-column-init : goal.loop-column-init
@@ -13,17 +15,22 @@ loop-column-preserved c =
     let text = c.args.text.now in
     let i = c.loop-column.column-index in
     let at = c.loop-column.at in
-    let rest = c.tail.result.now in
     let column = c.column-item.result in
     let end = c.in-Some.end in
-    let within = c.if-at-text.false in
-    let ends = c.in-Some.ensures.ends in
-    let inside : end ≤ length (drop at text) = subst (λ (l : List ℕ). end ≤ length l) c.tail.ensures ends.within in
-    let more = read_more columns text rest c.loop-column.row i at end column (value_of_ref c.in-Some.value) c.loop-column.invariant.so_far
-    c.loop-column-test.true (sym c.column-item.is) within c.tail.ensures ends c.in-Some.ensures.value in
+    let v = value_of_ref c.in-Some.value in
+    let rest_is = c.tail.ensures in
+    let ends : EndsPlain (drop at text) end = subst (λ (l : List ℕ). EndsPlain l end) rest_is c.in-Some.ensures.ends in
+    let field : EncodesValue columns text i at end v = record {
+      column = column;
+      inside = c.loop-column-test.true;
+      is_column = sym c.column-item.is;
+      within = c.if-at-text.false;
+      ends = ends;
+      value = ap (λ (l : List ℕ). value_of column.kind (take end l)) (sym rest_is) ∙ c.in-Some.ensures.value;
+    } in
     record {
-      within = omega (arith, within, inside, length-drop at text);
-      so_far = subst (λ (row : List Value). ReadTo columns text row (i + 1) (at + (end + 1))) (sym c.in_ok-push.ensures.ok) more;
+      within = omega (arith, field.within, ends.within, length-drop at text);
+      so_far = subst (λ (row : List Value). ReadTo columns text row (i + 1) (at + (end + 1))) (sym c.in_ok-push.ensures.ok) (read_more c.loop-column.invariant.so_far field);
     }
 
 pub returns : goal.returns
