@@ -27,48 +27,54 @@ use Rattle.bt_gang.proofs.WorkerLists.{all_back, all_lists, length-left, lists_s
 use Rattle.bt_gang.proofs.Filling.{all_once, below-back, below-front, below_all, filled, length-puts, lists-more, may_back, none_empty, numbers_joined, puts-append}
 
 module _ {J D F : Type 0} (allows : J → Result D F → Type 0) where
-  took_all : (jobs : Jobs J D F) (all : List J) (k : ℕ) (mine : Worker J D F) (outs : List (Option (Answers D F))) (w : Known J)
-      → HasServedCaller allows jobs all k mine → TookIn (view mine.pass) w outs
-      → w ≡ known all (taken_list 0 (numbered (present mine.out.list)) ∷ (lists_left MOST_WORKERS (suc k) ++ lists_back 1 outs))
-  took_all jobs all k mine outs w h t = t ∙ ap (λ (y : Known J). known y.jobs (y.lists ++ lists_back 1 outs)) h.served.knows
+  -- the caller served, and then took in the lists of the workers that came back
+  module _ {jobs : Jobs J D F} {all : List J} {k : ℕ} {mine : Worker J D F} (outs : List (Option (Answers D F))) {w : Known J} (h : HasServedCaller allows jobs all k mine) (t : TookIn (view mine.pass) w outs) where
+    took_all : w ≡ known all (taken_list 0 (numbered (present mine.out.list)) ∷ (lists_left MOST_WORKERS (suc k) ++ lists_back 1 outs))
+    took_all = t ∙ ap (λ (y : Known J). known y.jobs (y.lists ++ lists_back 1 outs)) h.served.knows
 
-  pub jobs_last : (jobs : Jobs J D F) (all : List J) (k : ℕ) (mine : Worker J D F) (outs : List (Option (Answers D F))) (w : Known J)
-      → HasServedCaller allows jobs all k mine → TookIn (view mine.pass) w outs → w.jobs ≡ all
-  jobs_last jobs all k mine outs w h t = ap (λ (y : Known J). y.jobs) (took_all jobs all k mine outs w h t)
+    pub jobs_last : w.jobs ≡ all
+    jobs_last = ap (λ (y : Known J). y.jobs) took_all
 
-  pub room_last : (jobs : Jobs J D F) (all : List J) (k : ℕ) (mine : Worker J D F) (outs : List (Option (Answers D F))) (w : Known J)
-      → HasServedCaller allows jobs all k mine → TookIn (view mine.pass) w outs
-      → length w.jobs ≤ mine.out.spare + length (numbers_of w.lists)
-  room_last jobs all k mine outs w h t =
-      let e = took_all jobs all k mine outs w h t in
-      let own = numbered (present mine.out.list) in
-      let others = lists_left MOST_WORKERS (suc k) ++ lists_back 1 outs in
-      let j : length w.jobs ≡ length all = ap (λ (y : Known J). length y.jobs) e in
-      let n : length (numbers_of w.lists) ≡ length (own ++ numbers_of others) = ap (λ (y : Known J). length (numbers_of y.lists)) e in
-      let l = length-append own (numbers_of others) in
-      let m = length-map (present mine.out.list) (λ (a : Answer D F). a.number) in
-      let s = h.spare in
-      omega arith
+    pub room_last : length w.jobs ≤ mine.out.spare + length (numbers_of w.lists)
+    room_last =
+        let e = took_all in
+        let own = numbered (present mine.out.list) in
+        let others = lists_left MOST_WORKERS (suc k) ++ lists_back 1 outs in
+        let j : length w.jobs ≡ length all = ap (λ (y : Known J). length y.jobs) e in
+        let n : length (numbers_of w.lists) ≡ length (own ++ numbers_of others) = ap (λ (y : Known J). length (numbers_of y.lists)) e in
+        let l = length-append own (numbers_of others) in
+        let m = length-map (present mine.out.list) (λ (a : Answer D F). a.number) in
+        let s = h.spare in
+        omega arith
 
-  pub have_come : (jobs : Jobs J D F) (all : List J) (k : ℕ) (served : Served J D F) (outs : List (Option (Answers D F))) (w v : Known J) (out : Answers D F)
-      → HaveServed allows jobs all k served → k ≡ length served.others.items → outs ≡ map out_of served.others.items → TookIn (view served.mine.pass) w outs
-      → Gains allows w v served.mine.out out → FoundNothing v → NothingWaits v → HaveCome allows all v (present out.list) outs
-  have_come jobs all k served outs w v out h len is t g last settled =
+  -- the caller took in what the workers gave back, and then served until it found nothing
+  pub record HasFinished (k : ℕ) (served : Served J D F) (outs : List (Option (Answers D F))) (w v : Known J) (out : Answers D F) : Type 0 where
+    pub count : k ≡ length served.others.items
+    pub back : outs ≡ map out_of served.others.items
+    pub took : TookIn (view served.mine.pass) w outs
+    pub gains : Gains allows w v served.mine.out out
+    pub last : FoundNothing v
+    pub settled : NothingWaits v
+
+  pub have_come : {jobs : Jobs J D F} {all : List J} {k : ℕ} {served : Served J D F} {outs : List (Option (Answers D F))} {w v : Known J} {out : Answers D F}
+      → HaveServed allows jobs all k served → HasFinished k served outs w v out → HaveCome allows all v (present out.list) outs
+  have_come {jobs} {all} {k} {served} {outs} {w} {v} {out} h finished =
       let mine = served.mine in
       let own = present mine.out.list in
+      let g = finished.gains in
       let here : numbered (present out.list) ≡ numbered own ++ numbered g.added = ap numbered g.list ∙ numbered-append own g.added in
-      let added : AllMay allows all g.added = subst (λ js. AllMay allows js g.added) (jobs_last jobs all k mine outs w h.mine t) g.may in
+      let added : AllMay allows all g.added = subst (λ js. AllMay allows js g.added) (jobs_last outs h.mine finished.took) g.may in
       let back : AllMay allows all (concatenation (map answers_in outs)) =
-      subst (λ os. AllMay allows all (concatenation (map answers_in os))) (sym is) (may_back allows jobs all 1 served.others.items h.others) in
-      let count : k ≡ length outs = len ∙ sym (ap length is ∙ length-map served.others.items (λ (o : Option (Worker J D F)). out_of o)) in
+      subst (λ os. AllMay allows all (concatenation (map answers_in os))) (sym finished.back) (may_back allows jobs all 1 served.others.items h.others) in
+      let count : k ≡ length outs = finished.count ∙ sym (ap length finished.back ∙ length-map served.others.items (λ (o : Option (Worker J D F)). out_of o)) in
       record {
-        knows = g.pass ∙ (ap (λ y. gained y (numbered g.added)) (took_all jobs all k mine outs w h.mine t)
+        knows = g.pass ∙ (ap (λ y. gained y (numbered g.added)) (took_all outs h.mine finished.took)
             ∙ (ap (λ ns. known all (taken_list 0 ns ∷ (lists_left MOST_WORKERS (suc k) ++ lists_back 1 outs))) (sym here)
             ∙ ap (λ n. known all (taken_list 0 (numbered (present out.list)) ∷ (lists_left MOST_WORKERS (suc n) ++ lists_back 1 outs))) count));
         few = subst (λ n. n < MOST_WORKERS) count h.mine.few;
         may = may-append allows all (present out.list) (concatenation (map answers_in outs)) (subst (AllMay allows all) (sym g.list) (may-append allows all own g.added h.mine.served.may added)) back;
-        settled = settled;
-        last = last;
+        settled = finished.settled;
+        last = finished.last;
       }
 
 -- in places that were empty, the caller's answers come first, and then those of the others
