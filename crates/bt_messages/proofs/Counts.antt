@@ -25,10 +25,6 @@ pub one_counted : (ss more : List Share) (s : Share) → more ≡ ss ++ s ∷ []
 one_counted ss more s e n f h =
     e ∙ ap (λ z. ss ++ z ∷ []) f ∙ ap (λ zs. zs ++ counted n ∷ []) h ∙ sym (map-append counted (counts ss) (n ∷ [])) ∙ ap (map counted) (sym (counts-push ss more s e n f))
 
-same_keys : (ks : List (List ℕ)) → map (λ k. k) ks ≡ ks
-same_keys [] = refl
-same_keys (k ∷ ks) = ap (λ zs. k ∷ zs) (same_keys ks)
-
 module _ {M : Type 0} where
   pub sliced-parted : (from : ℕ) (ns : List ℕ) (ms : Messages M) → sliced from ns ms ≡ parted ns (drop from ms)
   sliced-parted from [] ms = refl
@@ -43,21 +39,30 @@ module _ {M : Type 0} where
       ap (λ k. drop k (take (k + n) ms) ∷ []) same ∙ ap (λ k. drop start (take k ms) ∷ []) f
   sliced-push from (x ∷ xs) n start end ms e f = ap (λ zs. drop from (take (from + x) ms) ∷ zs) (sliced-push (from + x) xs n start end ms (omega (arith, e)) f)
 
+  -- the messages of a front from a place on are divided by the pivot at this place
+  pub record AreDivided (ks : List (List ℕ)) (i first place count : ℕ) (ms : Messages M) : Type 0 where
+    pub pivot : List ℕ
+    pub within : i < length ks
+    pub is : pivot ≡ get_or ks i pivot
+    pub low : first ≤ place
+    pub before : messages_before pivot (drop first (take count ms)) ≡ drop first (take place ms)
+    pub from : messages_from pivot (drop first (take count ms)) ≡ drop place (take count ms)
+
   -- one more pivot
-  pub counted_next : {X : Type 0} (key : X → List ℕ) (xs : List X) (i : ℕ) (x : X) (counts next : List ℕ) (from place count : ℕ) (ms : Messages M) (wanted : List (Messages M)) →
-      i < length xs → x ≡ get_or xs i x → total counts ≡ from → from ≤ place → next ≡ counts ++ (place - from) ∷ [] →
-      messages_before (key x) (drop from (take count ms)) ≡ drop from (take place ms) → messages_from (key x) (drop from (take count ms)) ≡ drop place (take count ms) →
-      sliced 0 counts ms ++ parts (map key (drop i xs)) (drop from (take count ms)) ≡ wanted →
-      sliced 0 next ms ++ parts (map key (drop (i + 1) xs)) (drop place (take count ms)) ≡ wanted
-  counted_next key xs i x counts next from place count ms wanted within is t l p b f w =
-      let rest = map key (drop (i + 1) xs) in
-      let step : drop i xs ≡ x ∷ drop (i + 1) xs = drop_more xs i x within ∙ ap (λ y. y ∷ drop (i + 1) xs) (sym is) in
-      ap (λ zs. sliced 0 zs ms ++ parts rest (drop place (take count ms))) p
-      ∙ ap (λ zs. zs ++ parts rest (drop place (take count ms))) (sliced-push 0 counts (place - from) from place ms (omega (arith, t)) (omega (arith, l)))
-      ∙ append_assoc (sliced 0 counts ms) (drop from (take place ms) ∷ []) (parts rest (drop place (take count ms)))
-      ∙ ap (λ z. sliced 0 counts ms ++ z ∷ parts rest (drop place (take count ms))) (sym b)
-      ∙ ap (λ z. sliced 0 counts ms ++ messages_before (key x) (drop from (take count ms)) ∷ parts rest z) (sym f)
-      ∙ sym (ap (λ ys. sliced 0 counts ms ++ parts (map key ys) (drop from (take count ms))) step)
+  pub counted_next : {ks : List (List ℕ)} {i first place count : ℕ} {ms : Messages M} (counts : List ℕ) {next : List ℕ} {wanted : List (Messages M)} →
+      AreDivided ks i first place count ms → total counts ≡ first → next ≡ counts ++ (place - first) ∷ [] →
+      sliced 0 counts ms ++ parts (drop i ks) (drop first (take count ms)) ≡ wanted → sliced 0 next ms ++ parts (drop (i + 1) ks) (drop place (take count ms)) ≡ wanted
+  counted_next {ks} {i} {first} {place} {count} {ms} counts part t p w =
+      let rest = drop (i + 1) ks in
+      let front = drop first (take count ms) in
+      let after = drop place (take count ms) in
+      let step : drop i ks ≡ part.pivot ∷ rest = drop_more ks i part.pivot part.within ∙ ap (λ k. k ∷ rest) (sym part.is) in
+      ap (λ zs. sliced 0 zs ms ++ parts rest after) p
+      ∙ ap (λ zs. zs ++ parts rest after) (sliced-push 0 counts (place - first) first place ms (omega (arith, t)) (omega (arith, part.low)))
+      ∙ append_assoc (sliced 0 counts ms) (drop first (take place ms) ∷ []) (parts rest after)
+      ∙ ap (λ z. sliced 0 counts ms ++ z ∷ parts rest after) (sym part.before)
+      ∙ ap (λ z. sliced 0 counts ms ++ messages_before part.pivot front ∷ parts rest z) (sym part.from)
+      ∙ sym (ap (λ ks. sliced 0 counts ms ++ parts ks front) step)
       ∙ w
 
   -- the last part
@@ -69,14 +74,3 @@ module _ {M : Type 0} where
       ∙ sliced-push 0 counts (count - from) from count ms (omega (arith, t)) (omega (arith, l))
       ∙ sym (ap (λ zs. sliced 0 counts ms ++ parts zs (drop from (take count ms))) none)
       ∙ w
-
-  -- one more pivot of a list of pivots
-  pub counted_keys : (ks : List (List ℕ)) (i : ℕ) (k : List ℕ) (counts next : List ℕ) (from place count : ℕ) (ms : Messages M) (wanted : List (Messages M)) →
-      i < length ks → k ≡ get_or ks i k → total counts ≡ from → from ≤ place → next ≡ counts ++ (place - from) ∷ [] →
-      messages_before k (drop from (take count ms)) ≡ drop from (take place ms) → messages_from k (drop from (take count ms)) ≡ drop place (take count ms) →
-      sliced 0 counts ms ++ parts (drop i ks) (drop from (take count ms)) ≡ wanted →
-      sliced 0 next ms ++ parts (drop (i + 1) ks) (drop place (take count ms)) ≡ wanted
-  counted_keys ks i k counts next from place count ms wanted within is t l p b f w =
-      sym (ap (λ js. sliced 0 next ms ++ parts js (drop place (take count ms))) (same_keys (drop (i + 1) ks)))
-      ∙ counted_next (λ k. k) ks i k counts next from place count ms wanted within is t l p b f
-      (ap (λ js. sliced 0 counts ms ++ parts js (drop from (take count ms))) (same_keys (drop i ks)) ∙ w)

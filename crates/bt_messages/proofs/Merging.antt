@@ -20,17 +20,24 @@ merged_at n ns (e ∷ os) h = elim (is_before n.0 e.0) as (λ t. is_before n.0 e
       | false ↦ λ t. first_stays e (n ∷ ns) os (t, from_earlier e.0 n.0 ns t h) ∙ ap (λ zs. e ∷ zs) (merged_at n ns os h)
     ] refl
 
+-- the older messages up to the key of a new one, and then that one, are moved to the merged ones
+pub record AreMoved {M : Type 0} (n : List ℕ × M) (os past start done : Messages M) : Type 0 where
+  pub between : Messages M
+  pub up_to : between ≡ start ++ messages_up_to n.0 os
+  pub past_are : past ≡ messages_past n.0 os
+  pub pushed : done ≡ between ++ n ∷ []
+
 -- a step of the pass
-pub step : {M : Type 0} (n : List ℕ × M) (ns rest os past wanted start between done : Messages M) → rest ≡ n ∷ ns → IsSorted rest → wanted ≡ start ++ with_messages rest os →
-    between ≡ start ++ messages_up_to n.0 os → past ≡ messages_past n.0 os → done ≡ between ++ n ∷ [] → wanted ≡ done ++ with_messages ns past
-step {M} n ns rest os past wanted start between done e h w b p d =
+pub step : {M : Type 0} (n : List ℕ × M) (ns : Messages M) {rest os past wanted start done : Messages M} → rest ≡ n ∷ ns → IsSorted rest → wanted ≡ start ++ with_messages rest os →
+    AreMoved n os past start done → wanted ≡ done ++ with_messages ns past
+step {M} n ns {os = os} {start = start} {done = done} e h w moved =
     let sorted : IsSorted (n ∷ ns) = subst (IsSorted {X = M}) e h in
     w ∙ ap (λ zs. start ++ with_messages zs os) e ∙ ap (λ zs. start ++ zs) (merged_at n ns os sorted.0)
     ∙ sym (append_assoc start (messages_up_to n.0 os) (n ∷ with_messages ns (messages_past n.0 os)))
-    ∙ ap (λ zs. zs ++ n ∷ with_messages ns (messages_past n.0 os)) (sym b)
-    ∙ sym (append_assoc between (n ∷ []) (with_messages ns (messages_past n.0 os)))
-    ∙ ap (λ zs. zs ++ with_messages ns (messages_past n.0 os)) (sym d)
-    ∙ ap (λ zs. done ++ with_messages ns zs) (sym p)
+    ∙ ap (λ zs. zs ++ n ∷ with_messages ns (messages_past n.0 os)) (sym moved.up_to)
+    ∙ sym (append_assoc moved.between (n ∷ []) (with_messages ns (messages_past n.0 os)))
+    ∙ ap (λ zs. zs ++ with_messages ns (messages_past n.0 os)) (sym moved.pushed)
+    ∙ ap (λ zs. done ++ with_messages ns zs) (sym moved.past_are)
 
 -- new messages come after all old ones if none of them goes before the last of these
 pub all_following : {M : Type 0} (older newer : Messages M) (last : List ℕ × M) (i : ℕ) → IsSorted older → IsSorted newer → length older ≡ suc i → last ≡ get_or older i last → AllFrom last.0 newer →

@@ -1,5 +1,5 @@
 -- Older and newer messages merged one by one, and packets appended to each other.
-use Rattle.std.proofs.Common.{◌≡◌, ◌==◌, ℕ, ◌+◌, ◌<◌, ◌^◌, Bool, true, false, List, [], ◌∷◌, ◌++◌, append_assoc, length, sym, ap, subst, ◌∙◌, Option, None, Some, true≢false, arith}
+use Rattle.std.proofs.Common.{◌≡◌, ◌==◌, ℕ, ◌+◌, ◌<◌, ◌^◌, Bool, true, false, List, [], ◌∷◌, ◌++◌, append_assoc, length, refl, sym, ap, subst, ◌∙◌, Option, None, Some, true≢false, arith}
 use Rattle.std.proofs.lemmas.List.{length-append}
 use Rattle.std.specs.Option.{MatchOption}
 use Rattle.bt_keycode.specs.Keys.{IsSorted, is_before}
@@ -7,7 +7,7 @@ use Rattle.bt_value.specs.Lists.{concatenation}
 use Rattle.bt_message.specs.Messages.{Messages, with_messages}
 use Rattle.bt_messages.specs.inside.Merges.{goes_before}
 use Rattle.bt_messages.specs.inside.Runs.{AreRuns, AreSome, begins_before}
-use Rattle.bt_messages.proofs.RunLists.{begun, concatenation-append, sorted_left, whole_runs}
+use Rattle.bt_messages.proofs.RunLists.{begun, concatenation-append, sorted_left}
 use Rattle.bt_messages.proofs.offered.Placed.{first_stays, newer_first, newer_last, sorted-with_messages}
 use Rattle.bt_messages.proofs.offered.Parts.{length-with_messages}
 
@@ -51,12 +51,9 @@ module _ {M : Type 0} where
   pub some_left : (o n : Messages M) → 0 < length o → with_messages n o ≡ [] → ⊥
   some_left o n l e = omega (arith, l, ap length e, length-with_messages n o)
 
-  -- the runs of what is moved
-  pub moved_runs : (first moved o n older newer : Messages M) (runs : List (Messages M)) (count : ℕ) → moved ++ with_messages n o ≡ with_messages newer older
-      → IsSorted older → first ≡ [] → AreSome runs →
-      concatenation runs ≡ moved → count ≡ length moved → count < 2 ^ 63 → AreRuns first runs count
-  moved_runs first moved o n older newer runs count e h f s j l b =
-      whole_runs first runs moved count f s (sorted_left moved (with_messages n o) (subst (IsSorted {X = M}) (sym e) (sorted-with_messages newer older h))) j l b
+  -- what is moved is sorted
+  pub moved_sorted : (moved o n older newer : Messages M) → moved ++ with_messages n o ≡ with_messages newer older → IsSorted older → IsSorted moved
+  moved_sorted moved o n older newer e h = sorted_left moved (with_messages n o) (subst (IsSorted {X = M}) (sym e) (sorted-with_messages newer older h))
 
   -- ---- packets appended to each other
 
@@ -64,24 +61,24 @@ module _ {M : Type 0} where
   some-append [] qs h k = k
   some-append (r ∷ rs) qs h k = (h.0, some-append rs qs h.1 k)
 
-  whole-append : (a b : Messages M) (rs qs : List (Messages M)) → concatenation qs ≡ b → a ++ concatenation (rs ++ qs) ≡ (a ++ concatenation rs) ++ b
-  whole-append a b rs qs e =
-      ap (λ z. a ++ z) (concatenation-append rs qs) ∙ sym (append_assoc a (concatenation rs) (concatenation qs)) ∙ ap (λ z. (a ++ concatenation rs) ++ z) e
+  -- the messages of a packet with the lists of another one after its own
+  pub whole-append : (a : Messages M) {b whole : Messages M} (rs qs : List (Messages M)) {new : List (Messages M)} → a ++ concatenation rs ≡ whole → concatenation qs ≡ b → new ≡ rs ++ qs →
+      a ++ concatenation new ≡ whole ++ b
+  whole-append a {b} rs qs w e is =
+      ap (λ z. a ++ concatenation z) is ∙ ap (λ z. a ++ z) (concatenation-append rs qs) ∙ sym (append_assoc a (concatenation rs) (concatenation qs))
+      ∙ ap (λ z. (a ++ concatenation rs) ++ z) e ∙ ap (λ z. z ++ b) w
 
-  -- a packet with the lists of another one after its own
-  pub runs-append : (a b whole : Messages M) (rs qs new : List (Messages M)) (n m k : ℕ) → AreRuns a rs n → AreSome qs → concatenation qs ≡ b → m ≡ length b
-      → a ++ concatenation rs ≡ whole → IsSorted (whole ++ b) →
-      (k ≡ n + m) × (k < 2 ^ 63) → new ≡ rs ++ qs → AreRuns a new k × (a ++ concatenation new ≡ whole ++ b)
-  runs-append a b whole rs qs new n m k h s e f w i c l =
-      let is : a ++ concatenation new ≡ whole ++ b = ap (λ z. a ++ concatenation z) l ∙ whole-append a b rs qs e ∙ ap (λ z. z ++ b) w in (
-        record {
-          some = subst (AreSome {X = List ℕ × M}) (sym l) (some-append rs qs h.some s);
-          sorted = subst (IsSorted {X = M}) (sym is) i;
-          count = omega (arith, c.0, f, h.count, ap length is, length-append whole b, ap length w);
-          bound = c.1;
-        },
-        is,
-      )
+  -- its runs
+  pub runs-append : {a : Messages M} {rs : List (Messages M)} (qs : List (Messages M)) {new : List (Messages M)} {n k : ℕ} → AreRuns a rs n → AreSome qs → new ≡ rs ++ qs →
+      IsSorted (a ++ concatenation new) → k ≡ n + length (concatenation qs) → k < 2 ^ 63 → AreRuns a new k
+  runs-append {a} {rs} qs {new} h s is sorted count bound =
+      let all = whole-append a rs qs {new = new} refl refl is in
+      record {
+        some = subst (AreSome {X = List ℕ × M}) (sym is) (some-append rs qs h.some s);
+        sorted = sorted;
+        count = omega (arith, count, h.count, ap length all, length-append (a ++ concatenation rs) (concatenation qs));
+        bound = bound;
+      }
 
   pub some_first : (r : Messages M) (empty : Bool) (rs new : List (Messages M)) → empty ≡ (length r == 0) → empty ≡ false → AreSome rs → new ≡ r ∷ rs → AreSome new
   some_first [] empty rs new e f h l = absurd (true≢false (sym e ∙ f))

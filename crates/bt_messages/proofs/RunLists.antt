@@ -44,18 +44,11 @@ module _ {M : Type 0} where
   concatenation-append [] bs = refl
   concatenation-append (a ∷ qs) bs = ap (λ z. a ++ z) (concatenation-append qs bs) ∙ sym (append_assoc a (concatenation qs) (concatenation bs))
 
-  -- the pieces of a list and of the runs after it are all of them
-  pub walked : (a b first : Messages M) (qs bs rest : List (Messages M)) (x y z : Messages M) {p q : Messages M} → a ++ b ≡ first → qs ++ bs ≡ rest →
-      x ≡ p ++ [] → p ≡ a → y ≡ q ++ concatenation qs → q ≡ b → z ≡ concatenation bs → x ++ (y ++ z) ≡ first ++ concatenation rest
-  walked a b first qs bs rest x y z {p} {q} e f g j h k l =
-      ap (λ ms. ms ++ (y ++ z)) (g ∙ append-nil p ∙ j)
-      ∙ ap (λ ms. a ++ (ms ++ z)) (h ∙ ap (λ ms. ms ++ concatenation qs) k)
-      ∙ ap (λ ms. a ++ ((b ++ concatenation qs) ++ ms)) l
-      ∙ ap (λ ms. a ++ ms) (append_assoc b (concatenation qs) (concatenation bs))
-      ∙ ap (λ ms. a ++ (b ++ ms)) (sym (concatenation-append qs bs))
+  -- the second piece of a list and the runs after it, in two pieces too
+  pub pieces_joined : (a b : Messages M) (qs bs : List (Messages M)) → a ++ ((b ++ concatenation qs) ++ concatenation bs) ≡ (a ++ b) ++ concatenation (qs ++ bs)
+  pieces_joined a b qs bs =
+      ap (λ ms. a ++ ms) (append_assoc b (concatenation qs) (concatenation bs) ∙ ap (λ ms. b ++ ms) (sym (concatenation-append qs bs)))
       ∙ sym (append_assoc a b (concatenation (qs ++ bs)))
-      ∙ ap (λ ms. ms ++ concatenation (qs ++ bs)) e
-      ∙ ap (λ rs. first ++ concatenation rs) f
 
   pub concatenation-push : (qs : List (Messages M)) (b : Messages M) → concatenation (qs ++ b ∷ []) ≡ concatenation qs ++ b
   concatenation-push qs b = concatenation-append qs (b ∷ []) ∙ ap (λ z. concatenation qs ++ z) (append-nil b)
@@ -181,19 +174,30 @@ module _ {M : Type 0} where
   abbrev pub Parts : List ℕ → ℕ → Messages M → Type 0
   Parts k n ms = AllBefore k (take n ms) × AllFrom k (drop n ms)
 
-  pub placed_run : (k : List ℕ) (a : Messages M) (rs : List (Messages M)) (n m p at : ℕ) (r : Messages M) → IsSorted (a ++ concatenation rs) → n < length rs → begins_before k (get_or rs n []) ≡ true →
-      m ≡ suc n → AllFrom k (concatenation (drop m rs)) → r ≡ get_or rs n [] → p ≤ length r → AllBefore k (take p r) → AllFrom k (drop p r) → at ≡ length a + length (concatenation (take n rs)) + p →
-      Parts k at (a ++ concatenation rs)
-  placed_run k a rs n m p at r h l e next f is b g i w =
+  -- the last run that begins before the key, with a place in it
+  pub record IsInRun (k : List ℕ) (rs : List (Messages M)) (n p : ℕ) : Type 0 where
+    pub run : Messages M
+    pub within : n < length rs
+    pub is : run ≡ get_or rs n []
+    pub begins : begins_before k (get_or rs n []) ≡ true
+    pub later : AllFrom k (concatenation (drop (suc n) rs))
+    pub bound : p ≤ length run
+    pub before : AllBefore k (take p run)
+    pub from : AllFrom k (drop p run)
+
+  pub placed_run : (k : List ℕ) (a : Messages M) (rs : List (Messages M)) (n p at : ℕ) → IsSorted (a ++ concatenation rs) → IsInRun k rs n p →
+      at ≡ length a + length (concatenation (take n rs)) + p → Parts k at (a ++ concatenation rs)
+  placed_run k a rs n p at h found place_is =
       let front = a ++ concatenation (take n rs) in
       let back = concatenation (drop (suc n) rs) in
       let run = get_or rs n [] in
-      let whole : a ++ concatenation rs ≡ front ++ (run ++ back) = ap (λ z. a ++ z) (concatenation-cut rs n l) ∙ sym (append_assoc a (concatenation (take n rs)) (run ++ back)) in
-      let place : at ≡ length front + p = omega (arith, w, length-append a (concatenation (take n rs))) in
-      let few : p ≤ length run = omega (arith, b, ap length is) in
+      let whole : a ++ concatenation rs ≡ front ++ (run ++ back) =
+      ap (λ z. a ++ z) (concatenation-cut rs n found.within) ∙ sym (append_assoc a (concatenation (take n rs)) (run ++ back)) in
+      let place : at ≡ length front + p = omega (arith, place_is, length-append a (concatenation (take n rs))) in
+      let few : p ≤ length run = omega (arith, found.bound, ap length found.is) in
       subst (Parts k at) (sym whole) (
-        before_place k front run back p at place few (runs_earlier k a rs n h l e) (subst (λ z. AllBefore k (take p z)) is g),
-        from_place k front run back p at place few (subst (λ z. AllFrom k (drop p z)) is i) (subst (λ n. AllFrom k (concatenation (drop n rs))) next f),
+        before_place k front run back p at place few (runs_earlier k a rs n h found.within found.begins) (subst (λ z. AllBefore k (take p z)) found.is found.before),
+        from_place k front run back p at place few (subst (λ z. AllFrom k (drop p z)) found.is found.from) found.later,
       )
 
   -- ---- what begins before a key

@@ -5,9 +5,9 @@ use Rattle.std.proofs.lemmas.List.{drop-drop, drop-set-lt, drop_more, take_more_
 use Rattle.bt_keycode.specs.Keys.{IsSorted}
 use Rattle.bt_messages.specs.Bins.{each_with}
 use Rattle.bt_messages.specs.Parts.{parted, total}
-use Rattle.bt_message.specs.Messages.{Messages, messages_past, messages_up_to, with_messages}
+use Rattle.bt_message.specs.Messages.{Messages, with_messages}
 use Rattle.bt_messages.specs.inside.Rooms.{HasRoom, HaveRoom}
-use Rattle.bt_messages.proofs.Merging.{step}
+use Rattle.bt_messages.proofs.Merging.{AreMoved, step}
 use Rattle.bt_messages.proofs.offered.Fronts.{one_taken, sorted_take}
 use Rattle.bt_messages.proofs.offered.Placed.{sorted-with_messages}
 
@@ -20,11 +20,9 @@ any_default (x ∷ xs) (suc i) d e l = any_default xs i d e (omega (arith, l))
 module _ {M : Type 0} where
   -- ---- the first messages of a stream are merged
 
-  pub front_step : (n : List ℕ × M) (rest ms os past wanted start between done : Messages M) (count i : ℕ) → i < count → ms ≡ n ∷ rest → IsSorted ms →
-      wanted ≡ start ++ with_messages (take (count - i) ms) os → between ≡ start ++ messages_up_to n.0 os → past ≡ messages_past n.0 os → done ≡ between ++ n ∷ [] →
-      wanted ≡ done ++ with_messages (take (count - (i + 1)) rest) past
-  front_step n rest ms os past wanted start between done count i l e h w b p d =
-      step n (take (count - (i + 1)) rest) (take (count - i) ms) os past wanted start between done (one_taken ms rest n count i l e).0 (sorted_take (count - i) ms h) w b p d
+  pub front_step : (n : List ℕ × M) (rest ms : Messages M) {os past wanted start done : Messages M} (count i : ℕ) → i < count → ms ≡ n ∷ rest → IsSorted ms →
+      wanted ≡ start ++ with_messages (take (count - i) ms) os → AreMoved n os past start done → wanted ≡ done ++ with_messages (take (count - (i + 1)) rest) past
+  front_step n rest ms count i l e h w moved = step n (take (count - (i + 1)) rest) (one_taken ms rest n count i l e).0 (sorted_take (count - i) ms h) w moved
 
   -- ---- room
 
@@ -54,14 +52,24 @@ module _ {M : Type 0} where
   pub gained_sorted : (start merged more older : Messages M) → merged ≡ start ++ with_messages more older → start ≡ [] → IsSorted older → IsSorted merged
   gained_sorted start merged more older e f h = subst IsSorted (sym (e ∙ ap (λ zs. zs ++ with_messages more older) f)) (sorted-with_messages more older h)
 
+  -- a new list has room for the share of the bin at a place
+  pub record HasRoomHere (ns : List ℕ) (bs : List (Messages M)) (i : ℕ) (list : Vec (List ℕ × M) Global) : Type 0 where
+    pub share : ℕ
+    pub bin : Messages M
+    pub among_shares : i < length ns
+    pub share_is : share ≡ get_or ns i share
+    pub among_bins : i < length bs
+    pub bin_is : bin ≡ get_or bs i bin
+    pub room : HasRoom share bin list
+
   -- room for one more bin
-  pub room_more : (i : ℕ) (ns : List ℕ) (bs : List (Messages M)) (rs more : List (Vec (List ℕ × M) Global)) (n : ℕ) (b : Messages M) (r : Vec (List ℕ × M) Global) →
-      length rs ≡ i → i < length ns → i < length bs → n ≡ get_or ns i n → b ≡ get_or bs i b → HasRoom n b r → more ≡ rs ++ r ∷ [] → HaveRoom (take i ns) bs rs → HaveRoom (take (i + 1) ns) bs more
-  room_more i ns bs rs more n b r e l k p q h m hs =
+  pub room_more : (i : ℕ) (ns : List ℕ) (bs : List (Messages M)) (rs more : List (Vec (List ℕ × M) Global)) {r : Vec (List ℕ × M) Global} →
+      length rs ≡ i → HasRoomHere ns bs i r → more ≡ rs ++ r ∷ [] → HaveRoom (take i ns) bs rs → HaveRoom (take (i + 1) ns) bs more
+  room_more i ns bs rs more {r} e here m hs =
       let one : suc i ≡ i + 1 = omega arith in
+      let room = subst (λ n. HasRoom n (get_or bs i here.bin) r) here.share_is (subst (λ b. HasRoom here.share b r) here.bin_is here.room) in
       subst (λ j. HaveRoom (take j ns) bs more) one
-      (subst (HaveRoom (take (suc i) ns) bs) (sym m)
-      (room_push i ns bs rs n b r e l k (subst (λ x. HasRoom x (get_or bs i b) r) p (subst (λ c. HasRoom n c r) q h)) hs))
+      (subst (HaveRoom (take (suc i) ns) bs) (sym m) (room_push i ns bs rs here.share here.bin r e here.among_shares here.among_bins room hs))
 
   -- ---- moves
 

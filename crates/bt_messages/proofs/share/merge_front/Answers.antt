@@ -1,5 +1,8 @@
-use Rattle.std.proofs.Common.{◌≡◌, ◌-◌, ◌∷◌, ◌++◌, [], ◌∙◌, ap, append_assoc, arith, drop, length, sym, take, vec_capacity, vec_len}
-use Rattle.bt_message.specs.Messages.{messages_past, with_messages}
+use Rattle.std.proofs.Common.{◌≡◌, ◌-◌, ◌∷◌, ◌++◌, ◌∙◌, ap, append_assoc, arith, drop, length, sym, take, vec_capacity, vec_len}
+use Rattle.bt_keycode.specs.Keys.{Key}
+use Rattle.bt_message.specs.Messages.{with_messages}
+use Rattle.bt_message.specs.declared.message.Message.{Message}
+use Rattle.bt_messages.proofs.Merging.{AreMoved}
 use Rattle.bt_messages.proofs.Sharing.{front_step}
 use Rattle.bt_messages.proofs.offered.Fronts.{one_taken}
 use Rattle.bt_messages.proofs.share.merge_front.Goals as goal
@@ -47,15 +50,17 @@ push_reserved-requires g c = omega (arith, c.loop.invariant.room, c.loop-test.tr
 pub loop-preserved : goal.loop-preserved
 loop-preserved g c = elim c.match-pop.branch [
   | in-Some w ↦
-      let e : c.loop.stream ≡ (w.in-Some.key, w.in-Some.message) ∷ c.pop.new.self = w.in-Some.ensures.first in
-      let older : c.match-pop.older.items ≡ messages_past w.in-Some.key c.loop.older.items = ap (λ q. q.items) w.older-is ∙ w.move_up_to.ensures.left in
-      let merged : c.match-pop.merged.items ≡ w.move_up_to.new.merged.items ++ (w.in-Some.key, w.in-Some.message) ∷ [] = ap (λ v. v.items) w.merged-is ∙ w.push_reserved.ensures.items in
-      let wanted = c.args.merged.now.items ++ with_messages (take c.args.count c.args.stream.now) c.args.older.items in
+      let n : Key × Message g.row.V.Denot g.row.V-Delta.Denot = (w.in-Some.key, w.in-Some.message) in
+      let e : c.loop.stream ≡ n ∷ c.pop.new.self = w.in-Some.ensures.first in
+      let moved : AreMoved n c.loop.older.items c.match-pop.older.items c.loop.merged.items c.match-pop.merged.items = record {
+        between = w.move_up_to.new.merged.items;
+        up_to = w.move_up_to.ensures.moved;
+        past_are = ap (λ q. q.items) w.older-is ∙ w.move_up_to.ensures.left;
+        pushed = ap (λ v. v.items) w.merged-is ∙ w.push_reserved.ensures.items;
+      } in
       record {
-        wanted = front_step (w.in-Some.key, w.in-Some.message) c.pop.new.self c.loop.stream c.loop.older.items c.match-pop.older.items wanted
-            c.loop.merged.items w.move_up_to.new.merged.items c.match-pop.merged.items
-            c.args.count c.loop.counter c.loop-test.true e c.pop.ensures.sorted c.loop.invariant.wanted w.move_up_to.ensures.moved older merged;
-        left = sym (one_taken c.loop.stream c.pop.new.self (w.in-Some.key, w.in-Some.message) c.args.count c.loop.counter c.loop-test.true e).1 ∙ c.loop.invariant.left;
+        wanted = front_step n c.pop.new.self c.loop.stream c.args.count c.loop.counter c.loop-test.true e c.pop.ensures.sorted c.loop.invariant.wanted moved;
+        left = sym (one_taken c.loop.stream c.pop.new.self n c.args.count c.loop.counter c.loop-test.true e).1 ∙ c.loop.invariant.left;
         len = omega (arith, ap length e, c.loop.invariant.len);
         room = omega (
           arith,

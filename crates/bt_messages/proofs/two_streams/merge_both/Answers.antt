@@ -1,7 +1,7 @@
 use Rattle.std.proofs.Common.{◌++◌, arith}
 use Rattle.bt_value.specs.Lists.{concatenation}
-use Rattle.bt_messages.proofs.PacketMerges.{fewer_left, moved_count, moved_runs, some_left}
-use Rattle.bt_messages.proofs.RunLists.{run_sorted}
+use Rattle.bt_messages.proofs.PacketMerges.{fewer_left, moved_count, moved_sorted, some_left}
+use Rattle.bt_messages.proofs.RunLists.{run_sorted, whole_runs}
 use Rattle.bt_messages.proofs.offered.Placed.{sorted-with_messages}
 use Rattle.bt_messages.proofs.two_streams.merge_both.Goals as goal
 
@@ -38,6 +38,6 @@ pub from_runs-requires : goal.from_runs-requires
 from_runs-requires g c =
     let moved = concatenation c.loop-runs.runs.items ++ c.loop-runs.run.items in
     let counted = moved_count moved c.loop-runs.older c.loop-runs.newer c.args.older.now c.args.newer.now c.loop-runs.invariant.wanted in
-    moved_runs c.new.result moved c.loop-runs.older c.loop-runs.newer c.args.older.now c.args.newer.now c.add_run.new.runs.items _ c.loop-runs.invariant.wanted c.len.ensures.sorted c.new.ensures
-    c.in_ok-add_run.ensures.some c.in_ok-add_run.ensures.concatenation (omega (arith, counted, c.len.ensures.len, c.len-2.ensures.len, c.len-3.ensures.len, c.len-4.ensures.len))
-    (omega (arith, c.requires, c.len.ensures.len, c.len-2.ensures.len))
+    let sorted = moved_sorted moved c.loop-runs.older c.loop-runs.newer c.args.older.now c.args.newer.now c.loop-runs.invariant.wanted c.len.ensures.sorted in
+    whole_runs c.new.result c.add_run.new.runs.items moved _ c.new.ensures c.in_ok-add_run.ensures.some sorted c.in_ok-add_run.ensures.concatenation
+    (omega (arith, counted, c.len.ensures.len, c.len-2.ensures.len, c.len-3.ensures.len, c.len-4.ensures.len)) (omega (arith, c.requires, c.len.ensures.len, c.len-2.ensures.len))

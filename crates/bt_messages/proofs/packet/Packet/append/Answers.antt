@@ -1,12 +1,15 @@
-use Rattle.bt_messages.proofs.PacketMerges.{runs-append}
+use Rattle.std.proofs.Common.{ap, arith, length, subst, sym}
+use Rattle.bt_keycode.specs.Keys.{IsSorted}
+use Rattle.bt_messages.proofs.PacketMerges.{runs-append, whole-append}
 use Rattle.bt_messages.proofs.packet.Packet.append.Goals as goal
 
 pub invariant_of-self-2 : goal.invariant_of-self-2
 invariant_of-self-2 g c =
-    (runs-append c.self.inside.first c.args.following c.args.self.now c.self.inside.rest.items c.in_ok-runs.runs.items c.append.new.self.items c.self.inside.count c.len.result c.in_ok-count.count
-    c.self.invariant c.in_ok-runs.ensures.some c.in_ok-runs.ensures.concatenation c.len.ensures.count c.self.view_is c.requires c.in_ok-count.ensures c.in_ok-append.ensures.items).0
+    let runs = c.in_ok-runs.ensures in
+    let all = whole-append c.self.inside.first c.self.inside.rest.items c.in_ok-runs.runs.items c.self.view_is runs.concatenation c.in_ok-append.ensures.items in
+    runs-append c.in_ok-runs.runs.items c.self.invariant runs.some c.in_ok-append.ensures.items (subst IsSorted (sym all) c.requires)
+    (omega (arith, c.in_ok-count.ensures.0, c.len.ensures.count, ap length runs.concatenation)) c.in_ok-count.ensures.1
 
 pub returns-clause-ok : goal.returns-clause-ok
 returns-clause-ok g c =
-    (runs-append c.self.inside.first c.args.following c.args.self.now c.self.inside.rest.items c.in_ok-runs.runs.items c.append.new.self.items c.self.inside.count c.len.result c.in_ok-count.count
-    c.self.invariant c.in_ok-runs.ensures.some c.in_ok-runs.ensures.concatenation c.len.ensures.count c.self.view_is c.requires c.in_ok-count.ensures c.in_ok-append.ensures.items).1
+    whole-append c.self.inside.first c.self.inside.rest.items c.in_ok-runs.runs.items c.self.view_is c.in_ok-runs.ensures.concatenation c.in_ok-append.ensures.items

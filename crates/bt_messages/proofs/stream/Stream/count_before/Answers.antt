@@ -1,7 +1,7 @@
-use Rattle.std.proofs.Common.{◌≡◌, ◌<◌, ◌+◌, ◌-◌, ◌∙◌, ◌++◌, [], ap, arith, drop, get_or, length, rules, subst, suc, take}
+use Rattle.std.proofs.Common.{◌≡◌, ◌<◌, ◌+◌, ◌-◌, ◌∙◌, ◌++◌, [], ap, arith, drop, length, rules, subst, suc}
 use Rattle.bt_keycode.specs.Keys.{AllFrom}
 use Rattle.bt_value.specs.Lists.{concatenation}
-use Rattle.bt_messages.proofs.RunLists.{Parts, counted_within, from_front, placed_run, sorted_left, sorted_right}
+use Rattle.bt_messages.proofs.RunLists.{IsInRun, Parts, counted_within, from_front, placed_run, sorted_left, sorted_right}
 use Rattle.bt_messages.proofs.Sharing.{any_default}
 use Rattle.bt_messages.proofs.stream.Stream.count_before.Given.{Over}
 use Rattle.bt_messages.proofs.stream.Stream.count_before.Goals as goal
@@ -42,15 +42,21 @@ placed g c =
     let runs = c.runs_before-runs.result in
     let last = runs - 1 in
     let some : 0 < runs = search rules in
-    let within : last < length rest = omega (arith, some, c.runs_before-runs.ensures.bound) in
     let next : runs ≡ suc last = omega (arith, some) in
+    let within : last < length rest = omega (arith, some, c.runs_before-runs.ensures.bound) in
+    let found : IsInRun key rest last c.count_before-2.result = record {
+      run = c.index.result.now;
+      within = within;
+      is = c.index.ensures ∙ any_default rest last c.index.result.now [] within;
+      begins = c.runs_before-runs.ensures.last some;
+      later = subst (λ n. AllFrom key (concatenation (drop n rest))) next c.runs_before-runs.ensures.from;
+      bound = c.count_before-2.ensures.bound;
+      before = c.count_before-2.ensures.before;
+      from = c.count_before-2.ensures.from;
+    } in
     let led : c.len.result ≡ length first = search rules in
-    let run : c.index.result.now ≡ get_or rest last [] = c.index.ensures ∙ any_default rest last c.index.result.now [] within in
-    let place : c.len.result + c.count_of-before.result + c.count_before-2.result
-    ≡ length first + length (concatenation (take last rest)) + c.count_before-2.result = omega (arith, led, c.count_of-before.ensures) in
-    placed_run key first rest last runs c.count_before-2.result (c.len.result + c.count_of-before.result + c.count_before-2.result) c.index.result.now
-    c.self.invariant.sorted within (c.runs_before-runs.ensures.last some) next c.runs_before-runs.ensures.from run c.count_before-2.ensures.bound
-    c.count_before-2.ensures.before c.count_before-2.ensures.from place
+    placed_run key first rest last c.count_before-2.result (c.len.result + c.count_of-before.result + c.count_before-2.result) c.self.invariant.sorted found
+    (omega (arith, led, c.count_of-before.ensures))
 
 pub returns-clause-before : goal.returns-clause-before
 returns-clause-before g c = rw (← c.self.view_is) (placed g c).0

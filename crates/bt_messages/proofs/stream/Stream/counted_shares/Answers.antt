@@ -3,16 +3,22 @@ use Rattle.std.proofs.lemmas.Grind.{common_steps}
 use Rattle.std.proofs.lemmas.List.{drop_all}
 use Rattle.bt_messages.specs.Parts.{total}
 use Rattle.bt_messages.specs.Shares.{counts}
-use Rattle.bt_messages.proofs.Counts.{counted_all, counted_keys, counts-push, one_counted, total-push}
+use Rattle.bt_messages.proofs.Counts.{AreDivided, counted_all, counted_next, counts-push, one_counted, total-push}
 use Rattle.bt_messages.proofs.stream.Stream.counted_shares.Goals as goal
 
 pub loop-pivot-preserved : goal.loop-pivot-preserved
 loop-pivot-preserved g c =
     let more = counts-push c.loop-pivot.shares.items c.push_reserved.new.self.items c.new.result c.push_reserved.ensures.items (c.place_within-place.result - c.loop-pivot.from) c.new.ensures in
+    let part : AreDivided c.args.pivots.now c.loop-pivot.pivot-index c.loop-pivot.from c.place_within-place.result c.args.count c.args.self.now = record {
+      pivot = _;
+      within = c.loop-pivot-test.true;
+      is = c.pivot-item.is;
+      low = c.place_within-place.ensures.low;
+      before = c.place_within-place.ensures.before;
+      from = c.place_within-place.ensures.from;
+    } in
     record {
-      parts = counted_keys c.args.pivots.now c.loop-pivot.pivot-index _ _ _ _ _ c.args.count c.args.self.now _
-          c.loop-pivot-test.true c.pivot-item.is c.loop-pivot.invariant.total c.place_within-place.ensures.low more
-          c.place_within-place.ensures.before c.place_within-place.ensures.from c.loop-pivot.invariant.parts;
+      parts = counted_next (counts c.loop-pivot.shares.items) part c.loop-pivot.invariant.total more c.loop-pivot.invariant.parts;
       total = omega (
         arith,
         ap total more,

@@ -1,7 +1,7 @@
-use Rattle.std.proofs.Common.{◌∙◌, subst, sym}
+use Rattle.std.proofs.Common.{◌≡◌, ◌++◌, ◌∙◌, ap, append-nil, subst, sym}
 use Rattle.bt_keycode.specs.Keys.{IsSorted}
 use Rattle.bt_value.specs.Lists.{concatenation}
-use Rattle.bt_messages.proofs.RunLists.{sorted_left, sorted_right, walked}
+use Rattle.bt_messages.proofs.RunLists.{pieces_joined, sorted_left, sorted_right}
 use Rattle.bt_messages.proofs.stream.Stream.messages.Goals as goal
 
 pub of_sorted-requires : goal.of_sorted-requires
@@ -16,8 +16,10 @@ of_sorted-requires-2 g c =
 
 pub returns : goal.returns
 returns g c =
-    c.of-2.ensures
-    ∙ walked c.as_slices.result.0.now c.as_slices.result.1.now _ c.as_slices-2.result.0.now c.as_slices-2.result.1.now _ c.following.result c.following-2.result
-    c.of.result c.as_slices.ensures.items c.as_slices-2.ensures.items
-    c.following.ensures c.of_sorted.ensures c.following-2.ensures c.of_sorted-2.ensures c.of.ensures
-    ∙ c.self.view_is
+    let first = c.as_slices.result in
+    let rest = c.as_slices-2.result in
+    let front : c.following.result ≡ first.0.now = c.following.ensures ∙ append-nil _ ∙ c.of_sorted.ensures in
+    let middle : c.following-2.result ≡ first.1.now ++ concatenation rest.0.now = c.following-2.ensures ∙ ap (λ ms. ms ++ concatenation rest.0.now) c.of_sorted-2.ensures in
+    let all : c.following.result ++ (c.following-2.result ++ c.of.result) ≡ c.self.inside.first.items ++ concatenation c.self.inside.rest.items =
+    rw (front, middle, c.of.ensures, ← c.as_slices.ensures.items, ← c.as_slices-2.ensures.items) (pieces_joined first.0.now first.1.now rest.0.now rest.1.now) in
+    c.of-2.ensures ∙ all ∙ c.self.view_is
