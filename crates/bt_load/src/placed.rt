@@ -25,10 +25,7 @@ fn no_keys(alloc: Global, count: usize) -> Result<Vec<Placed>, AllocError>
     ensures { IfOk result (λ placed. length placed.items ≡ count) }
 {
     let mut placed = Vec::new(alloc);
-    placed.resize_with(
-        count,
-        || (Key::new(), 0),
-    )?;
+    placed.resize_with(count, || (Key::new(), 0))?;
     Ok(placed)
 }
 

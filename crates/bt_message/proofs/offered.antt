@@ -1,3 +1,4 @@
 -- The lemmas of this crate that crates above cite.
 pub mod Arrivals
+pub mod Moved
 pub mod Ranges

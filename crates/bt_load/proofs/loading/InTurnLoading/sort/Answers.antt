@@ -2,8 +2,9 @@ use Rattle.std.proofs.Common.{◌∙◌, ap, length, rules, sym}
 use Rattle.std.proofs.lemmas.List.Sorted.{answers_always}
 use Rattle.std.specs.List.Sorted.{IsSorted}
 use Rattle.bt_keycode.proofs.offered.Occurrences.{written_back}
-use Rattle.bt_load.specs.Steps.{placed_cmp}
-use Rattle.bt_load.proofs.Moved.{in_order, is_permutation}
+use Rattle.bt_load.specs.Steps.{no_key, placed_cmp}
+use Rattle.bt_message.proofs.offered.Moved.{moved_permutation}
+use Rattle.bt_load.proofs.Moved.{in_order}
 use Rattle.bt_load.proofs.Orders.{placed_before, placed_ranks}
 use Rattle.bt_load.proofs.loading.InTurnLoading.sort.Goals as goal
 
@@ -17,7 +18,7 @@ returns-then-is_err-clause-sorted c =
 
 -- sorted by places
 pub returns-else-is_err-clause-permutation : goal.returns-else-is_err-clause-permutation
-returns-else-is_err-clause-permutation c = is_permutation c.requires.places (search rules)
+returns-else-is_err-clause-permutation c = moved_permutation no_key c.args.placed.now.items c.sort_by_key.new.items.items (search rules)
 
 pub returns-else-is_err-clause-sorted : goal.returns-else-is_err-clause-sorted
-returns-else-is_err-clause-sorted c = in_order c.requires.places (search rules)
+returns-else-is_err-clause-sorted c = in_order c.args.placed.now.items c.sort_by_key.new.items.items c.requires.places (search rules)
