@@ -1,6 +1,6 @@
 -- Children are their nodes with their pivots and their bins.
 use Rattle.std.proofs.Common.{◌≡◌, ◌≤◌, ◌<◌, ◌+◌, ◌-◌, ◌==◌, ℕ, zero, suc, Bool, true, false, List, [], ◌∷◌, ◌++◌, drop, length}
-use Rattle.std.proofs.Common.{map, replicate, refl, sym, ap, subst, ◌∙◌, append-nil, append_assoc, arith, length-append}
+use Rattle.std.proofs.Common.{map, replicate, refl, sym, ap, subst, ◌∙◌, append_assoc, arith, length-append}
 use Rattle.std.proofs.lemmas.Bool.{ne_eqb}
 use Rattle.std.proofs.lemmas.List.{nil_from_length}
 use Rattle.std.specs.List.{zip}
@@ -20,7 +20,29 @@ pub replicate-more : {X : Type 0} (n : ℕ) (x : X) → replicate n x ++ x ∷ [
 replicate-more zero x = refl
 replicate-more (suc n) x = ap (λ z. x ∷ z) (replicate-more n x)
 
+-- The lists in which children stand: the first pivot, the pivots after it, the trees and the bins.
+pub record ListedChildren (V M : Type 0) : Type 0 where
+  pub first : Key
+  pub pivots : List Key
+  pub trees : List (Tree V M)
+  pub bins : List (Messages M)
+
 module _ {V M : Type 0} where
+  abbrev pub listed : Key → List Key → List (Tree V M) → List (Messages M) → ListedChildren V M
+  listed first pivots trees bins = record { first = first; pivots = pivots; trees = trees; bins = bins }
+
+  abbrev pub children_of : ListedChildren V M → List (Child V M)
+  children_of c = with_pending (zip (c.first ∷ c.pivots) c.trees) c.bins
+
+  -- a bin for each tree, and a pivot between any two
+  pub record AreAligned (c : ListedChildren V M) : Type 0 where
+    pub bins : length c.bins ≡ length c.trees
+    pub pivots : length c.pivots ≡ length c.trees - 1
+
+  pub same_children : (first : Key) {ps qs : List Key} {ts us : List (Tree V M)} {bs cs : List (Messages M)} → ps ≡ qs → ts ≡ us → bs ≡ cs →
+      children_of (listed first ps ts bs) ≡ children_of (listed first qs us cs)
+  same_children first pivots trees bins = λ i. children_of (listed first (pivots i) (trees i) (bins i))
+
   -- ---- one more, or more
 
   with_pending-append : (ks ls : List Key) (ts us : List (Tree V M)) (bs cs : List (Messages M)) → length ts ≡ length ks → length bs ≡ length ts →
@@ -34,91 +56,86 @@ module _ {V M : Type 0} where
       ap (λ z. record { pivot = k; tree = t; pending = b } ∷ z) (with_pending-append ks ls ts us bs cs (omega (arith, same)) (omega (arith, long)))
 
   -- The pivot before the first of more children: it comes first if there is none before it, and after the others otherwise.
-  pub record IsNext (first : Key) (ps : List Key) (ts : List (Tree V M)) (k now : Key) (qs : List Key) : Type 0 where
-    pub begins : length ts ≡ 0 → (now ≡ k) × (qs ≡ ps)
-    pub goes_on : 0 < length ts → (now ≡ first) × (qs ≡ ps ++ k ∷ [])
+  pub record IsNext (old : ListedChildren V M) (k now : Key) (qs : List Key) : Type 0 where
+    pub begins : length old.trees ≡ 0 → (now ≡ k) × (qs ≡ old.pivots)
+    pub goes_on : 0 < length old.trees → (now ≡ old.first) × (qs ≡ old.pivots ++ k ∷ [])
 
-  pub is_next : (first : Key) (ps js : List Key) (ts ws : List (Tree V M)) (k now : Key) (qs : List Key) (begins : Bool) (len : ℕ) → begins ≡ (len == 0) → len ≡ length ws → ws ≡ ts → js ≡ ps →
-      (begins ≡ true → (now ≡ k) × (qs ≡ js)) → (begins ≡ false → (now ≡ first) × (qs ≡ js ++ k ∷ [])) → IsNext first ps ts k now qs
-  is_next first ps js ts ws k now qs begins zero test count nodes_are pivots_are at_first later = record {
-    begins = λ none. ((at_first test).0, (at_first test).1 ∙ pivots_are);
-    goes_on = λ some. absurd (omega (arith, some, count, ap length nodes_are));
-  }
-  is_next first ps js ts ws k now qs begins (suc n) test count nodes_are pivots_are at_first later = record {
-    begins = λ none. absurd (omega (arith, none, count, ap length nodes_are));
-    goes_on = λ some. let here = later (test ∙ ne_eqb (suc n) 0 (λ e. omega (arith, e))) in (here.0, here.1 ∙ ap (λ is. is ++ k ∷ []) pivots_are);
+  pub is_next : {old : ListedChildren V M} {k now : Key} {qs : List Key} {begins : Bool} (len : ℕ) → begins ≡ (len == 0) → len ≡ length old.trees →
+      (begins ≡ true → (now ≡ k) × (qs ≡ old.pivots)) → (begins ≡ false → (now ≡ old.first) × (qs ≡ old.pivots ++ k ∷ [])) → IsNext old k now qs
+  is_next zero test count at_first later = record { begins = λ none. at_first test; goes_on = λ some. absurd (omega (arith, some, count)) }
+  is_next (suc n) test count at_first later = record {
+    begins = λ none. absurd (omega (arith, none, count));
+    goes_on = λ some. later (test ∙ ne_eqb (suc n) 0 (λ e. omega (arith, e)));
   }
 
-  more : (first : Key) (ps : List Key) (ts : List (Tree V M)) (bs : List (Messages M)) (k now : Key) (qs ls : List Key) (us : List (Tree V M)) (cs : List (Messages M)) →
-      length bs ≡ length ts → length ps ≡ length ts - 1 → IsNext first ps ts k now qs →
-      with_pending (zip (now ∷ qs ++ ls) (ts ++ us)) (bs ++ cs) ≡ with_pending (zip (first ∷ ps) ts) bs ++ with_pending (zip (k ∷ ls) us) cs
-  more first ps [] bs k now qs ls us cs long fewer next =
-      let none : bs ≡ [] = nil_from_length bs long in
-      let before : ps ≡ [] = nil_from_length ps (omega (arith, fewer)) in
-      let here = next.begins refl in
-      ap (λ ds. with_pending (zip (now ∷ qs ++ ls) us) (ds ++ cs)) none
-      ∙ ap (λ j. with_pending (zip (j ∷ qs ++ ls) us) cs) here.0
-      ∙ ap (λ js. with_pending (zip (k ∷ js ++ ls) us) cs) (here.1 ∙ before)
-  more first ps (t ∷ ts) bs k now qs ls us cs long fewer next =
-      let here = next.goes_on (omega arith) in
-      ap (λ j. with_pending (zip (j ∷ qs ++ ls) (t ∷ ts ++ us)) (bs ++ cs)) here.0
-      ∙ ap (λ js. with_pending (zip (first ∷ js) (t ∷ ts ++ us)) (bs ++ cs)) (ap (λ js. js ++ ls) here.1 ∙ append_assoc ps (k ∷ []) ls)
-      ∙ with_pending-append (first ∷ ps) (k ∷ ls) (t ∷ ts) us bs cs (omega (arith, fewer)) long
+  -- more children stand after others
+  pub record AreAppended (old more new : ListedChildren V M) : Type 0 where
+    pub between : List Key
+    pub next : IsNext old more.first new.first between
+    pub pivots : new.pivots ≡ between ++ more.pivots
+    pub trees : new.trees ≡ old.trees ++ more.trees
+    pub bins : new.bins ≡ old.bins ++ more.bins
 
-  -- there is still one pivot fewer
-  pub still_fewer : (first : Key) (ps : List Key) (ts : List (Tree V M)) (k now : Key) (qs js ls : List Key) (us all : List (Tree V M)) → length ps ≡ length ts - 1 → IsNext first ps ts k now qs →
-      length us ≡ length ls + 1 → all ≡ ts ++ us → js ≡ qs ++ ls → length js ≡ length all - 1
-  still_fewer first ps [] k now qs js ls us all fewer next one nodes_are pivots_are =
-      omega (arith, fewer, one, ap length (next.begins refl).1, ap length nodes_are, ap length pivots_are, length-append qs ls)
-  still_fewer first ps (t ∷ ts) k now qs js ls us all fewer next one nodes_are pivots_are =
-      omega (arith, fewer, one, ap length (next.goes_on (omega arith)).1, ap length nodes_are, ap length pivots_are, length-append qs ls, length-append (t ∷ ts) us, length-append ps (k ∷ []))
+  module _ {old more new : ListedChildren V M} (aligned : AreAligned old) (appended : AreAppended old more new) where
+    pub all_appended : children_of new ≡ children_of old ++ children_of more
+    all_appended = (λ i. with_pending (zip (new.first ∷ appended.pivots i) (appended.trees i)) (appended.bins i)) ∙ at (length old.trees) refl
+      where
+        at : (n : ℕ) → length old.trees ≡ n →
+            with_pending (zip (new.first ∷ appended.between ++ more.pivots) (old.trees ++ more.trees)) (old.bins ++ more.bins) ≡ children_of old ++ children_of more
+        at zero none =
+            let no_trees : old.trees ≡ [] = nil_from_length old.trees none in
+            let no_bins : old.bins ≡ [] = nil_from_length old.bins (omega (arith, aligned.bins, none)) in
+            let no_pivots : old.pivots ≡ [] = nil_from_length old.pivots (omega (arith, aligned.pivots, none)) in
+            let here = appended.next.begins none in
+            (λ i. with_pending (zip (here.0 i ∷ (here.1 ∙ no_pivots) i ++ more.pivots) (no_trees i ++ more.trees)) (no_bins i ++ more.bins))
+            ∙ sym (ap (λ ts. with_pending (zip (old.first ∷ old.pivots) ts) old.bins ++ children_of more) no_trees)
+        at (suc n) some =
+            let here = appended.next.goes_on (omega (arith, some)) in
+            ap (λ k. with_pending (zip (k ∷ appended.between ++ more.pivots) (old.trees ++ more.trees)) (old.bins ++ more.bins)) here.0
+            ∙ ap (λ ks. with_pending (zip (old.first ∷ ks) (old.trees ++ more.trees)) (old.bins ++ more.bins))
+            (ap (λ ks. ks ++ more.pivots) here.1 ∙ append_assoc old.pivots (more.first ∷ []) more.pivots)
+            ∙ with_pending-append (old.first ∷ old.pivots) (more.first ∷ more.pivots) old.trees more.trees old.bins more.bins (omega (arith, aligned.pivots, some)) aligned.bins
 
-  -- and a bin for each
-  pub still_long : (ts us all : List (Tree V M)) (bs cs ds : List (Messages M)) → length bs ≡ length ts → length cs ≡ length us → all ≡ ts ++ us → ds ≡ bs ++ cs → length ds ≡ length all
-  still_long ts us all bs cs ds long same nodes_are bins_are = omega (arith, long, same, ap length nodes_are, ap length bins_are, length-append ts us, length-append bs cs)
+    -- there is still one pivot fewer, and a bin for each
+    pub still_aligned : AreAligned more → 0 < length more.trees → AreAligned new
+    still_aligned added some = record {
+      bins = omega (arith, aligned.bins, added.bins, ap length appended.bins, trees, length-append old.bins more.bins);
+      pivots = at (length old.trees) refl;
+    }
+      where
+        trees : length new.trees ≡ length old.trees + length more.trees
+        trees = ap length appended.trees ∙ length-append old.trees more.trees
 
-  -- one child more
-  pub one_more : (first : Key) (ps : List Key) (ts : List (Tree V M)) (bs : List (Messages M)) (k now : Key) (qs : List Key) (t : Tree V M) (b
-      : Messages M) (us : List (Tree V M)) (cs : List (Messages M)) →
-      length bs ≡ length ts → length ps ≡ length ts - 1 → IsNext first ps ts k now qs → us ≡ ts ++ t ∷ [] → cs ≡ bs ++ b ∷ [] →
-      with_pending (zip (now ∷ qs) us) cs ≡ with_pending (zip (first ∷ ps) ts) bs ++ record { pivot = k; tree = t; pending = b } ∷ []
-  one_more first ps ts bs k now qs t b us cs long fewer next nodes_are bins_are =
-      ap (λ js. with_pending (zip (now ∷ js) us) cs) (sym (append-nil qs))
-      ∙ ap (λ ws. with_pending (zip (now ∷ qs ++ []) ws) cs) nodes_are
-      ∙ ap (λ ds. with_pending (zip (now ∷ qs ++ []) (ts ++ t ∷ [])) ds) bins_are
-      ∙ more first ps ts bs k now qs [] (t ∷ []) (b ∷ []) long fewer next
+        pivots : length new.pivots ≡ length appended.between + length more.pivots
+        pivots = ap length appended.pivots ∙ length-append appended.between more.pivots
+
+        at : (n : ℕ) → length old.trees ≡ n → length new.pivots ≡ length new.trees - 1
+        at zero none = omega (arith, trees, pivots, none, some, aligned.pivots, added.pivots, ap length (appended.next.begins none).1)
+        at (suc n) more_than_none =
+            let between = ap length (appended.next.goes_on (omega (arith, more_than_none))).1 in
+            omega (arith, trees, pivots, more_than_none, some, aligned.pivots, added.pivots, between, length-append old.pivots (more.first ∷ []))
 
   -- nothing is pending for siblings with empty bins
   empty-with_pending : (xs : Siblings V M) → with_pending xs (replicate (length xs) []) ≡ none_pending xs
   empty-with_pending [] = refl
   empty-with_pending (x ∷ xs) = ap (λ z. record { pivot = x.0; tree = x.1; pending = [] } ∷ z) (empty-with_pending xs)
 
-  after_pivot-with_pending : (k : Key) (p : Messages M) (ls : List Key) (us : List (Tree V M)) → length us ≡ length ls + 1 →
-      with_pending (zip (k ∷ ls) us) (p ∷ replicate (length us - 1) []) ≡ after_pivot k p (with_pivots ls us)
-  after_pivot-with_pending k p ls [] one = absurd (omega (arith, one))
-  after_pivot-with_pending k p ls (u ∷ us) one =
+  -- the siblings that replace a child
+  pub siblings_listed : (k : Key) (p : Messages M) {xs : Siblings V M} (ls : List Key) (us : List (Tree V M)) {count : ℕ} → xs ≡ with_pivots ls us → length us ≡ length ls + 1 →
+      count ≡ length us → children_of (listed k ls us (p ∷ replicate (count - 1) [])) ≡ after_pivot k p xs
+  siblings_listed k p ls [] apart one counted = absurd (omega (arith, one))
+  siblings_listed k p ls (u ∷ us) {count} apart one counted =
       let few : length us ≤ length ls = omega (arith, one) in
-      let count : length (u ∷ us) - 1 ≡ length (zip ls us) = omega (arith, zip-length ls us few) in
-      ap (λ n. record { pivot = k; tree = u; pending = p } ∷ with_pending (zip ls us) (replicate n [])) count
+      let others : count - 1 ≡ length (zip ls us) = omega (arith, counted, zip-length ls us few) in
+      ap (λ n. record { pivot = k; tree = u; pending = p } ∷ with_pending (zip ls us) (replicate n [])) others
       ∙ ap (λ z. record { pivot = k; tree = u; pending = p } ∷ z) (empty-with_pending (zip ls us))
+      ∙ ap (after_pivot k p) (sym apart)
 
   -- siblings with the empty key, without pending messages
   pub after_pivot-nothing : (xs : Siblings V M) (k : Key) (p : Messages M) → k ≡ [] → p ≡ [] → IsLed xs → after_pivot k p xs ≡ none_pending xs
   after_pivot-nothing [] k p none empty led = absurd led
   after_pivot-nothing (x ∷ xs) k p none empty led =
       ap (λ j. record { pivot = j; tree = x.1; pending = p } ∷ none_pending xs) (none ∙ sym led) ∙ ap (λ q. record { pivot = x.0; tree = x.1; pending = q } ∷ none_pending xs) empty
-
-  -- the siblings of a child more
-  pub siblings_more : (first : Key) (ps : List Key) (ts : List (Tree V M)) (bs : List (Messages M)) (k now : Key) (qs js : List Key) (xs : Siblings V M) (ls : List Key) (us all : List (Tree V M))
-      (p : Messages M) (cs : List (Messages M)) (count : ℕ) → length bs ≡ length ts → length ps ≡ length ts - 1 → IsNext first ps ts k now qs
-      → xs ≡ with_pivots ls us → length us ≡ length ls + 1 → count ≡ length us →
-      all ≡ ts ++ us → js ≡ qs ++ ls → cs ≡ bs ++ p ∷ replicate (count - 1) [] → with_pending (zip (now ∷ js) all) cs ≡ with_pending (zip (first ∷ ps) ts) bs ++ after_pivot k p xs
-  siblings_more first ps ts bs k now qs js xs ls us all p cs count long fewer next apart one counted nodes_are pivots_are bins_are =
-      ap (λ ws. with_pending (zip (now ∷ js) ws) cs) nodes_are
-      ∙ ap (λ is. with_pending (zip (now ∷ is) (ts ++ us)) cs) pivots_are
-      ∙ ap (λ ds. with_pending (zip (now ∷ qs ++ ls) (ts ++ us)) ds) (bins_are ∙ ap (λ n. bs ++ p ∷ replicate (n - 1) []) counted)
-      ∙ more first ps ts bs k now qs ls us (p ∷ replicate (length us - 1) []) long fewer next
-      ∙ ap (λ ds. with_pending (zip (first ∷ ps) ts) bs ++ ds) (after_pivot-with_pending k p ls us one ∙ ap (after_pivot k p) (sym apart))
 
   -- ---- all of them
 

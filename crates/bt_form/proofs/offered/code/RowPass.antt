@@ -222,26 +222,29 @@ module _ {V M : Type 0} (effect : Option V → M → Option V) where
       ∙ ap (λ zs. done ++ zs) (sym (split_at m.0 (m ∷ ms) rs (not_before_itself m.0, sorted.0) s))
       ∙ ap (λ zs. done ++ rows_after effect zs rs) (sym e) ∙ w
 
-  effect_is : (m : Key × M) (rs later : Rows V) (old new : Option V) → later ≡ from m.0 rs → old ≡ find key_cmp m.0 later → new ≡ effect old m.1 → new ≡ effect (find key_cmp m.0 (from m.0 rs)) m.1
-  effect_is m rs later old new l f e = e ∙ ap (λ o. effect o m.1) (f ∙ ap (find key_cmp m.0) l)
+  -- the row of the message's key is taken off the rows from there on, and its value gives the new one
+  pub record IsChange (m : Key × M) (rs others : Rows V) (new : Option V) : Type 0 where
+    pub later : Rows V
+    pub old : Option V
+    pub later_are : later ≡ from m.0 rs
+    pub old_is : old ≡ find key_cmp m.0 later
+    pub new_is : new ≡ effect old m.1
+    pub others_are : others ≡ with_value m.0 None later
 
-  with_row : (m : Key × M) (rs later others changed : Rows V) (old new : Option V) (v : V) → is_sorted key_cmp rs ≡ true → later ≡ from m.0 rs
-      → old ≡ find key_cmp m.0 later → new ≡ effect old m.1 → new ≡ Some v →
-      others ≡ with_value m.0 None later → changed ≡ (m.0, v) ∷ others → changed ≡ changed_by m rs
-  with_row m rs later others changed old new v s l f e is o c =
-      c ∙ ap (λ zs. (m.0, v) ∷ zs) (o ∙ ap (with_value m.0 None) l) ∙ put_first m.0 v (from m.0 rs) (sorted_from m.0 rs s) (none_before_from m.0 rs)
-      ∙ ap (λ w. with_value m.0 w (from m.0 rs)) (sym is ∙ effect_is m rs later old new l f e)
+  module _ (m : Key × M) (rs : Rows V) {others : Rows V} {new : Option V} (change : IsChange m rs others new) where
+    effect_is : new ≡ effect (find key_cmp m.0 (from m.0 rs)) m.1
+    effect_is = change.new_is ∙ ap (λ o. effect o m.1) (change.old_is ∙ ap (find key_cmp m.0) change.later_are)
 
-  without_row : (m : Key × M) (rs later changed : Rows V) (old new : Option V) → later ≡ from m.0 rs → old ≡ find key_cmp m.0 later → new ≡ effect old m.1 → new ≡ None →
-      changed ≡ with_value m.0 None later → changed ≡ changed_by m rs
-  without_row m rs later changed old new l f e is c =
-      c ∙ ap (with_value m.0 None) l ∙ ap (λ w. with_value m.0 w (from m.0 rs)) (sym is ∙ effect_is m rs later old new l f e)
+    others_stay : others ≡ with_value m.0 None (from m.0 rs)
+    others_stay = change.others_are ∙ ap (with_value m.0 None) change.later_are
 
   -- the new value after a message is put in front of the others, if there is one
-  pub put_in_front : (m : Key × M) (rs later others changed : Rows V) (old new : Option V) → is_sorted key_cmp rs ≡ true → later ≡ from m.0 rs → old ≡ find key_cmp m.0 later → new ≡ effect old m.1 →
-      others ≡ with_value m.0 None later → changed ≡ option_to_list (option_map (λ v. (m.0, v)) new) ++ others → changed ≡ changed_by m rs
-  put_in_front m rs later others changed old (Some v) s l f e o c = with_row m rs later others changed old (Some v) v s l f e refl o c
-  put_in_front m rs later others changed old None s l f e o c = without_row m rs later changed old None l f e refl (c ∙ o)
+  pub put_in_front : (m : Key × M) (rs : Rows V) {others changed : Rows V} (new : Option V) → is_sorted key_cmp rs ≡ true → IsChange m rs others new →
+      changed ≡ option_to_list (option_map (λ v. (m.0, v)) new) ++ others → changed ≡ changed_by m rs
+  put_in_front m rs (Some v) s change c =
+      c ∙ ap (λ zs. (m.0, v) ∷ zs) (others_stay m rs change) ∙ put_first m.0 v (from m.0 rs) (sorted_from m.0 rs s) (none_before_from m.0 rs)
+      ∙ ap (λ w. with_value m.0 w (from m.0 rs)) (effect_is m rs change)
+  put_in_front m rs None s change c = c ∙ others_stay m rs change ∙ ap (λ w. with_value m.0 w (from m.0 rs)) (effect_is m rs change)
 
   pub changed_sorted : (m : Key × M) (rs changed : Rows V) → is_sorted key_cmp rs ≡ true → changed ≡ changed_by m rs → is_sorted key_cmp changed ≡ true
   changed_sorted m rs changed s c = subst (λ zs. is_sorted key_cmp zs ≡ true) (sym c) (sorted_changed m.0 _ (from m.0 rs) (sorted_from m.0 rs s))

@@ -3,7 +3,7 @@ use Rattle.std.specs.FinMap.{is_sorted}
 use Rattle.bt_message.specs.Effects.{effect_of}
 use Rattle.bt_message.specs.declared.message.Message.{Message}
 use Rattle.bt_keycode.specs.Keys.{Key, key_cmp}
-use Rattle.bt_form.proofs.offered.code.RowPass.{at_end, before_of, changed_sorted, pass_step, put_in_front, result_sorted, sorted_from}
+use Rattle.bt_form.proofs.offered.code.RowPass.{IsChange, at_end, before_of, changed_sorted, pass_step, put_in_front, result_sorted, sorted_from}
 use Rattle.bt_messages.proofs.offered.Fronts.{one_taken, sorted_take}
 use Rattle.bt_form.proofs.rows.Rows.after.Goals as goal
 
@@ -20,8 +20,15 @@ loop-preserved g c =
     let message : Key × Message g.row.V.Denot g.row.V-Delta.Denot = (c.in-Some.key, c.in-Some.message) in
     let first : c.loop.stream ≡ message ∷ c.pop.new.self = search rules in
     let on = one_taken c.loop.stream c.pop.new.self message c.args.count c.loop.counter c.loop-test.true first in
-    let changed = put_in_front effect message c.loop.older.items _ _ c.put_front.new.rows.items c.take_first-old.result c.in_ok-new.new c.loop.invariant.rows
-    c.move_before.ensures.left c.take_first-old.ensures.value c.in_ok-new.ensures c.take_first-old.ensures.others c.in_ok-put_front.ensures.row in
+    let change : IsChange effect message c.loop.older.items _ c.in_ok-new.new = record {
+      later = c.move_before.new.older.items;
+      old = c.take_first-old.result;
+      later_are = c.move_before.ensures.left;
+      old_is = c.take_first-old.ensures.value;
+      new_is = c.in_ok-new.ensures;
+      others_are = c.take_first-old.ensures.others;
+    } in
+    let changed = put_in_front effect message c.loop.older.items c.in_ok-new.new c.loop.invariant.rows change c.in_ok-put_front.ensures.row in
     record {
       wanted = pass_step effect message _ (take (c.args.count - c.loop.counter) c.loop.stream) _ _ c.loop.older.items _ _ on.0
           (sorted_take (c.args.count - c.loop.counter) c.loop.stream c.pop.ensures.sorted) c.loop.invariant.rows
