@@ -86,25 +86,36 @@ module _ {K : Type 0} (seen : K → Key) (value : Key → Option (List Value)) w
       ∙ ap (λ zs. effects_by own (take (length own) others) left ++ effects_by later (drop (length own) others) zs)
       (drop-drop (message_total (take (length own) others)) (suc n) ms))
 
+  -- the next of the jobs: its keys are the first of those that are left, and its messages those after the ones that are skipped
+  pub record IsNextJob (left later : List K) (others later_others : List ℕ) (skipped next : ℕ) : Type 0 where
+    pub own : List K
+    pub own_others : List ℕ
+    pub left_is : left ≡ own ++ later
+    pub few : length own ≤ length others
+    pub own_is : own_others ≡ take (length own) others
+    pub later_is : later_others ≡ drop (length own) others
+    pub next_is : next ≡ skipped + message_total own_others
+
   -- the effects of one more job come before those of the keys that are left
-  pub one_job : (ms : Messages RowMessage) (left later own : List K) (others own_others later_others : List ℕ) (skipped next : ℕ) (rows : List (Option (List Value)))
-      (before after whole : List Effect) → left ≡ own ++ later → length own ≤ length others → own_others ≡ take (length own) others → later_others ≡ drop (length own) others
-      → next ≡ skipped + message_total own_others → rows ≡ map (λ k. value (seen k)) own → after ≡ before ++ effects_in (map seen own) own_others rows (drop skipped ms)
+  pub one_job : (ms : Messages RowMessage) {left later : List K} {others later_others : List ℕ} {skipped next : ℕ} (rows : List (Option (List Value)))
+      {before after whole : List Effect} (job : IsNextJob left later others later_others skipped next) → rows ≡ map (λ k. value (seen k)) job.own
+      → after ≡ before ++ effects_in (map seen job.own) job.own_others rows (drop skipped ms)
       → before ++ effects_by left others (drop skipped ms) ≡ whole → after ++ effects_by later later_others (drop next ms) ≡ whole
-  one_job ms left later own others own_others later_others skipped next rows before after whole left_is few own_is later_is next_is rows_are after_is so_far =
+  one_job ms {left} {later} {others} {later_others} {skipped} {next} rows {before} {after} {whole} job rows_are after_is so_far =
+      let own = job.own in
       let n = length own in
       let from = drop skipped ms in
       let now = effects_by own (take n others) from in
       let next_from : drop next ms ≡ drop (message_total (take n others)) from =
-      ap (λ i. drop i ms) (next_is ∙ ap (λ ns. skipped + message_total ns) own_is) ∙ sym (drop-drop (message_total (take n others)) skipped ms) in
+      ap (λ i. drop i ms) (job.next_is ∙ ap (λ ns. skipped + message_total ns) job.own_is) ∙ sym (drop-drop (message_total (take n others)) skipped ms) in
       let after_now : after ≡ before ++ now =
-      after_is ∙ ap (λ rs. before ++ effects_in (map seen own) own_others rs from) rows_are ∙ ap (λ ns. before ++ effects_by own ns from) own_is in
+      after_is ∙ ap (λ rs. before ++ effects_in (map seen own) job.own_others rs from) rows_are ∙ ap (λ ns. before ++ effects_by own ns from) job.own_is in
       ap (λ es. es ++ effects_by later later_others (drop next ms)) after_now
       ∙ append_assoc before now (effects_by later later_others (drop next ms))
-      ∙ ap (λ ns. before ++ (now ++ effects_by later ns (drop next ms))) later_is
+      ∙ ap (λ ns. before ++ (now ++ effects_by later ns (drop next ms))) job.later_is
       ∙ ap (λ zs. before ++ (now ++ effects_by later (drop n others) zs)) next_from
-      ∙ ap (λ es. before ++ es) (sym (effects-append own later others from few))
-      ∙ ap (λ ks. before ++ effects_by ks others from) (sym left_is)
+      ∙ ap (λ es. before ++ es) (sym (effects-append own later others from job.few))
+      ∙ ap (λ ks. before ++ effects_by ks others from) (sym job.left_is)
       ∙ so_far
 
 -- the keys that a packet names and that a cover covers, as slices, with the numbers of their messages

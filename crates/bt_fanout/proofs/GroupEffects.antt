@@ -109,30 +109,49 @@ module _ (cover : Cover) where
 
 -- ---- the effects, one after the other
 
+-- the effect on the next key: its number of further messages is at the same place, and its row comes next
+pub record IsNextEffect {K : Type 0} (seen : K → List ℕ) (keys : List K) (others : List ℕ) (rows later : List (Option (List Value))) (ms left : Messages RowMessage)
+    (effect : Effect) (old new : List Effect) : Type 0 where
+  pub row : Option (List Value)
+  pub place : ℕ
+  pub key : K
+  pub count : ℕ
+  pub key_within : length old < length keys
+  pub count_within : length old < length others
+  pub place_is : place ≡ length old
+  pub key_is : key ≡ get_or keys place key
+  pub count_is : count ≡ get_or others place count
+  pub row_is : rows ≡ row ∷ later
+  pub of_key : effect.key ≡ seen key
+  pub of_row : effect.before ≡ row
+  pub after_is : effect.after ≡ value_after_first row_effect (count + 1) ms row
+  pub left_is : left ≡ drop (count + 1) ms
+  pub added : new ≡ old ++ effect ∷ []
+
 -- one more effect
-pub one_effect : {K : Type 0} (seen : K → List ℕ) (keys : List K) (others : List ℕ) (rows later : List (Option (List Value))) (row
-    : Option (List Value)) (ms left : Messages RowMessage) (place : ℕ) (key : K)
-    (count : ℕ) (effect : Effect) (whole old new : List Effect) → length old < length keys → length old < length others → place ≡ length old
-    → key ≡ get_or keys place key → count ≡ get_or others place count →
-    rows ≡ row ∷ later → effect.key ≡ seen key → effect.before ≡ row → effect.after ≡ value_after_first row_effect (count + 1) ms row → left ≡ drop (count + 1) ms → new ≡ old ++ effect ∷ [] →
-    whole ≡ old ++ effects_in (map seen (drop (length old) keys)) (drop (length old) others) rows ms →
-    whole ≡ new ++ effects_in (map seen (drop (length new) keys)) (drop (length new) others) later left
-one_effect seen keys others rows later row ms left place key count effect whole old new within also at is_key is_count is_row as_key as_row after rest more is =
+pub one_effect : {K : Type 0} (seen : K → List ℕ) (keys : List K) (others : List ℕ) {rows later : List (Option (List Value))} {ms left : Messages RowMessage} {effect : Effect}
+    {old new : List Effect} (whole : List Effect) → IsNextEffect seen keys others rows later ms left effect old new
+    → whole ≡ old ++ effects_in (map seen (drop (length old) keys)) (drop (length old) others) rows ms
+    → whole ≡ new ++ effects_in (map seen (drop (length new) keys)) (drop (length new) others) later left
+one_effect seen keys others {rows} {later} {ms} {left} {effect} {old} {new} whole next is =
+    let row = next.row in
+    let key = next.key in
+    let count = next.count in
     let n = length old in
-    let longer : suc n ≡ length new = omega (arith, ap length more, length-append old (effect ∷ [])) in
+    let longer : suc n ≡ length new = omega (arith, ap length next.added, length-append old (effect ∷ [])) in
     let one : count + 1 ≡ suc count = omega arith in
     let first : Effect = record { key = seen key; before = row; after = value_after_first row_effect (suc count) ms row } in
-    let same : first ≡ effect = λ i. record { key = sym as_key i; before = sym as_row i; after = sym (after ∙ ap (λ m. value_after_first row_effect m ms row) one) i } in
+    let same : first ≡ effect = λ i. record { key = sym next.of_key i; before = sym next.of_row i; after = sym (next.after_is ∙ ap (λ m. value_after_first row_effect m ms row) one) i } in
     let next_keys : drop n keys ≡ key ∷ drop (length new) keys =
-    drop-cons keys n key within ∙ ap (λ k. k ∷ drop (suc n) keys) (sym (is_key ∙ ap (λ p. get_or keys p key) at)) ∙ ap (λ m. key ∷ drop m keys) longer in
+    drop-cons keys n key next.key_within ∙ ap (λ k. k ∷ drop (suc n) keys) (sym (next.key_is ∙ ap (λ p. get_or keys p key) next.place_is)) ∙ ap (λ m. key ∷ drop m keys) longer in
     let next_others : drop n others ≡ count ∷ drop (length new) others =
-    drop-cons others n count also ∙ ap (λ k. k ∷ drop (suc n) others) (sym (is_count ∙ ap (λ p. get_or others p count) at)) ∙ ap (λ m. count ∷ drop m others) longer in
+    drop-cons others n count next.count_within ∙ ap (λ k. k ∷ drop (suc n) others) (sym (next.count_is ∙ ap (λ p. get_or others p count) next.place_is)) ∙ ap (λ m. count ∷ drop m others) longer in
     is ∙ ap (λ ks. old ++ effects_in (map seen ks) (drop n others) rows ms) next_keys ∙ ap (λ ns. old ++ effects_in (map seen (key ∷ drop (length new) keys)) ns rows ms) next_others
-    ∙ ap (λ rs. old ++ effects_in (map seen (key ∷ drop (length new) keys)) (count ∷ drop (length new) others) rs ms) is_row
+    ∙ ap (λ rs. old ++ effects_in (map seen (key ∷ drop (length new) keys)) (count ∷ drop (length new) others) rs ms) next.row_is
     ∙ ap (λ e. old ++ e ∷ effects_in (map seen (drop (length new) keys)) (drop (length new) others) later (drop (suc count) ms)) same
-    ∙ ap (λ zs. old ++ effect ∷ effects_in (map seen (drop (length new) keys)) (drop (length new) others) later zs) (sym (rest ∙ ap (λ m. drop m ms) one))
+    ∙ ap (λ zs. old ++ effect ∷ effects_in (map seen (drop (length new) keys)) (drop (length new) others) later zs) (sym (next.left_is ∙ ap (λ m. drop m ms) one))
     ∙ sym (append_assoc old (effect ∷ []) (effects_in (map seen (drop (length new) keys)) (drop (length new) others) later left))
-    ∙ ap (λ es. es ++ effects_in (map seen (drop (length new) keys)) (drop (length new) others) later left) (sym more)
+    ∙ ap (λ es. es ++ effects_in (map seen (drop (length new) keys)) (drop (length new) others) later left) (sym next.added)
 
 -- The keys of a packet that a cover covers, and for each how many messages it has after its first one.
 module _ {K : Type 0} (seen : K → List ℕ) (cover : Cover) (ms : Messages RowMessage) (keys : List K) (others : List ℕ) (is_keys

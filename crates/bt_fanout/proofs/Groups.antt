@@ -226,18 +226,31 @@ pub none_left_covered : {M B : Type 0} (f : List ℕ × ℕ → B) (cover : Cove
     whole ≡ old ++ map f (groups_within cover left) → old ≡ whole
 none_left_covered f cover m ms left whole old is sorted none are = none_left f whole old (groups_within cover left) (none_covered cover m ms left is sorted none) are
 
--- one more key, and how many messages it has after its first one
-pub one_key : {M K : Type 0} (seen : K → List ℕ) (cover : Cover) (m : List ℕ × M) (ms left later : Messages M) (key : K) (count : ℕ) (keys new_keys : List K) (others new_others : List ℕ)
-    (whole : List (List ℕ × ℕ)) → left ≡ m ∷ ms → IsSorted left → seen key ≡ m.0 → is_covered cover m.0 ≡ true → count ≡ group_count m.0 ms → later ≡ after_group m.0 ms →
+-- the next key of a packet, which a cover covers, and how many messages it has after its first one
+pub record IsNextKey {M K : Type 0} (seen : K → List ℕ) (cover : Cover) (left later : Messages M) (key : K) (count : ℕ) : Type 0 where
+  pub message : List ℕ × M
+  pub rest : Messages M
+  pub left_is : left ≡ message ∷ rest
+  pub sorted : IsSorted left
+  pub key_is : seen key ≡ message.0
+  pub covered : is_covered cover message.0 ≡ true
+  pub count_is : count ≡ group_count message.0 rest
+  pub later_is : later ≡ after_group message.0 rest
+
+-- one more key
+pub one_key : {M K : Type 0} (seen : K → List ℕ) (cover : Cover) {left later : Messages M} {key : K} {count : ℕ} {keys new_keys : List K} {others new_others : List ℕ}
+    (whole : List (List ℕ × ℕ)) → IsNextKey seen cover left later key count →
     map (λ g. g.0) whole ≡ map seen keys ++ map (λ g. g.0) (groups_within cover left) → map (λ g. g.1) whole ≡ others ++ map (λ g. g.1) (groups_within cover left) →
     new_keys ≡ keys ++ key ∷ [] → new_others ≡ others ++ count ∷ [] →
     IsSorted later × ((map (λ g. g.0) whole ≡ map seen new_keys ++ map (λ g. g.0) (groups_within cover later)) × (map (λ g. g.1) whole ≡ new_others ++ map (λ g. g.1) (groups_within cover later)))
-one_key seen cover m ms left later key count keys new_keys others new_others whole is sorted is_key covered many following so also more_keys more_others =
-    let order : IsSorted (m ∷ ms) = subst IsSorted is sorted in
+one_key seen cover {left} {later} {key} {count} {keys} {new_keys} {others} {new_others} whole next so also more_keys more_others =
+    let m = next.message in
+    let ms = next.rest in
+    let order : IsSorted (m ∷ ms) = subst IsSorted next.left_is next.sorted in
     let first : groups_within cover left ≡ (seen key, count) ∷ groups_within cover later =
-    ap (groups_within cover) is ∙ within-group cover m ms covered ∙ ap (λ k. (k, group_count m.0 ms) ∷ groups_within cover (after_group m.0 ms)) (sym is_key)
-    ∙ ap (λ n. (seen key, n) ∷ groups_within cover (after_group m.0 ms)) (sym many) ∙ ap (λ zs. (seen key, count) ∷ groups_within cover zs) (sym following) in (
-      subst IsSorted (sym following) (sorted-following m.0 ms order.1),
+    ap (groups_within cover) next.left_is ∙ within-group cover m ms next.covered ∙ ap (λ k. (k, group_count m.0 ms) ∷ groups_within cover (after_group m.0 ms)) (sym next.key_is)
+    ∙ ap (λ n. (seen key, n) ∷ groups_within cover (after_group m.0 ms)) (sym next.count_is) ∙ ap (λ zs. (seen key, count) ∷ groups_within cover zs) (sym next.later_is) in (
+      subst IsSorted (sym next.later_is) (sorted-following m.0 ms order.1),
       (
         moved _ _ _ _ (seen key) (so ∙ ap (λ gs. map seen keys ++ map (λ g. g.0) gs) first) (ap (map seen) more_keys ∙ map-append seen keys (key ∷ [])),
         moved _ _ _ _ count (also ∙ ap (λ gs. others ++ map (λ g. g.1) gs) first) more_others,

@@ -17,15 +17,23 @@ same_map f g same [] = refl
 same_map f g same (i ∷ is) = ap (λ y. y ∷ map f is) (same i) ∙ ap (λ ys. g i ∷ ys) (same_map f g same is)
 
 module _ {X : Type 0} where
+  -- the next of the groups that are left, and the same group with the next of the items
+  pub record IsNextGroup {G : Type 0} (seen : G → List X) (left later : List G) (items rest : List X) (grown : G) : Type 0 where
+    pub group : G
+    pub item : X
+    pub left_is : left ≡ group ∷ later
+    pub items_are : items ≡ item ∷ rest
+    pub grown_is : seen grown ≡ seen group ++ item ∷ []
+
   -- one more group has its item
-  pub one_group : {G : Type 0} (seen : G → List X) (done more : List G) (group grown : G) (x : X) (left later : List G) (items rest : List X) (whole : List (List X))
-      → left ≡ group ∷ later → items ≡ x ∷ rest → seen grown ≡ seen group ++ x ∷ [] → more ≡ done ++ grown ∷ []
+  pub one_group : {G : Type 0} (seen : G → List X) {done more left later : List G} {items rest : List X} {grown : G} (whole : List (List X))
+      → IsNextGroup seen left later items rest grown → more ≡ done ++ grown ∷ []
       → map seen done ++ with_next (map seen left) items ≡ whole → map seen more ++ with_next (map seen later) rest ≡ whole
-  one_group seen done more group grown x left later items rest whole left_is items_are grown_is more_is so_far =
+  one_group seen {done} {more} {left} {later} {items} {rest} {grown} whole next more_is so_far =
       let others = with_next (map seen later) rest in
       ap (λ gs. map seen gs ++ others) more_is ∙ ap (λ ls. ls ++ others) (map-append seen done (grown ∷ [])) ∙ append_assoc (map seen done) (seen grown ∷ []) others
-      ∙ ap (λ g. map seen done ++ g ∷ others) grown_is
-      ∙ ap (λ gs. map seen done ++ with_next (map seen gs) (x ∷ rest)) (sym left_is) ∙ ap (λ xs. map seen done ++ with_next (map seen left) xs) (sym items_are) ∙ so_far
+      ∙ ap (λ g. map seen done ++ g ∷ others) next.grown_is
+      ∙ ap (λ gs. map seen done ++ with_next (map seen gs) (next.item ∷ rest)) (sym next.left_is) ∙ ap (λ xs. map seen done ++ with_next (map seen left) xs) (sym next.items_are) ∙ so_far
 
   pub length-with_next : (lists : List (List X)) (items : List X) → length items ≡ length lists → length (with_next lists items) ≡ length lists
   length-with_next [] items same = refl

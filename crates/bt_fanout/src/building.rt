@@ -13,6 +13,7 @@ ghost use Rattle.bt_fanout.specs.inside.RowEntries.{AreEntriesOrFailed, IsEntryO
 use crate::definition::IndexDef;
 use crate::selecting::entry_at;
 use bt_keycode::Key;
+use bt_message::sort_by_key;
 use bt_messages::{Entry, Message};
 use bt_row::Row;
 use rayon::prelude::*;
@@ -138,7 +139,7 @@ pub fn sorted_entries(
     ensures rising { IfOk result (λ entries. IsTrue (is_sorted key_cmp entries.items)) }
 {
     let mut entries = entries_in_order(alloc, def, rows)?;
-    entries.sort_unstable_by(|left, right| left.0.compare(&right.0));
+    sort_by_key(alloc, &mut entries)?;
     Ok(entries)
 }
 

@@ -81,11 +81,16 @@ loop-portion-preserved c =
       whole = subst (All IsWhole) (sym c.in_ok-push.ensures.items)
           (All-push IsWhole c.loop-portion.jobs.items job so_far.whole (All-head HasRisingKeys share shares (subst (All HasRisingKeys) steps so_far.rising), as_many));
       effects = λ messages.
-          one_job (λ k. k.now) value messages (flat_map (λ share. share.1.now) (into_iter_items c.loop-portion.portion-iterator)) later own rest c.divided.result.0.now
-          c.divided.result.1.now c.loop-portion.before (c.loop-portion.before + c.message_count-before.result) (rows_there job)
-          (flat_map (effects_there messages) c.loop-portion.jobs.items) (flat_map (effects_there messages) c.push.new.self.items)
-          (effects_by (λ k. k.now) value c.args.keys.now c.args.others.now (drop c.args.skipped messages)) keys within first others
-          (ap (λ count. c.loop-portion.before + count) c.message_count-before.ensures)
+          one_job (λ k. k.now) value messages (rows_there job)
+          (record {
+            own = own;
+            own_others = c.divided.result.0.now;
+            left_is = keys;
+            few = within;
+            own_is = first;
+            later_is = others;
+            next_is = ap (λ count. c.loop-portion.before + count) c.message_count-before.ensures;
+          })
           (All-head (HasValues row_effect value) share shares (subst (All (HasValues row_effect value)) steps so_far.values))
           (ap (flat_map (effects_there messages)) c.in_ok-push.ensures.items ∙ flat_map-push (effects_there messages) c.loop-portion.jobs.items job) (so_far.effects messages);
     }

@@ -16,9 +16,9 @@ loop-group-preserved c =
     let packet = c.in-Some-next.ensures.items in
     record {
       same = omega (arith, so_far.same, ap length group, ap length packet);
-      groups = one_group (λ group. group.items) c.loop-group.more.items c.push-in-loop-group.new.self.items c.in-Some.group c.push.new.self c.in-Some-next.packet
-          (into_iter_items c.loop-group.group-iterator) (into_iter_items c.next.new.self) (into_iter_items c.loop-group.packets) (into_iter_items c.next-in-loop-group.new.self)
-          (with_next (map (λ group. group.items) c.args.groups.items) c.args.packets.items) group packet c.in_ok-push.ensures.items c.in_ok-push-2.ensures.items so_far.groups;
+      groups = one_group (λ group. group.items) (with_next (map (λ group. group.items) c.args.groups.items) c.args.packets.items)
+          (record { group = c.in-Some.group; item = c.in-Some-next.packet; left_is = group; items_are = packet; grown_is = c.in_ok-push.ensures.items })
+          c.in_ok-push-2.ensures.items so_far.groups;
     }
 
 pub returns : goal.returns

@@ -26,9 +26,16 @@ loop-next-preserved c =
     let covered : is_covered c.args.cover.now c.in-Some.key.now ≡ true = search rules in
     let is = ap (λ next. with_next (option_map (λ m. (m.0.now, m.1.now)) next) c.loop-next.messages) c.in-Some.is in
     let fewer = fewer_left (c.in-Some.key.now, c.in-Some._message.now) c.loop-next.messages _ _ is c.messages_following-count.ensures.rest in
-    let now = one_key (λ k. k.now) c.args.cover.now (c.in-Some.key.now, c.in-Some._message.now) c.loop-next.messages _ _ c.in-Some.key
-    c.messages_following-count.result.0 c.loop-next.keys.items c.push.new.self.items
-    c.loop-next.others.items c.push-in-Some.new.self.items (groups_within c.args.cover.now c.args.packet.now) is c.loop-next.invariant.sorted refl covered
-    c.messages_following-count.ensures.count c.messages_following-count.ensures.rest
+    let now = one_key (λ k. k.now) c.args.cover.now (groups_within c.args.cover.now c.args.packet.now)
+    (record {
+      message = (c.in-Some.key.now, c.in-Some._message.now);
+      rest = c.loop-next.messages;
+      left_is = is;
+      sorted = c.loop-next.invariant.sorted;
+      key_is = refl;
+      covered = covered;
+      count_is = c.messages_following-count.ensures.count;
+      later_is = c.messages_following-count.ensures.rest;
+    })
     c.loop-next.invariant.keys c.loop-next.invariant.others (search rules) (search rules) in
     record { few = omega (arith, fewer, c.loop-next.invariant.few); sorted = now.0; keys = now.1.0; others = now.1.1 }
