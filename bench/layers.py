@@ -31,9 +31,7 @@ TOP = Path(__file__).resolve().parents[1]
 sys.path.insert(0, str(TOP / "clients/python"))
 
 from betable import Session
-from betable.replicas import Replicas
-from betable.sharded import Sharded
-from betable.shards import ProcessShard
+from betable.cluster import ProcessShard, Replicas, Sharded
 
 HEAD = "table 16 1024 256 1 id:int city:text qty:int\nindex by_city on city include qty\nbuild by_city 1\n"
 LARGE = 65_536

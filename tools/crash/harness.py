@@ -25,7 +25,8 @@ from typing import Any, NamedTuple
 
 from history import FORMAT_1, PROBE, Backup, Once, Step, expected
 
-from betable import Session, durable
+from betable import Session
+from betable.durable import table as durable
 
 HERE = Path(__file__).resolve().parent
 NOTHING, HALF, ALL_BUT_A_BYTE, WHOLE = range(4)

@@ -12,7 +12,7 @@ from pathlib import Path
 
 from history import Plain
 
-from betable import durable
+from betable.durable import table as durable
 from betable.language import commands
 
 sys.path.append(str(Path(__file__).resolve().parents[1] / "fuzz"))

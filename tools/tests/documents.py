@@ -284,7 +284,7 @@ def files_named(title):
 def files_that_name_the_newest_command_and_kind_are_those_of_the_recipes():
     """In the crates by the command, in Python by the words of the language."""
     sources = [path for folder in ("src", "specs") for path in (TOP / "crates").glob(f"bt_*/{folder}/**/*") if path.suffix in (".rt", ".antt")]
-    scripts = [*(TOP / "clients/python/betable").glob("*.py"), *(TOP / "tools").glob("*.py"), *(TOP / "tools/fuzz").glob("*.py"), *(TOP / "tools/drawing").glob("*.py")]
+    scripts = [*(TOP / "clients/python/betable").rglob("*.py"), *(TOP / "tools").glob("*.py"), *(TOP / "tools/fuzz").glob("*.py"), *(TOP / "tools/drawing").glob("*.py")]
     command = {path for path in sources if re.search(r"\bRebuil[dt]\b", path.read_text())} | {path for path in scripts if 'b"rebuild"' in path.read_text()}
     kind = {path for path in scripts if re.search(r'"flag"', path.read_text())}
     for title, named in (("## How to add a command", command), ("## How to add a kind of values", kind)):

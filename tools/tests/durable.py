@@ -39,7 +39,7 @@ index gone on f,k
 
 def durable():
     betable()
-    return __import__("betable.durable").durable
+    return __import__("betable.durable.table").durable.table
 
 
 @contextmanager
@@ -1000,7 +1000,7 @@ def a_lock_outlives_other_descriptors_of_the_file():
 
 
 def a_file_system_without_locks_is_named():
-    locks = __import__("betable.file_lock").file_lock
+    locks = __import__("betable.durable.file_lock").durable.file_lock
     flock = locks.fcntl.flock
 
     def failing(file, how):
@@ -1151,7 +1151,7 @@ def a_restored_table_is_that_of_the_backup():
         expect({name.name for name in crashed.parent.iterdir()}, {"t", "t.before-restore", "t.before-restore-wal"})
         expect((number_of(crashed), number_of(f"{crashed}.before-restore")), (2, 4))
         # It has an id of its own, also beside the backup and beside another table of the same backup.
-        expect(betable().restore(path / "backup", path / "new"), (2, []))
+        expect(betable().durable.restore(path / "backup", path / "new"), (2, []))
         with durable().open(path / "new") as table:
             table.replies(ADD)
             other = crashed_copy(table, path / "other")
@@ -1159,10 +1159,10 @@ def a_restored_table_is_that_of_the_backup():
         expect_fault(durable().Corrupt, lambda: durable().open(other), "another file")
         # A log alone is moved too.
         (path / "alone-wal").write_bytes(b"a log")
-        expect(betable().restore(path / "backup", path / "alone"), (2, [f"{path}/alone.before-restore-wal"]))
+        expect(betable().durable.restore(path / "backup", path / "alone"), (2, [f"{path}/alone.before-restore-wal"]))
         expect((number_of(path / "alone"), (path / "alone.before-restore-wal").read_bytes()), (2, b"a log"))
         # So can a backup of format 1.
-        expect(betable().restore(old_file(path / "old", [TABLE]), path / "from_old"), (1, []))
+        expect(betable().durable.restore(old_file(path / "old", [TABLE]), path / "from_old"), (1, []))
         expect(number_of(path / "from_old"), 1)
 
 
@@ -1183,13 +1183,13 @@ def a_restore_that_is_refused_changes_nothing():
         refusals = [(name, crashed, kind) for name, kind in (("empty", "NotATable"), ("text", "NotATable"), ("damaged", "Corrupt"), ("newer", "NewerFormat"))]
         refusals += [("crashed/t", path / "t", "InUse"), ("t", path / "t", None), ("none", crashed, None), ("backup", other, None)]
         for name, place, kind in refusals:
-            fault = fault_of(lambda: betable().restore(path / name, place))
+            fault = fault_of(lambda: betable().durable.restore(path / name, place))
             wanted = {"none": FileNotFoundError, "t": ValueError, "backup": FileExistsError}.get(name) or getattr(durable(), kind)
             expect((name, type(fault)), (name, wanted))
             expect_within(str(path), str(fault))
         for held in (crashed, path / "backup"):
             with durable().locked(str(held)):
-                expect_fault(durable().InUse, lambda: betable().restore(path / "backup", crashed), str(held))
+                expect_fault(durable().InUse, lambda: betable().durable.restore(path / "backup", crashed), str(held))
         expect((files_of(path), files_of(crashed.parent), files_of(other.parent)) == before, True)
         status, printed, errors = restored(path / "damaged", crashed)
         expect((status, printed), (1, ""))
@@ -1205,7 +1205,7 @@ def a_crash_in_a_restore_loses_nothing():
             child = os.fork()
             if child == 0:
                 end_at_step(step)
-                betable().restore(path / "backup", crashed)
+                betable().durable.restore(path / "backup", crashed)
                 os._exit(0)
             status = os.waitstatus_to_exitcode(os.waitpid(child, 0)[1])
             aside = crashed.with_name("t.before-restore")
@@ -1238,7 +1238,7 @@ def end_at_step(last):
 
         return counting
 
-    module = __import__("betable.backups").backups
+    module = __import__("betable.durable.backups").durable.backups
     module.sync_path = counted(module.sync_path)
     shutil.copyfile, os.rename, os.remove = counted(shutil.copyfile), counted(os.rename), counted(os.remove)
 

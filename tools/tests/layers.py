@@ -28,8 +28,7 @@ INDEX = "index c on city include qty\nbuild c 1\n"
 def betable():
     library()
     package = __import__("betable")
-    for module in ("durable", "logs", "replicas", "sharded", "shards"):
-        __import__(f"betable.{module}")
+    __import__("betable.cluster")
     return package
 
 
@@ -43,7 +42,7 @@ def what_tests_share_is_built():
 def sharded(*bounds):
     """A table among shards in this process."""
     package = betable()
-    return package.sharded.Sharded([package.shards.LocalShard() for _ in range(len(bounds) + 1)], [(bound,) for bound in bounds])
+    return package.cluster.sharded.Sharded([package.cluster.shards.LocalShard() for _ in range(len(bounds) + 1)], [(bound,) for bound in bounds])
 
 
 def shards_reply_as_one_session_does():
@@ -104,7 +103,7 @@ def odd_texts_are_in_their_shards():
 
 def what_shards_cannot_reply_is_refused_by_name():
     """And what was carried out before it is reported."""
-    not_sharded = betable().sharded.NotSharded
+    not_sharded = betable().cluster.sharded.NotSharded
     with sharded(10) as table:
         expect(table.replies("image primary\nload x\n.\n"), b"refused 3 NoTable\nrefused 1 Syntax\n")
         table.replies(TABLE)
@@ -133,12 +132,12 @@ def bounds_are_keys_of_the_table():
         ([()], "bound 1 has 0 values"),
         ([(2,), (2,)], "bound 2, (2,), is not after bound 1, (2,)"),
     ]:
-        with package.sharded.Sharded([package.shards.LocalShard() for _ in range(len(bounds) + 1)], bounds) as table:
+        with package.cluster.sharded.Sharded([package.cluster.shards.LocalShard() for _ in range(len(bounds) + 1)], bounds) as table:
             expect(table.replies("table 3 1 2 1 id:int\n"), b"refused 20 BadShape\n")
-            expect_within(part, str(raised(package.sharded.NotSharded, lambda table=table: table.replies(TABLE))))
+            expect_within(part, str(raised(package.cluster.sharded.NotSharded, lambda table=table: table.replies(TABLE))))
             expect(table.replies("get 1\n"), b"refused 3 NoTable\n")
-    expect(type_of_fault(lambda: package.sharded.Sharded([package.shards.LocalShard()], [(1,)])), ValueError)
-    expect(type_of_fault(lambda: package.sharded.Sharded([], [])), ValueError)
+    expect(type_of_fault(lambda: package.cluster.sharded.Sharded([package.cluster.shards.LocalShard()], [(1,)])), ValueError)
+    expect(type_of_fault(lambda: package.cluster.sharded.Sharded([], [])), ValueError)
 
 
 def calls_on_shards_are_those_of_a_session():
@@ -166,37 +165,37 @@ def calls_on_shards_are_those_of_a_session():
 
 def a_killed_shard_loses_the_table():
     package = betable()
-    shards = [package.shards.ProcessShard() for _ in range(2)]
-    with package.sharded.Sharded(shards, [(10,)]) as table:
+    shards = [package.cluster.shards.ProcessShard() for _ in range(2)]
+    with package.cluster.sharded.Sharded(shards, [(10,)]) as table:
         table.replies(TABLE)
         shards[1].process.kill()
         shards[1].process.wait()
         expect(table.replies("get 1\n"), b"none\n")
-        lost = raised(package.sharded.ShardLost, lambda: table.replies("batch\nput 1,a,1\nput 11,a,1\nend\n"))
+        lost = raised(package.cluster.sharded.ShardLost, lambda: table.replies("batch\nput 1,a,1\nput 11,a,1\nend\n"))
         expect((lost.shard, table.is_lost, pickle.loads(pickle.dumps(lost)).shard), (1, True, 1))
-        expect(type_of_fault(lambda: table.replies("get 1\n")), package.sharded.ShardLost)
+        expect(type_of_fault(lambda: table.replies("get 1\n")), package.cluster.sharded.ShardLost)
 
 
 def a_shard_that_hangs_loses_the_table():
     """Its process is stopped: it takes no more of a script that is longer than the pipe to it, or gives no reply. A durable table makes its shards again."""
     package = betable()
     for wrong in (0, -1, 1.9, float("inf"), float("nan")):
-        expect(type_of_fault(lambda wrong=wrong: package.shards.ProcessShard(patience=wrong)), ValueError)
-    shards = [package.shards.ProcessShard(patience=4) for _ in range(2)]
-    with package.sharded.Sharded(shards, [(10,)]) as table:
+        expect(type_of_fault(lambda wrong=wrong: package.cluster.shards.ProcessShard(patience=wrong)), ValueError)
+    shards = [package.cluster.shards.ProcessShard(patience=4) for _ in range(2)]
+    with package.cluster.sharded.Sharded(shards, [(10,)]) as table:
         table.replies(TABLE)
         os.kill(shards[1].process.pid, signal.SIGSTOP)
         batch = "batch\n" + "put 11,a,1\n" * 400_000 + "end\n"
-        expect(raised(package.sharded.ShardLost, lambda: table.replies(batch)).shard, 1)
-        expect((shards[1].process.returncode, type_of_fault(lambda: table.replies("get 1\n"))), (-signal.SIGKILL, package.sharded.ShardLost))
+        expect(raised(package.cluster.sharded.ShardLost, lambda: table.replies(batch)).shard, 1)
+        expect((shards[1].process.returncode, type_of_fault(lambda: table.replies("get 1\n"))), (-signal.SIGKILL, package.cluster.sharded.ShardLost))
     with tempfile.TemporaryDirectory() as folder:
         made = []
 
         def make():
-            made.append([package.shards.ProcessShard(patience=4) for _ in range(2)])
-            return package.sharded.Sharded(made[-1], [(10,)])
+            made.append([package.cluster.shards.ProcessShard(patience=4) for _ in range(2)])
+            return package.cluster.sharded.Sharded(made[-1], [(10,)])
 
-        with package.open(os.path.join(folder, "table"), make=make) as table:
+        with package.durable.open(os.path.join(folder, "table"), make=make) as table:
             table.replies(TABLE + "batch\nput 1,a,1\nput 11,a,1\nend\n")
             os.kill(made[0][0].process.pid, signal.SIGSTOP)
             batch = "batch\nups 1,add,qty,1\nups 11,add,qty,1\nend\nscan primary\ngo\n"
@@ -207,8 +206,8 @@ def a_shard_that_hangs_loses_the_table():
 
 def a_shard_that_works_for_longer_than_the_patience_is_not_lost():
     """It gives signs of life meanwhile."""
-    code = "import time; from betable import shard; shard.SIGN_SECONDS = 0.1; shard.Worker.run = lambda *_: time.sleep(6) or b'done'; shard.main()"
-    shard = betable().shards.ProcessShard([sys.executable, "-P", "-c", code], patience=4)
+    code = "import time; from betable.cluster import shard; shard.SIGN_SECONDS = 0.1; shard.Worker.run = lambda *_: time.sleep(6) or b'done'; shard.main()"
+    shard = betable().cluster.shards.ProcessShard([sys.executable, "-P", "-c", code], patience=4)
     expect(shard.call("run", b"")(), b"done")
     shard.close()
 
@@ -221,13 +220,13 @@ def a_durable_table_makes_its_shards_again():
 def shards_are_started_by_a_command():
     """As one of ssh would be. What does not speak as a shard is one that is lost."""
     package = betable()
-    shard = package.shards.ProcessShard(["env", sys.executable, "-P", "-m", "betable.shard"])
-    with package.sharded.Sharded([package.shards.LocalShard(), shard], [(10,)]) as table:
+    shard = package.cluster.shards.ProcessShard(["env", sys.executable, "-P", "-m", "betable.cluster.shard"])
+    with package.cluster.sharded.Sharded([package.cluster.shards.LocalShard(), shard], [(10,)]) as table:
         expect(table.replies(TABLE + "batch\nput 1,a,1\nput 11,b,1\nend\nscan primary\ngo\n"), b"table 3\nbatch 2\nrow 1,a,1\nrow 11,b,1\nrows 2\n")
     expect((type_of_fault(lambda: table.replies("get 1\n")), type_of_fault(table.scan)), (ValueError, ValueError))
     for command in (["echo", "welcome"], ["echo", "done 5"], ["true"], ["cat"]):
-        with package.sharded.Sharded([package.shards.LocalShard(), package.shards.ProcessShard(command)], [(10,)]) as table:
-            expect((raised(package.sharded.ShardLost, lambda table=table: table.replies(TABLE)).shard, table.is_lost), (1, True))
+        with package.cluster.sharded.Sharded([package.cluster.shards.LocalShard(), package.cluster.shards.ProcessShard(command)], [(10,)]) as table:
+            expect((raised(package.cluster.sharded.ShardLost, lambda table=table: table.replies(TABLE)).shard, table.is_lost), (1, True))
 
 
 def shards_are_actors_of_dask():
@@ -255,7 +254,7 @@ class Log:
         return self.engine
 
     def link(self, chain, request_id, script):
-        return betable().logs.linked(lambda text: sha256(text).digest(), chain, request_id, script)
+        return betable().cluster.logs.linked(lambda text: sha256(text).digest(), chain, request_id, script)
 
     def chain_at(self, position):
         return b"" if position == 0 else self.scripts[position - 1].chain if self.trimmed <= position <= len(self.scripts) else None
@@ -271,11 +270,11 @@ class Log:
 
     def add(self, request_id, script):
         last = len(self.scripts)
-        self.scripts.append(betable().logs.Entry(last + 1, request_id, script, self.link(self.chain_at(last), request_id, script)))
+        self.scripts.append(betable().cluster.logs.Entry(last + 1, request_id, script, self.link(self.chain_at(last), request_id, script)))
 
     def end(self, position):
         self.reach()
-        return betable().logs.End(len(self.scripts), self.chain_at(position), self.engine)
+        return betable().cluster.logs.End(len(self.scripts), self.chain_at(position), self.engine)
 
     def entries(self, first, last):
         return self.scripts[max(first, self.trimmed) - 1 : last][:2]
@@ -302,7 +301,7 @@ class Log:
 def replicas_reply_as_one_session_does():
     package, log = betable(), Log()
     images = "image primary\nimage c\nscan c\ngo\n"
-    with package.Session() as session, package.replicas.Replicas(log) as one, package.replicas.Replicas(log) as two:
+    with package.Session() as session, package.cluster.replicas.Replicas(log) as one, package.cluster.replicas.Replicas(log) as two:
         for number, script in enumerate([TABLE + INDEX, "batch\nput 1,a,1\nput 2,b,1\nend\n", "batch\nput x,a,1\nend\nget 1\n", "ups\n", images, "drain c\n"]):
             expect((one, two)[number % 2].replies(script), session.replies(script))
         expect(one.put((key, "Oslo", key) for key in range(100)), session.put((key, "Oslo", key) for key in range(100)))
@@ -311,7 +310,7 @@ def replicas_reply_as_one_session_does():
         # A checkpoint is a rebuild on all replicas, and a new one begins with it.
         one.checkpoint()
         session.replies("rebuild primary\nrebuild c\n")
-        with package.replicas.Replicas(log) as three:
+        with package.cluster.replicas.Replicas(log) as three:
             expect(three.position, one.position)
             for replica in (two, three):
                 expect(replica.replies(images), session.replies(images))
@@ -327,36 +326,36 @@ def replicas_reply_as_one_session_does():
 def requests_are_run_once():
     package, log = betable(), Log()
     add = "batch\nups 1,add,qty,1\nend\nget 1\n"
-    with package.replicas.Replicas(log) as one, package.replicas.Replicas(log, patience=0) as two:
+    with package.cluster.replicas.Replicas(log) as one, package.cluster.replicas.Replicas(log, patience=0) as two:
         one.replies(TABLE)
         wanted = b"batch 1\nrow 1,,1\n"
         expect([replica.once("r", add) for replica in (one, two, one)], [wanted] * 3)
         expect(type_of_fault(lambda: two.once("r", "get 1\n")), package.durable.RequestReused)
         # The script is in the log, and the caller gets no reply. It sends the request again, to any replica.
-        log.failures = [package.logs.Unreachable("gone")]
-        fault = raised(package.replicas.Unanswered, lambda: two.replies(add))
+        log.failures = [package.cluster.logs.Unreachable("gone")]
+        fault = raised(package.cluster.replicas.Unanswered, lambda: two.replies(add))
         again = pickle.loads(pickle.dumps(fault)).request_id
         expect([replica.once(again, add) for replica in (one, two)], [b"batch 1\nrow 1,,2\n"] * 2)
         # Within its patience a replica sends it again itself.
-        log.failures = [package.logs.Unreachable("gone")] * 2
+        log.failures = [package.cluster.logs.Unreachable("gone")] * 2
         expect(one.replies(add), b"batch 1\nrow 1,,3\n")
         # A checkpoint has the last replies too.
         one.checkpoint()
         one.trim()
-        with package.replicas.Replicas(log) as three:
+        with package.cluster.replicas.Replicas(log) as three:
             expect(three.once("r", add), wanted)
-            for number in range(package.replicas.MOST_OUTCOMES):
+            for number in range(package.cluster.replicas.MOST_OUTCOMES):
                 three.once(str(number), "get 1\n")
-            expect(type_of_fault(lambda: three.once("r", add)), package.replicas.ReplyForgotten)
+            expect(type_of_fault(lambda: three.once("r", add)), package.cluster.replicas.ReplyForgotten)
 
 
 def reads_see_what_they_say():
     package, log = betable(), Log()
-    with package.replicas.Replicas(log) as one, package.replicas.Replicas(log) as latest, package.replicas.Replicas(log, reads="local", patience=0) as local:
+    with package.cluster.replicas.Replicas(log) as one, package.cluster.replicas.Replicas(log) as latest, package.cluster.replicas.Replicas(log, reads="local", patience=0) as local:
         one.run(TABLE)
         one.put([(1, "a", 1)])
         expect((latest.replies("get 1\n"), local.replies("get 1\n")), (b"row 1,a,1\n", b"refused 3 NoTable\n"))
-        log.failures = [package.logs.Unreachable("gone")]
+        log.failures = [package.cluster.logs.Unreachable("gone")]
         expect(local.replies("get 1\n"), b"refused 3 NoTable\n")
         log.failures = []
         expect((local.catch_up(), local.replies("get 1\n")), (2, b"row 1,a,1\n"))
@@ -373,7 +372,7 @@ def reads_of_a_replica_are_those_of_its_session():
     """Each asks the log once for what is new, and an iterator for each page. None is in the log, and none runs a script."""
     package, log = betable(), Log()
     rows = [(key, "abc"[key % 3], key) for key in range(30)]
-    with package.Session() as session, package.replicas.Replicas(log) as one, package.replicas.Replicas(log) as two:
+    with package.Session() as session, package.cluster.replicas.Replicas(log) as one, package.cluster.replicas.Replicas(log) as two:
         for table in (session, one):
             table.run(TABLE + INDEX)
             table.put(rows)
@@ -412,7 +411,7 @@ def a_replica_whose_scripts_were_lost_stops_and_changes_nothing():
     for new in ([[(2, "b", 2)]] * 3, [[(2, "b", 2), (3, "b", 3)]] * 3, [[(2, "b", 2)]], []):
         for call in CALLS:
             log = Log()
-            with package.replicas.Replicas(log) as one, package.replicas.Replicas(log) as two:
+            with package.cluster.replicas.Replicas(log) as one, package.cluster.replicas.Replicas(log) as two:
                 one.run(TABLE)
                 two.once("id", "get 1\n")
                 one.catch_up()
@@ -422,12 +421,12 @@ def a_replica_whose_scripts_were_lost_stops_and_changes_nothing():
                 for rows in new:
                     two.put(rows)
                 kept = list(log.scripts)
-                fault = raised(package.replicas.Diverged, partial(call, one))
-                expect((fault.position, type_of_fault(partial(call, one)), one.is_lost), (min(len(kept), 4), package.replicas.Diverged, True))
+                fault = raised(package.cluster.replicas.Diverged, partial(call, one))
+                expect((fault.position, type_of_fault(partial(call, one)), one.is_lost), (min(len(kept), 4), package.cluster.replicas.Diverged, True))
                 expect((log.scripts, log.kept), (kept, None))
                 # The others go on, and so does this one when it is opened again.
                 expect(two.put([(4, "c", 4)]), 1)
-                with package.replicas.Replicas(log) as again:
+                with package.cluster.replicas.Replicas(log) as again:
                     expect((again.put([(5, "d", 5)]), again.scan()), (1, two.scan()))
     expect(pickle.loads(pickle.dumps(fault)).position, 2)
 
@@ -435,16 +434,16 @@ def a_replica_whose_scripts_were_lost_stops_and_changes_nothing():
 def a_replica_that_has_run_nothing_follows_any_log():
     """One that was opened on an empty log appends to what others have put there. One of an earlier log stops, however long ago that was."""
     package, log = betable(), Log()
-    with package.replicas.Replicas(log) as old, package.replicas.Replicas(log) as empty:
+    with package.cluster.replicas.Replicas(log) as old, package.cluster.replicas.Replicas(log) as empty:
         old.run(TABLE)
         log.scripts = []
-        with package.replicas.Replicas(log) as new:
+        with package.cluster.replicas.Replicas(log) as new:
             new.run(TABLE.replace("city", "town"))
             expect(empty.once("put", "batch\nput 1,a,1\nend\n"), b"batch 1\n")
             expect((new.scan(), empty.scan()), ([(1, "a", 1)],) * 2)
         for number in range(20_000):
             log.add(str(number), b"get 1\n")
-        expect((type_of_fault(old.scan), old.position), (package.replicas.Diverged, 1))
+        expect((type_of_fault(old.scan), old.position), (package.cluster.replicas.Diverged, 1))
 
 
 def the_checkpoint_of_a_wrong_replica_is_refused():
@@ -459,10 +458,10 @@ def the_checkpoint_of_a_wrong_replica_is_refused():
             return super().keep(checkpoint)
 
     log = Losing()
-    with package.replicas.Replicas(log) as one:
+    with package.cluster.replicas.Replicas(log) as one:
         one.run(TABLE)
         one.put([(1, "lost", 1)])
-        expect((type_of_fault(one.checkpoint), log.kept), (package.replicas.Diverged, None))
+        expect((type_of_fault(one.checkpoint), log.kept), (package.cluster.replicas.Diverged, None))
 
 
 def a_damaged_log_opens_again_after_a_checkpoint():
@@ -470,16 +469,16 @@ def a_damaged_log_opens_again_after_a_checkpoint():
     package = betable()
     for change in ({"script": b"batch\nput 1,b,1\nend\n"}, {"request_id": "other"}, {"position": 0}):
         log = Log()
-        with package.replicas.Replicas(log) as one, package.replicas.Replicas(log) as two:
+        with package.cluster.replicas.Replicas(log) as one, package.cluster.replicas.Replicas(log) as two:
             one.run(TABLE)
             one.once("id", "batch\nput 1,a,1\nend\n")
             one.put([(2, "c", 2)])
             log.scripts[1] = log.scripts[1]._replace(**change)
-            fault = raised(package.logs.UnusableLog, lambda two=two: two.scan())
-            expect((fault.name, two.position, type_of_fault(lambda log=log: package.replicas.Replicas(log))), ("betable", 1, package.logs.UnusableLog))
+            fault = raised(package.cluster.logs.UnusableLog, lambda two=two: two.scan())
+            expect((fault.name, two.position, type_of_fault(lambda log=log: package.cluster.replicas.Replicas(log))), ("betable", 1, package.cluster.logs.UnusableLog))
             expect_within("script 2 is missing, or was changed", str(pickle.loads(pickle.dumps(fault))))
             one.checkpoint()
-            with package.replicas.Replicas(log) as new:
+            with package.cluster.replicas.Replicas(log) as new:
                 expect([each.scan() for each in (one, two, new)], [[(1, "a", 1), (2, "c", 2)]] * 3)
 
 
@@ -500,21 +499,21 @@ def a_log_that_loses_a_request_at_once_is_asked_again():
                 return super().entries(first, last)
 
         log = Losing()
-        with package.replicas.Replicas(log) as one, package.replicas.Replicas(log) as two:
+        with package.cluster.replicas.Replicas(log) as one, package.cluster.replicas.Replicas(log) as two:
             one.run(TABLE)
             two.catch_up()
             log.lost = 1
-            expect(type_of_fault(lambda: one.once("id", "batch\nput 1,a,1\nend\n")), package.replicas.Unanswered)
+            expect(type_of_fault(lambda: one.once("id", "batch\nput 1,a,1\nend\n")), package.cluster.replicas.Unanswered)
             expect((one.once("id", "batch\nput 1,a,1\nend\n"), one.scan()), (b"batch 1\n", [(1, "a", 1)]))
             # One that only reads has run none of what is lost.
             log.lost = 1
-            expect((two.scan(), two.position, type_of_fault(one.scan)), ([], len(log.scripts), package.replicas.Diverged))
+            expect((two.scan(), two.position, type_of_fault(one.scan)), ([], len(log.scripts), package.cluster.replicas.Diverged))
 
 
 def a_replica_behind_a_trimmed_log_begins_with_the_checkpoint():
     """Also if it appends before it reads."""
     package, log = betable(), Log()
-    with package.replicas.Replicas(log) as one, package.replicas.Replicas(log) as two:
+    with package.cluster.replicas.Replicas(log) as one, package.cluster.replicas.Replicas(log) as two:
         one.run(TABLE)
         two.catch_up()
         one.put([(1, "a", 1)])
@@ -527,65 +526,65 @@ def a_replica_behind_a_trimmed_log_begins_with_the_checkpoint():
         log.trimmed = 6
         for kept in (None, log.kept, log.kept._replace(position=5)):
             log.kept = kept
-            expect((type_of_fault(two.scan), type_of_fault(lambda: two.put([(3, "c", 3)]))), (package.logs.UnusableLog,) * 2)
+            expect((type_of_fault(two.scan), type_of_fault(lambda: two.put([(3, "c", 3)]))), (package.cluster.logs.UnusableLog,) * 2)
 
 
 def two_engines_are_never_on_one_log():
     """A newer one takes a log over that is as its checkpoint."""
     package, log = betable(), Log()
-    unusable, engine = package.logs.UnusableLog, package.replicas.ENGINE
+    unusable, engine = package.cluster.logs.UnusableLog, package.cluster.replicas.ENGINE
     try:
-        with package.replicas.Replicas(log) as one, package.replicas.Replicas(log) as two:
+        with package.cluster.replicas.Replicas(log) as one, package.cluster.replicas.Replicas(log) as two:
             one.run(TABLE)
             one.put([(1, "a", 1)])
             two.catch_up()
-            package.replicas.ENGINE = engine + 1
-            expect_within("close all replicas, and update", str(raised(unusable, lambda: package.replicas.Replicas(log))))
+            package.cluster.replicas.ENGINE = engine + 1
+            expect_within("close all replicas, and update", str(raised(unusable, lambda: package.cluster.replicas.Replicas(log))))
             expect((type_of_fault(lambda: one.put([(2, "b", 2)])), len(log.scripts), log.engine), (unusable, 2, engine))
-            package.replicas.ENGINE = engine
+            package.cluster.replicas.ENGINE = engine
             one.checkpoint()
             one.put([(2, "b", 2)])
-            package.replicas.ENGINE = engine + 1
-            expect(type_of_fault(lambda: package.replicas.Replicas(log)), unusable)
-            package.replicas.ENGINE = engine
+            package.cluster.replicas.ENGINE = engine + 1
+            expect(type_of_fault(lambda: package.cluster.replicas.Replicas(log)), unusable)
+            package.cluster.replicas.ENGINE = engine
             one.checkpoint()
-            package.replicas.ENGINE = engine + 1
-            with package.replicas.Replicas(log) as new:
+            package.cluster.replicas.ENGINE = engine + 1
+            with package.cluster.replicas.Replicas(log) as new:
                 new.put([(3, "c", 3)])
-                package.replicas.ENGINE = engine
+                package.cluster.replicas.ENGINE = engine
                 last = len(log.scripts)
-                for call in (lambda: package.replicas.Replicas(log), lambda: one.replies("drain primary\n"), lambda: one.once("id", "get 1\n"), two.scan):
+                for call in (lambda: package.cluster.replicas.Replicas(log), lambda: one.replies("drain primary\n"), lambda: one.once("id", "get 1\n"), two.scan):
                     expect_within("use a version of this package with that engine", str(raised(unusable, call)))
                 expect((len(log.scripts), log.engine, two.position), (last, engine + 1, 2))
     finally:
-        package.replicas.ENGINE = engine
+        package.cluster.replicas.ENGINE = engine
 
 
 def a_request_whose_id_the_log_has_lost_is_not_run_again():
     """All replicas leave it out, those that begin with a checkpoint too, and those that keep no replies since they are large."""
-    package, log, letters = betable(), Log(), betable().replicas.MOST_REPLY_LETTERS
+    package, log, letters = betable(), Log(), betable().cluster.replicas.MOST_REPLY_LETTERS
     add = b"batch\nups 1,add,qty,1\nend\nget 1\n"
     try:
-        with package.replicas.Replicas(log) as one, package.replicas.Replicas(log, make=lambda: sharded(10)) as two:
+        with package.cluster.replicas.Replicas(log) as one, package.cluster.replicas.Replicas(log, make=lambda: sharded(10)) as two:
             one.run(TABLE)
             expect(one.once("id", add), b"batch 1\nrow 1,,1\n")
             log.add("id", add)
             log.add("id", b"drain primary\n")
             expect((one.once("id", add), type_of_fault(lambda: two.once("id", "get 1\n"))), (b"batch 1\nrow 1,,1\n", package.durable.RequestReused))
-            package.replicas.MOST_REPLY_LETTERS = 10
+            package.cluster.replicas.MOST_REPLY_LETTERS = 10
             one.checkpoint()
             log.add("id", add)
-            with package.replicas.Replicas(log) as three:
+            with package.cluster.replicas.Replicas(log) as three:
                 expect([each.scan() for each in (one, two, three)], [[(1, "", 1)]] * 3)
-                expect([type_of_fault(lambda each=each: each.once("id", add)) for each in (one, two)], [package.replicas.ReplyForgotten] * 2)
+                expect([type_of_fault(lambda each=each: each.once("id", add)) for each in (one, two)], [package.cluster.replicas.ReplyForgotten] * 2)
                 expect([list(each._outcomes.found) for each in (one, two)], [list(three._outcomes.found)] * 2)
     finally:
-        package.replicas.MOST_REPLY_LETTERS = letters
+        package.cluster.replicas.MOST_REPLY_LETTERS = letters
 
 
 def request_ids_that_no_server_takes_are_refused_at_once():
     package, log = betable(), Log()
-    with package.replicas.Replicas(log) as one:
+    with package.cluster.replicas.Replicas(log) as one:
         for request_id in ("a\0b", "\ud800", "\xe9" * 501, "a" * 1_001):
             expect(type_of_fault(lambda request_id=request_id: one.once(request_id, "get 1\n")), ValueError)
         expect([one.once(request_id, "get 1\n") for request_id in ("", "\xe9" * 500)], [b"refused 3 NoTable\n"] * 2)
@@ -609,10 +608,10 @@ def a_replica_that_fails_begins_again():
         sessions.append(Failing())
         return sessions[-1]
 
-    with package.replicas.Replicas(log, make=made) as one:
+    with package.cluster.replicas.Replicas(log, make=made) as one:
         one.run(TABLE)
         sessions[-1].fails = True
-        fault = raised(package.replicas.Unanswered, lambda: one.put([(1, "a", 1)]))
+        fault = raised(package.cluster.replicas.Unanswered, lambda: one.put([(1, "a", 1)]))
         expect((type(fault.__cause__), one.is_lost), (package.OutOfMemory, False))
         expect((one.get(1), len(sessions)), ((1, "a", 1), 2))
         expect(one.once(fault.request_id, "batch\nput 1,a,1\nend\n"), b"batch 1\n")
@@ -628,20 +627,20 @@ def replicas_may_have_shards():
     """What shards cannot reply is reported to the caller, at the same place on each replica, and changes none."""
     package, log = betable(), Log()
     made = lambda: sharded(10, 20)  # noqa: E731
-    with package.Session() as session, package.replicas.Replicas(log, make=made) as one, package.replicas.Replicas(log, make=made) as two:
+    with package.Session() as session, package.cluster.replicas.Replicas(log, make=made) as one, package.cluster.replicas.Replicas(log, make=made) as two:
         one.run(TABLE + INDEX)
         session.run(TABLE + INDEX)
-        fault = raised(package.sharded.NotSharded, lambda: two.replies("batch\nput 1,a,1\nput 11,b,1\nend\nimage c\n"))
+        fault = raised(package.cluster.sharded.NotSharded, lambda: two.replies("batch\nput 1,a,1\nput 11,b,1\nend\nimage c\n"))
         expect((fault.replies, fault.line), (b"batch 2 c:2\n", 5))
         session.put([(1, "a", 1), (11, "b", 1)])
         expect(one.replies("scan c\ngo\n"), session.replies("scan c\ngo\n"))
 
 
 def logs_are_named_by_urls():
-    log_of = betable().logs.log_of
+    log_of = betable().cluster.logs.log_of
     for url, name in (("http://127.0.0.1", "betable"), ("betable", "betable"), ("redis://127.0.0.1", "a b"), ("redis://127.0.0.1", "A")):
         expect(type_of_fault(lambda url=url, name=name: log_of(url, name)), ValueError)
-    expect(type_of_fault(lambda: betable().replicas.Replicas(Log(), reads="old")), ValueError)
+    expect(type_of_fault(lambda: betable().cluster.replicas.Replicas(Log(), reads="old")), ValueError)
 
 
 def replicas_over_redis_are_killed_and_come_back():

@@ -11,6 +11,7 @@ import subprocess
 import tempfile
 import time
 from contextlib import contextmanager
+from importlib import import_module
 from pathlib import Path
 
 from clients import betable, library
@@ -96,7 +97,7 @@ def times_are_shown_if_asked_for():
 
 
 def help_lists_each_command():
-    commands = betable_module("shell").DOT_COMMANDS
+    commands = betable_module("shell.prompt").DOT_COMMANDS
     text = printed(".help\n")
     expect([line.split()[0] for line in text.splitlines()[: len(commands)]], list(commands))
     for word in betable().language.FORMS:
@@ -108,7 +109,7 @@ def help_lists_each_command():
 
 def betable_module(name):
     betable()
-    return getattr(__import__(f"betable.{name}"), name)
+    return import_module(f"betable.{name}")
 
 
 def the_schema_and_the_indexes_are_those_that_were_made():
@@ -252,7 +253,7 @@ def a_reader_that_goes_ends_the_prompt_without_a_word():
 
 def imported(text, most_bytes, before=""):
     """What an import of a CSV text has done, and the rows that are then in the table."""
-    files = betable_module("shell_files")
+    files = betable_module("shell.files")
     with betable().Session() as session, tempfile.TemporaryDirectory() as folder:
         session.run("table 4 3 2 1 id:int city:text\n" + before)
         path = Path(folder) / "rows.csv"
@@ -265,7 +266,7 @@ def imported(text, most_bytes, before=""):
 
 def a_file_over_the_limit_is_imported_in_batches():
     """Of any texts that a line can have: the rows are those of a load."""
-    dice, files = random.Random(65), betable_module("shell_files")
+    dice, files = random.Random(65), betable_module("shell.files")
     before = files.READ_BYTES
     try:
         for number in range(60):
@@ -345,7 +346,7 @@ def the_example_of_the_document_is_what_is_shown():
     expect(prompt("\n".join(given) + "\n"), (1, "\n".join(shown) + "\n", ""))
     expect(len(given) > 10, True)
     told = [name for row in re.findall(r"^\| (`\..*?) \|", text, re.MULTILINE) for name in re.findall(r"`(\.\w+[^`]*)`", row)]
-    forms = [f"{name} {command.form}".strip() for name, command in betable_module("shell").DOT_COMMANDS.items()]
+    forms = [f"{name} {command.form}".strip() for name, command in betable_module("shell.prompt").DOT_COMMANDS.items()]
     expect(sorted(name.replace("\\|", "|") for name in told), sorted(forms))
 
 

@@ -18,11 +18,11 @@ from layers import TABLE, betable, raised
 
 
 def opened(server, name, **options):
-    return betable().replicas.Replicas(server.url, name, **{"patience": SECONDS, **options})
+    return betable().cluster.replicas.Replicas(server.url, name, **{"patience": SECONDS, **options})
 
 
 def unusable(part, call):
-    expect_within(part, str(raised(betable().logs.UnusableLog, call)))
+    expect_within(part, str(raised(betable().cluster.logs.UnusableLog, call)))
 
 
 def redis_of(server):
@@ -66,7 +66,7 @@ def lost_scripts(server):
         one, two = pairs[name]
         for number in range(4):
             two.put([(100 + number, "new", 1)])
-        expect((type_of_fault(lambda: call(one)), type_of_fault(one.scan)), (betable().replicas.Diverged,) * 2)
+        expect((type_of_fault(lambda: call(one)), type_of_fault(one.scan)), (betable().cluster.replicas.Diverged,) * 2)
         one.close()
         with opened(server, name) as again:
             expect(([row[1] for row in again.scan()], again.position, two.catch_up()), (["new"] * 4, 6, 6))
@@ -91,7 +91,7 @@ def trimmed_scripts(server):
 
 
 def other_engine(server):
-    module = betable().replicas
+    module = betable().cluster.replicas
     engine = module.ENGINE
     with opened(server, "engine") as one:
         one.run(TABLE)
@@ -194,7 +194,7 @@ def stopped_redis(server):
         server.process.send_signal(signal.SIGSTOP)
         try:
             begin = time.monotonic()
-            expect((type_of_fault(one.scan), time.monotonic() - begin < 8), (betable().logs.Unreachable, True))
+            expect((type_of_fault(one.scan), time.monotonic() - begin < 8), (betable().cluster.logs.Unreachable, True))
         finally:
             server.process.send_signal(signal.SIGCONT)
         expect(one.scan(), [])
@@ -204,8 +204,8 @@ def silent_server(server):
     with socket.create_server(("127.0.0.1", 0)) as silent:
         begin = time.monotonic()
         url = server.url.replace(str(server.port), str(silent.getsockname()[1]))
-        fault = type_of_fault(lambda: betable().replicas.Replicas(url, patience=1))
-        expect((fault, time.monotonic() - begin < 8), (betable().logs.Unreachable, True))
+        fault = type_of_fault(lambda: betable().cluster.replicas.Replicas(url, patience=1))
+        expect((fault, time.monotonic() - begin < 8), (betable().cluster.logs.Unreachable, True))
 
 
 def postgresql_format(server):

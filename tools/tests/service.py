@@ -308,7 +308,7 @@ def a_page_after_a_key_begins_with_the_next_row():
 def pages_are_read_without_a_script():
     """The worker asks for no more rows than the page has, and one to see whether more follow."""
     betable()
-    engine = __import__("betable.engine").engine
+    engine = __import__("betable.server.engine").server.engine
     with tempfile.TemporaryDirectory() as folder:
         worker = engine.Worker(f"{folder}/table")
         with worker.table as table:
@@ -499,7 +499,7 @@ def page_says_what_happens_in_a_browser():
     if browser() is None:
         print("not tested: no Chromium is installed")
         return
-    text = (TOP / "clients/python/betable/page.html").read_text(encoding="utf-8")
+    text = (TOP / "clients/python/betable/server/page.html").read_text(encoding="utf-8")
     with tempfile.TemporaryDirectory() as folder:
         page = Path(folder) / "page.html"
         page.write_text(text.replace("<body>", "<body>" + PAGE_ANSWERS).replace("</body>", PAGE_STEPS + "</body>"))
@@ -1100,8 +1100,8 @@ def quick_start_of_the_document_runs():
 
 
 def endpoints_and_statuses_of_the_document_are_those_of_the_server():
-    package = TOP / "clients/python/betable"
-    code = "".join((package / name).read_text(encoding="utf-8") for name in ("serve.py", "http_requests.py", "http_answers.py"))
+    package = TOP / "clients/python/betable/server"
+    code = "".join((package / name).read_text(encoding="utf-8") for name in ("serve.py", "requests.py", "answers.py"))
     text = (TOP / "docs/SERVICE.md").read_text(encoding="utf-8")
     routes = {(method.upper(), path.replace("{tree}", "TREE")) for method, path in re.findall(r'web\.(get|post)\("([^"]+)"', code)}
     expect({tuple(found) for found in re.findall(r"^\| `(GET|POST) ([^`?]+)", text, re.MULTILINE)}, routes)

@@ -3,20 +3,21 @@
 import argparse
 import sys
 
-from . import backups, shell
+from .durable import backups
+from .shell import prompt
 
 
 def main() -> int:
     parser = argparse.ArgumentParser(prog="python3 -m betable", description="A table engine for heavy ingest.")
     commands = parser.add_subparsers(dest="command", required=True)
-    shell.add_words(commands.add_parser("shell", help="a prompt over a table", description=shell.DESCRIPTION))
+    prompt.add_words(commands.add_parser("shell", help="a prompt over a table", description=prompt.DESCRIPTION))
     words = commands.add_parser("serve", help="a durable table by HTTP", description="Serves a durable table by HTTP. docs/SERVICE.md has its endpoints.")
     backups.add_words(commands.add_parser("restore", help="a backup in the place of a durable table", description=backups.DESCRIPTION))
     if sys.argv[1:2] != ["serve"]:
         given = parser.parse_args()
-        return backups.run(given) if given.command == "restore" else shell.run(given)
+        return backups.run(given) if given.command == "restore" else prompt.run(given)
     try:
-        from . import serve
+        from .server import serve
     except ModuleNotFoundError as fault:
         if fault.name not in ("aiohttp", "prometheus_client"):
             raise

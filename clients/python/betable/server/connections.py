@@ -17,7 +17,7 @@ from typing import Any
 
 from aiohttp import web
 
-from .http_notices import Notices, name_of
+from .notices import Notices, name_of
 
 FILES_BESIDE = 64  # open files that are no connections: those of Python, of listening, and the pipes of the engine's process
 WAITING_IN_KERNEL = 1_024  # connections that wait to be accepted

@@ -10,12 +10,12 @@ from itertools import islice
 from pathlib import Path
 from typing import BinaryIO, NamedTuple
 
-from .calls import Calls, ends_load
-from .faults import MEANINGS, header_faults, load_faults
-from .language import (
+from ..calls import Calls, ends_load
+from ..faults import MEANINGS, header_faults, load_faults
+from ..language import (
     CLOSING, KINDS, MARK, MOST_MESSAGES, MOST_SCRIPT_BYTES, NAME, RECORD, Command, Line, Table, counted, fields, printed_record, records,
 )  # fmt: skip
-from .replies import line_blocks
+from ..replies import line_blocks
 
 READ_BYTES = 4 << 20
 MOST_RECORD_BYTES = 1 << 20  # no record that a table takes has as many

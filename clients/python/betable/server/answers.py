@@ -10,16 +10,16 @@ from collections.abc import Iterator
 from itertools import islice
 from typing import Any
 
-from .calls import copied, note, refusal
-from .durable import CHANGING
+from ..calls import copied, note, refusal
+from ..durable.table import CHANGING
+from ..figures import picture
+from ..language import PRIMARY, Command, State, commands, counted
+from ..packed import Usage
+from ..replies import BLOCK_BYTES, answered, line_blocks, whole_lines
+from ..rows import rows_of
+from ..trees import image_of_reply
 from .engine import Answer
-from .figures import picture
-from .http_requests import Problem, problem_of, refusal_fields
-from .language import PRIMARY, Command, State, commands, counted
-from .packed import Usage
-from .replies import BLOCK_BYTES, answered, line_blocks, whole_lines
-from .rows import rows_of
-from .trees import image_of_reply
+from .requests import Problem, problem_of, refusal_fields
 
 MOST_CHANGES = 100  # replies in an event
 MOST_EXPLAINED = 1_000  # refusals of a script whose reasons are given

@@ -1,4 +1,5 @@
-"""A shard in a separate process: `python3 -m betable.shard` carries out the operations on standard input, which `ProcessShard` writes, until it ends."""
+"""A shard in a separate process: `python3 -m betable.cluster.shard` carries out the operations on standard input, which `ProcessShard` writes, until that
+ends."""
 
 from __future__ import annotations
 
@@ -10,7 +11,7 @@ from contextlib import suppress
 from threading import Lock, Thread
 from typing import IO
 
-from .errors import OutOfMemory
+from ..errors import OutOfMemory
 from .shards import SIGN_SECONDS, WORKING, Worker, read_frame, write_frame
 
 

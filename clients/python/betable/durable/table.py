@@ -1,6 +1,6 @@
 """A durable table: what changes it is on disk before the call returns.
 
-    with betable.open("stock.table") as table:
+    with durable.open("stock.table") as table:
         table.run("table 16 1024 256 1 id:int city:text qty:int\\n")
         table.put([(1, "Oslo", 30)])
 
@@ -30,13 +30,13 @@ from hashlib import sha256
 from io import FileIO
 from typing import Any, NoReturn, Protocol, TypeVar
 
-from .calls import Calls, as_script, note
-from .errors import before
+from ..calls import Calls, as_script, note
+from ..errors import before
+from ..language import PRIMARY, State, Table, commands
+from ..reads import Reads, reader_of
+from ..replies import Place, answered
+from ..session import Session
 from .file_lock import lock
-from .language import PRIMARY, State, Table, commands
-from .reads import Reads, reader_of
-from .replies import Place, answered
-from .session import Session
 from .wal import FIRST_GENERATION, FOREIGN, SYNCED, UNSYNCED, fault_of_log, mark_of, new_mark, renew_mark
 
 T = TypeVar("T")
@@ -225,7 +225,7 @@ class Durable(Reads):
         self.close()
 
     def __repr__(self) -> str:
-        return f"<betable.Durable {self.path!r}{', closed' if self._is_closed else ''}>"
+        return f"<betable.durable.Durable {self.path!r}{', closed' if self._is_closed else ''}>"
 
     def __reduce__(self) -> NoReturn:
         raise TypeError("a durable table cannot be pickled: open it where it is used")

@@ -22,21 +22,21 @@ from typing import Any, NamedTuple
 from aiohttp import web
 from prometheus_client import CollectorRegistry, Counter, Gauge, Histogram, ProcessCollector, generate_latest
 
-from .calls import refusal
-from .durable import FAULTS
-from .engine import ALL_ROWS, Answer, Closed, Engine, Lost, Page, Result, Work, WrongKey
-from .errors import Refused
-from .http_answers import (
+from ..calls import refusal
+from ..durable.table import FAULTS
+from ..errors import Refused
+from ..language import MOST_SCRIPT_BYTES, State, commands
+from ..replies import BLOCK_BYTES
+from .answers import (
     content_policy, csv_rows, event_of, json_replies, json_rows, picture_of, refusal_of_rows, refused_count, start_event, too_large, trees_of,
 )  # fmt: skip
-from .http_connections import FILES_BESIDE, Connections, client_of, raised_limit_of_files
-from .http_notices import Notices
-from .http_requests import (
+from .connections import FILES_BESIDE, Connections, client_of, raised_limit_of_files
+from .engine import ALL_ROWS, Answer, Closed, Engine, Lost, Page, Result, Work, WrongKey
+from .notices import Notices
+from .requests import (
     Problem, batch_of, bounds_of, changing_word, checked_name, host_name, is_json, is_loopback, number_of, page_of, problem_of, query_of, record_of, request_id,
     tree_of,
 )  # fmt: skip
-from .language import MOST_SCRIPT_BYTES, State, commands
-from .replies import BLOCK_BYTES
 
 Handler = Callable[[web.Request], Awaitable[web.StreamResponse]]
 MOST_EVENTS, MOST_WATCHERS = 256, 64  # that wait for a reader; readers

@@ -1,7 +1,7 @@
 """A table that is divided among shards by ranges of its key, for more memory than one machine has.
 
-    shards = [betable.ProcessShard() for _ in range(3)]
-    with betable.Sharded(shards, [(250_000,), (500_000,)]) as table:
+    shards = [cluster.ProcessShard() for _ in range(3)]
+    with cluster.Sharded(shards, [(250_000,), (500_000,)]) as table:
         table.run("table 16 1024 256 1 id:int city:text qty:int\\n")
         table.put((number, "Oslo", 30) for number in range(1_000_000))
 
@@ -22,10 +22,10 @@ from enum import Enum, auto
 from io import BytesIO
 from typing import NamedTuple
 
-from .calls import Calls, as_script, note
-from .errors import OutOfMemory
-from .language import ANSWERS, KINDS, MARK, MOST_MESSAGES, PRIMARY, Command, State, Table, commands, counted, fields, int_of, logical_lines
-from .rows import FIELDS, Value
+from ..calls import Calls, as_script, note
+from ..errors import OutOfMemory
+from ..language import ANSWERS, KINDS, MARK, MOST_MESSAGES, PRIMARY, Command, State, Table, commands, counted, fields, int_of, logical_lines
+from ..rows import FIELDS, Value
 from .shards import Shard
 
 Key = tuple[int | bool | bytes, ...]

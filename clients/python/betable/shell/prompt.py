@@ -1,7 +1,6 @@
 """A prompt over a table: `python3 -m betable shell [PATH]`.
 
-A line is a command of the language, whose block goes on until its closing line, or a command of the prompt, which begins with a point. shell_input.py reads
-the lines, shell_text.py has tables and trees in characters, and shell_files.py has the files that go in and out.
+A line is a command of the language, whose block goes on until its closing line, or a command of the prompt, which begins with a point.
 """
 
 from __future__ import annotations
@@ -19,18 +18,18 @@ from io import TextIOWrapper
 from types import FrameType
 from typing import NamedTuple
 
-from . import durable
-from .calls import Calls, copied, note
-from .errors import OutOfMemory
-from .faults import MEANINGS, WITH_ADVICE, Fault, MessageFaults, bound_faults
-from .forms import head_faults
-from .language import BLOCK_WORDS, CLOSING, FORMS, MOST_SCRIPT_BYTES, PRIMARY, Command, Line, State, Table, any_of, commands, counted, visible
-from .refusals import Refusal
-from .replies import ROW_WORDS, answered
-from .session import Session
-from .shell_files import FileFault, Imported, ProgressBar, export_csv, import_csv, suggested_table
-from .shell_input import Lines, Stream, Terminal, completions
-from .shell_text import MOST_TREE_BYTES, aligned, count_of_reply, drawn_tree, table_of_reply
+from .. import durable
+from ..calls import Calls, copied, note
+from ..errors import OutOfMemory
+from ..faults import MEANINGS, WITH_ADVICE, Fault, MessageFaults, bound_faults
+from ..forms import head_faults
+from ..language import BLOCK_WORDS, CLOSING, FORMS, MOST_SCRIPT_BYTES, PRIMARY, Command, Line, State, Table, any_of, commands, counted, visible
+from ..refusals import Refusal
+from ..replies import ROW_WORDS, answered
+from ..session import Session
+from .files import FileFault, Imported, ProgressBar, export_csv, import_csv, suggested_table
+from .input import Lines, Stream, Terminal, completions
+from .text import MOST_TREE_BYTES, aligned, count_of_reply, drawn_tree, table_of_reply
 
 SHOWN_ROWS = 100  # at a terminal
 PIECE_BYTES = 1 << 20  # of a script that is read from a file: Ctrl-C is noticed after each

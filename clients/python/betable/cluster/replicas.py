@@ -1,6 +1,6 @@
 """A table that several machines have, each a replica, through one ordered log: a stream of Redis, or a table of PostgreSQL.
 
-    with betable.Replicas("postgresql://server/stock") as table:
+    with cluster.Replicas("postgresql://server/stock") as table:
         table.run("table 16 1024 256 1 id:int city:text qty:int\\n")
         table.put([(1, "Oslo", 30)])
 
@@ -26,13 +26,13 @@ from contextlib import suppress
 from functools import partial
 from typing import Any, Literal, NamedTuple, TypeVar
 
-from .calls import as_script, note
-from .durable import CHANGING_LINE, DEFINED, ENGINE, REFUSED, IndexBuilding, RequestReused, Runner, _records
-from .language import PRIMARY, State, commands
+from ..calls import as_script, note
+from ..durable.table import CHANGING_LINE, DEFINED, ENGINE, REFUSED, IndexBuilding, RequestReused, Runner, _records
+from ..language import PRIMARY, State, commands
+from ..reads import Reads, reader_of
+from ..replies import answered
+from ..session import Session
 from .logs import ANOTHER_CHECKPOINT, LONGEST_WAIT, Checkpoint, Entry, Log, Unreachable, UnusableLog, check_request_id, log_of
-from .reads import Reads, reader_of
-from .replies import answered
-from .session import Session
 from .sharded import NotSharded
 
 T = TypeVar("T")

@@ -19,7 +19,7 @@ from types import ModuleType
 from typing import Any, NamedTuple, Protocol, TypeVar
 from urllib.parse import urlsplit
 
-from .language import NAME
+from ..language import NAME
 
 T = TypeVar("T")
 FORMAT = 2  # of a log: raised when an older version of this package could not read it

@@ -16,8 +16,8 @@ from io import BufferedReader, BufferedWriter, RawIOBase
 from pathlib import Path
 from typing import IO, Any, Protocol
 
-from .errors import OutOfMemory
-from .session import Session
+from ..errors import OutOfMemory
+from ..session import Session
 
 Wait = Callable[[], bytes]
 # Bytes of a pipe, so that a batch goes through in few pieces.
@@ -135,18 +135,18 @@ class Pipe(RawIOBase):
 
 
 class ProcessShard:
-    """A shard in a separate process, which `command` starts and which is called through its standard streams: python3 -m betable.shard.
+    """A shard in a separate process, which `command` starts and which is called through its standard streams: python3 -m betable.cluster.shard.
 
-    A shard on another machine is `ProcessShard(["ssh", "machine", "python3", "-m", "betable.shard"])`. `patience` is for how many seconds the process may be
-    silent in a call: it gives a sign of life each second while it works. One that is silent for longer is killed, and lost.
+    A shard on another machine is `ProcessShard(["ssh", "machine", "python3", "-m", "betable.cluster.shard"])`. `patience` is for how many seconds the process
+    may be silent in a call: it gives a sign of life each second while it works. One that is silent for longer is killed, and lost.
     """
 
     def __init__(self, command: Sequence[str] | None = None, *, patience: float = PATIENCE) -> None:
         checked_patience(patience)
         # The process finds the package in the same folder as this one.
-        folders = [str(Path(__file__).resolve().parents[1]), os.environ.get("PYTHONPATH", "")]
+        folders = [str(Path(__file__).resolve().parents[2]), os.environ.get("PYTHONPATH", "")]
         self.process = subprocess.Popen(
-            command or [sys.executable, "-P", "-m", "betable.shard"], stdin=subprocess.PIPE, stdout=subprocess.PIPE, bufsize=0, pipesize=PIPE_BYTES,
+            command or [sys.executable, "-P", "-m", "betable.cluster.shard"], stdin=subprocess.PIPE, stdout=subprocess.PIPE, bufsize=0, pipesize=PIPE_BYTES,
             env={**os.environ, "PYTHONPATH": os.pathsep.join(filter(None, folders))},
         )  # fmt: skip
         assert self.process.stdin and self.process.stdout

@@ -9,12 +9,12 @@ from urllib.parse import parse_qsl
 
 from aiohttp import web
 
-from .durable import CHANGING_LINE, IndexBuilding, ReplyDamaged, RequestReused, ScriptTooLong
+from ..durable.table import CHANGING_LINE, IndexBuilding, ReplyDamaged, RequestReused, ScriptTooLong
+from ..errors import Refused
+from ..forms import name_fault
+from ..language import NUMBER, broken_quotes_of_lines
+from ..messages import record
 from .engine import Closed, Lost, Page, WrongKey
-from .errors import Refused
-from .forms import name_fault
-from .language import NUMBER, broken_quotes_of_lines
-from .messages import record
 
 REQUEST_ID = re.compile(r"[!-~]{1,200}")
 HOST = re.compile(r"(?:\[([^\[\]]*)\]|([^:\[\]]*))(?::\d*)?")

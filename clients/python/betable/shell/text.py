@@ -6,11 +6,11 @@ from collections.abc import Iterator, Sequence
 from itertools import islice
 from typing import Any
 
-from .figures import Drawing, one_line, width_of
-from .language import State, counted
-from .replies import line_blocks
-from .rows import rows_of
-from .trees import image_of_reply
+from ..figures import Drawing, one_line, width_of
+from ..language import State, counted
+from ..replies import line_blocks
+from ..rows import rows_of
+from ..trees import image_of_reply
 
 MOST_TREE_BYTES = 16 << 20  # of an image that is drawn
 TREE_COLUMNS, TREE_LINES = 12, 6  # leaves of a drawing, and rows or messages of a node

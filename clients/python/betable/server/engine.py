@@ -19,12 +19,12 @@ from collections.abc import Callable
 from pathlib import Path
 from typing import Any, BinaryIO, NamedTuple
 
-from .durable import FAULTS, ReplyDamaged, RequestReused, ScriptTooLong, open as open_table
-from .errors import Refused
-from .language import State, counted
-from .packed import Usage
-from .replies import reply_end
-from .rows import UNKNOWN, Layout, Value, layout, printed_records, value_of_field
+from ..durable.table import FAULTS, ReplyDamaged, RequestReused, ScriptTooLong, open as open_table
+from ..errors import Refused
+from ..language import State, counted
+from ..packed import Usage
+from ..replies import reply_end
+from ..rows import UNKNOWN, Layout, Value, layout, printed_records, value_of_field
 
 # The largest number of requests in a group, and the bytes of scripts that close one.
 MOST_GROUP, GROUP_BYTES = 256, 16 << 20
@@ -33,7 +33,7 @@ MOST_IMAGE_BYTES = 1 << 20  # of a tree that is drawn
 MOST_IMAGE_ITEMS = MOST_IMAGE_BYTES >> 4  # rows and messages of a tree whose image is made: one of them takes about 16 bytes at least
 # How often in a row the process may end before the table is open, and the seconds between two starts, times the number of failures.
 MOST_FAILURES, FAILURE_SECONDS = 5, 0.2
-START = "import sys; from betable.engine import main; sys.exit(main())"
+START = "import sys; from betable.server.engine import main; sys.exit(main())"
 PR_SET_PDEATHSIG = 1
 # The first word of a line of a row or of a group, and that of the line after the last one.
 LAST_WORDS = {b"row ": b"rows", b"sum ": b"sums"}
@@ -318,7 +318,7 @@ class Engine:
 
     async def _start(self) -> None:
         # The process finds the package in the same folder as this one.
-        folders = [str(Path(__file__).resolve().parents[1]), os.environ.get("PYTHONPATH", "")]
+        folders = [str(Path(__file__).resolve().parents[2]), os.environ.get("PYTHONPATH", "")]
         process = await asyncio.create_subprocess_exec(
             sys.executable, "-P", "-c", START, self.path, str(os.getpid()), stdin=asyncio.subprocess.PIPE, stdout=asyncio.subprocess.PIPE,
             limit=1 << 20, env={**os.environ, "PYTHONPATH": os.pathsep.join(filter(None, folders))},

@@ -12,7 +12,7 @@ from io import TextIOWrapper
 from pathlib import Path
 from typing import BinaryIO, Protocol
 
-from .language import BLOCK_WORDS, CLOSING, FORMS, KINDS, OPERATIONS, OPERATORS, PRIMARY, State
+from ..language import BLOCK_WORDS, CLOSING, FORMS, KINDS, OPERATIONS, OPERATORS, PRIMARY, State
 
 HISTORY_LINES = 10_000
 TREE_COMMANDS = (b"scan", b"sums", b"image", b"drain", b"rebuild")
