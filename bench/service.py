@@ -25,11 +25,10 @@ from pathlib import Path
 
 TOP = Path(__file__).resolve().parents[1]
 sys.dont_write_bytecode = True
-sys.path[:0] = [str(TOP / "tools/tests"), str(TOP / "clients/python")]
+sys.path[:0] = [str(TOP), str(TOP / "clients/python")]
 
-from common import imported  # noqa: E402
+from tools.tests import service  # noqa: E402
 
-service = imported("tools/tests/service.py")
 TABLE = b"table 16 1024 256 1 id:int city:text qty:int\nindex by_city on city include qty\nbuild by_city 1\n"
 CITIES = ("Oslo", "Bergen", "Trondheim", "Stavanger", "Molde")
 SIZES, CONNECTIONS = (1, 100, 1_000, 10_000), (1, 100)

@@ -1,6 +1,6 @@
 """Tests of the library for C, by its clients in C, Python and Rust: worked scripts in parts, sessions side by side, rows and refusals, wrong use, refused
-memory, valgrind, and the programs of docs/C.md and docs/PYTHON.md. The library is that of BETABLE_LIBRARY, or bin/build_c builds it. Where valgrind or rustc
-is not installed a line says so, and what needs it passes without a look."""
+memory, valgrind, and the programs of docs/C.md and docs/PYTHON.md. The library is that of BETABLE_LIBRARY, or bin/build_c builds it. A test that
+needs valgrind or rustc is skipped where that is not installed."""
 
 import ctypes
 import os
@@ -12,8 +12,9 @@ import tempfile
 import threading
 from functools import cache, wraps
 from pathlib import Path
+from unittest import TestCase
 
-from common import Failure, expect, expect_within, SECONDS, TOP, type_of_fault
+from .common import needs, output_of, SECONDS, TOP, type_of_fault
 
 from betable import language
 
@@ -32,7 +33,7 @@ def library():
         folder = str(TOP / "out")
         built = subprocess.run([TOP / "bin/build_c", folder], capture_output=True)
         if built.returncode != 0:
-            raise Failure(f"bin/build_c: {built.stderr.decode()}")
+            raise RuntimeError(f"bin/build_c: {built.stderr.decode()}")
     os.environ["BETABLE_LIBRARY"] = folder
     return folder
 
@@ -53,23 +54,19 @@ def betable():
     return __import__("betable")
 
 
-say_once = cache(print)
-
-
 def both_ways(test):
     """The test, with sessions of the extension, and then with those that go by ctypes."""
 
     @wraps(test)
-    def tested():
+    def tested(case):
         client = betable()
         usual, pure = client.session.Session, client.session.PureSession
-        if client.session._packed is None:
-            say_once("the extension of the Python package is not built, or BETABLE_PURE is set: calls are tested by ctypes alone")
-        try:
-            for client.Session in (usual, pure):
-                test()
-        finally:
-            client.Session = usual
+        case.addCleanup(setattr, client, "Session", usual)
+        for client.Session in (usual, pure):
+            with case.subTest(session=client.Session.__name__):
+                if client.Session is usual and client.session._packed is None:
+                    case.skipTest("the extension of the Python package is not built, or BETABLE_PURE is set")
+                test(case)
 
     return tested
 
@@ -114,12 +111,11 @@ def c_program(source, *options):
     path = Path(programs().name) / source.stem
     if not path.exists():
         words = ["cc", "-std=c11", "-O1", "-g", "-Wall", "-Wextra", "-Werror", f"-I{TOP}/include", source, *options, f"{library()}/libbt_c.a", "-o", path]
-        compiled = subprocess.run(words, capture_output=True, text=True)
-        expect((compiled.returncode, compiled.stderr), (0, ""))
+        output_of(words)
     return path
 
 
-def what_tests_share_is_built():
+def setUpModule():
     """The library, the extension of the Python client, and the programs that more than one test runs, before tests run side by side."""
     library()
     build_extension()
@@ -130,14 +126,6 @@ def what_tests_share_is_built():
     if shutil.which("rustc"):
         rust_program(RUST_EXAMPLE)
         rust_program(HERE / "rust/typed.rs")
-
-
-def is_installed(tool, what):
-    """Whether a tool is installed. Where it is not, a line says what is not tested."""
-    if shutil.which(tool) is None:
-        print(f"{tool} is not installed: {what} not tested")
-        return False
-    return True
 
 
 def compiled_by_rust(source):
@@ -151,7 +139,8 @@ def compiled_by_rust(source):
 @cache
 def rust_program(source):
     compiled, path = compiled_by_rust(source)
-    expect((compiled.returncode, compiled.stderr), (0, ""))
+    if compiled.returncode or compiled.stderr:
+        raise AssertionError(compiled.stderr)
     return path
 
 
@@ -162,7 +151,7 @@ def worked_scripts():
     for wanted in sorted(WORKED.glob("*.stdout")):
         script = wanted.with_suffix("")
         found.append((script, wanted, places_between(script.read_bytes())))
-    expect(len(found) > 50, True)
+    assert len(found) > 50, "worked scripts are missing"
     return found
 
 
@@ -175,304 +164,270 @@ def places_between(script):
     return sorted(places | {0, len(script)})
 
 
-# Each test of cuts takes all pairs of places, with a second session alive beside the first, which takes the script in two parts.
-
-
-def cut_scripts_answer_as_whole_ones_in_c():
-    program = c_program(HERE / "c/cuts.c")
-    for script, wanted, places in worked_scripts():
-        ended = subprocess.run([program, script, wanted, "1", *map(str, places)], capture_output=True, timeout=SECONDS)
-        expect((script.name, ended.returncode), (script.name, 0))
-
-
-def cut_scripts_answer_as_whole_ones_in_python():
-    session = betable().Session
-    for script, wanted, places in worked_scripts():
-        text, wanted = script.read_bytes(), wanted.read_bytes()
-        for high in places:
-            with session() as two:
-                of_two = [two.replies(text[:high])]
-                for low in places[: places.index(high) + 1]:
-                    with session() as three:
-                        found = b"".join(three.replies(part) for part in (text[:low], text[low:high], text[high:]))
-                    if found != wanted:
-                        expect((script.name, low, high), "equal replies")
-                of_two.append(two.replies(text[high:]))
-            expect((script.name, high, b"".join(of_two)), (script.name, high, wanted))
-
-
-def cut_scripts_answer_as_whole_ones_in_rust():
-    if is_installed("rustc", "clients/rust is"):
-        words = [word for script, wanted, places in worked_scripts() for word in ("--", script, wanted, *map(str, places))]
-        ended = subprocess.run([rust_program(HERE / "rust/cuts.rs"), *words[1:]], capture_output=True, text=True, timeout=SECONDS)
-        expect((ended.returncode, ended.stdout, ended.stderr), (0, "", ""))
-
-
-def examples_run_files_on_one_table():
-    """The example programs of C and Rust, which take parts of a script as files."""
-    programs_of_files = [c_program(TOP / "clients/c/example.c")] + ([rust_program(RUST_EXAMPLE)] if is_installed("rustc", "clients/rust is") else [])
-    with tempfile.TemporaryDirectory() as folder:
-        paths = [Path(folder) / str(number) for number in range(3)]
-        for script, wanted, places in worked_scripts()[::5]:
-            text, middle = script.read_bytes(), places[len(places) // 2]
-            for path, part in zip(paths, (text[:middle], b"", text[middle:])):
-                path.write_bytes(part)
-            for program in programs_of_files:
-                ended = subprocess.run([program, *paths], capture_output=True, timeout=SECONDS)
-                status = 2 if re.search(rb"^refused ", ended.stdout, re.MULTILINE) else 0
-                expect((script.name, ended.stdout, ended.returncode, ended.stderr), (script.name, wanted.read_bytes(), status, b""))
-
-
-@both_ways
-def replies_of_worked_scripts_are_cut_as_their_text_says():
-    """Where the library says that each reply is, beside a parser of their text, and by which commands are refused."""
-    client = betable()
-    for script, _, _ in worked_scripts():
-        given = script.read_bytes()
-        with client.Session() as session:
-            replies, places = session._replies_with_places(given)
-        commands = list(client.language.commands(given))
-        expect((script.name, len(places)), (script.name, len(commands)))
-        by_places, by_text = (list(client.replies.answered(commands, replies, some)) for some in (places, None))
-        expect((script.name, by_places), (script.name, by_text))
-        expect((script.name, b"".join(reply for _, reply, _ in by_places)), (script.name, replies))
-
-
-def sessions_of_two_threads_do_not_meet():
-    """Each with its session and its scripts, at the same time: Python releases its lock during a call."""
-    client, faults = betable(), []
-
-    def work(scripts):
-        try:
-            for script, wanted, _ in scripts:
-                with client.Session() as session:
-                    expect(session.replies(script.read_bytes()), wanted.read_bytes())
-        except Exception as fault:
-            faults.append(fault)
-
-    threads = [threading.Thread(target=work, args=[worked_scripts()[first::2]]) for first in range(2)]
-    for thread in threads:
-        thread.start()
-    for thread in threads:
-        thread.join()
-    expect(faults, [])
-
-
-def programs_of_the_document_print_what_they_say():
-    """Those of docs/C.md and docs/PYTHON.md, by the lines that follow them."""
-    programs_of_pages = [("C.md", "c", ".c", 1), ("C.md", "c", ".c", 2), ("PYTHON.md", "python", ".py", 1), ("C.md", "rust", ".rs", 1), ("C.md", "rust", ".rs", 2)]
-    for page, language, ending, place in programs_of_pages:
-        code, after = (TOP / "docs" / page).read_text().split(f"```{language}\n")[place].split("```\n", 1)
-        source, wanted = Path(programs().name) / f"ten_lines{place}{ending}", after.split("```text\n")[1].split("```")[0]
-        source.write_text(code)
-        if language == "rust" and not is_installed("rustc", "clients/rust is"):
-            continue
-        words = {"c": lambda: [c_program(source)], "python": lambda: [sys.executable, source], "rust": lambda: [rust_program(source)]}[language]()
-        library()
-        ended = subprocess.run(words, capture_output=True, text=True, env={**os.environ, "PYTHONPATH": str(TOP / "clients/python")})
-        expect((language, ended.returncode, ended.stdout, ended.stderr), (language, 0, wanted, ""))
-
-
-def examples_print_their_rows():
-    ended = subprocess.run([c_program(TOP / "clients/c/example.c")], capture_output=True, text=True)
-    expect((ended.returncode, ended.stdout, ended.stderr), (0, 'table 3\nbatch 2\nrow 2,"Bergen, west",10\n', ""))
-    if is_installed("rustc", "clients/rust is"):
-        ended = subprocess.run([rust_program(RUST_EXAMPLE)], capture_output=True, text=True)
-        expect((ended.returncode, ended.stdout, ended.stderr), (2, '["1", "Oslo", "30"]\n["2", "Bergen, west", "10"]\nrefused 7 BadLength 1\n', ""))
-
-
-def rows_come_as_they_went():
-    """Each text in quotes where it wants them, and each value by its kind."""
-    client = betable()
-    with client.Session() as session:
-        session.run("table 16 64 16 1 id:int name:text ok:flag\n")
-        rows = [(number - 3, text, number % 2 == 0) for number, text in enumerate(TEXTS)]
-        expect(session.put(iter(rows), most=5), len(rows))
-        expect(session.scan(), rows)
-        expect([session.get(row[0]) for row in rows], rows)
-        expect(session.get(1_000), None)
-        expect(session.scan("primary", (0,), (2,)), rows[3:5])
-        session.run("index by_name on name include ok\nbuild by_name 100\n")
-        expect(session.scan("by_name", ("Oslo",), ("Oslo", 1)), [("Oslo", -2, False)])
-        session.batch([client.upsert(0, set={"name": 'x,"y"', "ok": False}), client.delete(1)])
-        expect((session.get(0), session.get(1)), ((0, 'x,"y"', False), None))
-        expect(session.sums("primary", 1, "id", (5,), (6,)), [(1, 5, 5)])
-    with client.Session() as session:
-        session.run("table 16 64 16 1 id:text name:text\n")
-        rows = sorted((text, text) for text in TEXTS + LONG_TEXTS)
-        expect(session.load(rows), len(rows))
-        expect(session.scan(), rows)
-    with client.Session() as session:
-        session.run("table 16 64 16 1 hash:bytes least:int greatest:int\n")
-        rows = [(b"", 3, 3), (b"\0\xff", -1, 7), (bytes(range(255)), 0, 0)]
-        expect(session.put(rows), len(rows))
-        expect(session.scan(), sorted(rows))
-        session.batch([client.upsert(row[0], min={"least": 1}, max={"greatest": 5}) for row in rows])
-        expect([session.get(row[0])[1:] for row in rows], [(1, 5), (-1, 7), (0, 5)])
-        expect(type_of_fault(lambda: client.upsert(b"", most={"greatest": 1})), TypeError)
-
-
-def texts_that_no_line_has_are_told():
-    client = betable()
-    with client.Session() as session:
-        session.run("table 16 64 16 1 id:text name:text\n")
-        for call in (lambda: session.put([("a", "b\nc")]), lambda: session.get("\r"), lambda: session.load([("a", "b\n.\nc")])):
-            expect(type_of_fault(call), client.RowValueError)
-        expect(session.scan(), [])
-
-
-def refusals_have_line_and_name():
-    client = betable()
-    with client.Session() as session:
-        session.run("table 16 64 16 1 id:int name:text\n")
-        try:
-            session.run("get 1\n\nbatch\nput 1,a\nput x,b\nend\nscan primary\ngo\nnothing\n")
-        except client.Refused as refused:
-            found = refused.line, refused.number, refused.name, refused.item, [reply[0] for reply in refused.replies]
-            expect(found, (3, 6, "BadField", 2, ["none", "refused 6 BadField 2", "rows 0", "refused 1 Syntax"]))
-            expect_within("line 3: refused 6 BadField 2", str(refused))
-        else:
-            expect("no fault", "Refused")
-        expect(type_of_fault(lambda: session.put([(1, "a"), (2**63, "b")])), client.Refused)
-        expect(session.scan(), [])
-
-
-def wrong_use_is_answered():
-    ended = subprocess.run([c_program(HERE / "c/wrong_use.c")], capture_output=True)
-    expect(ended.returncode, 0)
-    session = betable().Session()
-    session.close()
-    session.close()
-    expect([type_of_fault(lambda: session.run("get 1\n")), type_of_fault(lambda: session.is_lost)], [ValueError, ValueError])
-
-
 def moved_session():
     return c_program(HERE / "c/moved_session.c", "-pthread")
 
 
-def a_session_in_c_goes_from_thread_to_thread():
-    """A lock and joins order the calls. Of valgrind, helgrind looks for accesses that nothing orders, those of the library too."""
-    helgrind = ["valgrind", "-q", "--tool=helgrind", "--error-exitcode=9"]
-    for words in ([], helgrind) if is_installed("valgrind", "whether threads meet in a session is") else ([],):
-        ended = subprocess.run([*words, moved_session()], capture_output=True, text=True, timeout=SECONDS)
-        expect((words, ended.returncode, ended.stderr), (words, 0, ""))
+def typed_calls_hold(test, what):
+    ended = subprocess.run([rust_program(HERE / "rust/typed.rs"), what], capture_output=True, text=True, timeout=SECONDS)
+    test.assertEqual((ended.returncode, ended.stdout, ended.stderr), (0, "", ""))
 
 
-def two_threads_in_rust_cannot_share_a_session_without_a_lock():
-    if is_installed("rustc", "clients/rust is"):
+class Clients(TestCase):
+    # Each test of cuts takes all pairs of places, with a second session alive beside the first, which takes the script in two parts.
+    def test_cut_scripts_answer_as_whole_ones_in_c(self):
+        program = c_program(HERE / "c/cuts.c")
+        for script, wanted, places in worked_scripts():
+            with self.subTest(script=script.name):
+                ended = subprocess.run([program, script, wanted, "1", *map(str, places)], capture_output=True, timeout=SECONDS)
+                self.assertEqual(ended.returncode, 0)
+
+    def test_cut_scripts_answer_as_whole_ones_in_python(self):
+        session = betable().Session
+        for script, wanted, places in worked_scripts():
+            text, wanted = script.read_bytes(), wanted.read_bytes()
+            for high in places:
+                with self.subTest(script=script.name, high=high):
+                    with session() as two:
+                        of_two = [two.replies(text[:high])]
+                        for low in places[: places.index(high) + 1]:
+                            with session() as three:
+                                found = b"".join(three.replies(part) for part in (text[:low], text[low:high], text[high:]))
+                            if found != wanted:
+                                self.assertEqual((script.name, low, high), "equal replies")
+                        of_two.append(two.replies(text[high:]))
+                    self.assertEqual(b"".join(of_two), wanted)
+
+    @needs("rustc")
+    def test_cut_scripts_answer_as_whole_ones_in_rust(self):
+        words = [word for script, wanted, places in worked_scripts() for word in ("--", script, wanted, *map(str, places))]
+        ended = subprocess.run([rust_program(HERE / "rust/cuts.rs"), *words[1:]], capture_output=True, text=True, timeout=SECONDS)
+        self.assertEqual((ended.returncode, ended.stdout, ended.stderr), (0, "", ""))
+
+    def test_examples_run_files_on_one_table(self):
+        """The example programs of C and Rust, which take parts of a script as files."""
+        programs_of_files = [c_program(TOP / "clients/c/example.c")] + ([rust_program(RUST_EXAMPLE)] if shutil.which("rustc") else [])
+        with tempfile.TemporaryDirectory() as folder:
+            paths = [Path(folder) / str(number) for number in range(3)]
+            for script, wanted, places in worked_scripts()[::5]:
+                with self.subTest(script=script.name):
+                    text, middle = script.read_bytes(), places[len(places) // 2]
+                    for path, part in zip(paths, (text[:middle], b"", text[middle:])):
+                        path.write_bytes(part)
+                    for program in programs_of_files:
+                        ended = subprocess.run([program, *paths], capture_output=True, timeout=SECONDS)
+                        status = 2 if re.search(rb"^refused ", ended.stdout, re.MULTILINE) else 0
+                        self.assertEqual((ended.stdout, ended.returncode, ended.stderr), (wanted.read_bytes(), status, b""))
+
+    @both_ways
+    def test_replies_of_worked_scripts_are_cut_as_their_text_says(self):
+        """Where the library says that each reply is, beside a parser of their text, and by which commands are refused."""
+        client = betable()
+        for script, _, _ in worked_scripts():
+            with self.subTest(script=script.name):
+                given = script.read_bytes()
+                with client.Session() as session:
+                    replies, places = session._replies_with_places(given)
+                commands = list(client.language.commands(given))
+                self.assertEqual(len(places), len(commands))
+                by_places, by_text = (list(client.replies.answered(commands, replies, some)) for some in (places, None))
+                self.assertEqual(by_places, by_text)
+                self.assertEqual(b"".join(reply for _, reply, _ in by_places), replies)
+
+    def test_sessions_of_two_threads_do_not_meet(self):
+        """Each with its session and its scripts, at the same time: Python releases its lock during a call."""
+        client, faults = betable(), []
+
+        def work(scripts):
+            try:
+                for script, wanted, _ in scripts:
+                    with client.Session() as session:
+                        self.assertEqual(session.replies(script.read_bytes()), wanted.read_bytes())
+            except Exception as fault:
+                faults.append(fault)
+
+        threads = [threading.Thread(target=work, args=[worked_scripts()[first::2]]) for first in range(2)]
+        for thread in threads:
+            thread.start()
+        for thread in threads:
+            thread.join()
+        self.assertEqual(faults, [])
+
+    def test_programs_of_the_document_print_what_they_say(self):
+        """Those of docs/C.md and docs/PYTHON.md, by the lines that follow them."""
+        programs_of_pages = [
+            ("C.md", "c", ".c", 1),
+            ("C.md", "c", ".c", 2),
+            ("PYTHON.md", "python", ".py", 1),
+            ("C.md", "rust", ".rs", 1),
+            ("C.md", "rust", ".rs", 2),
+        ]
+        for page, language, ending, place in programs_of_pages:
+            with self.subTest(language=language):
+                code, after = (TOP / "docs" / page).read_text().split(f"```{language}\n")[place].split("```\n", 1)
+                source, wanted = Path(programs().name) / f"ten_lines{place}{ending}", after.split("```text\n")[1].split("```")[0]
+                source.write_text(code)
+                if language == "rust" and not shutil.which("rustc"):
+                    self.skipTest("rustc is not installed")
+                words = {"c": lambda: [c_program(source)], "python": lambda: [sys.executable, source], "rust": lambda: [rust_program(source)]}[language]()
+                library()
+                ended = subprocess.run(words, capture_output=True, text=True, env={**os.environ, "PYTHONPATH": str(TOP / "clients/python")})
+                self.assertEqual((ended.returncode, ended.stdout, ended.stderr), (0, wanted, ""))
+
+    def test_the_example_in_c_prints_its_rows(self):
+        ended = subprocess.run([c_program(TOP / "clients/c/example.c")], capture_output=True, text=True)
+        self.assertEqual((ended.returncode, ended.stdout, ended.stderr), (0, 'table 3\nbatch 2\nrow 2,"Bergen, west",10\n', ""))
+
+    @needs("rustc")
+    def test_the_example_in_rust_prints_its_rows(self):
+        ended = subprocess.run([rust_program(RUST_EXAMPLE)], capture_output=True, text=True)
+        self.assertEqual((ended.returncode, ended.stdout, ended.stderr), (2, '["1", "Oslo", "30"]\n["2", "Bergen, west", "10"]\nrefused 7 BadLength 1\n', ""))
+
+    def test_rows_come_as_they_went(self):
+        """Each text in quotes where it wants them, and each value by its kind."""
+        client = betable()
+        with client.Session() as session:
+            session.run("table 16 64 16 1 id:int name:text ok:flag\n")
+            rows = [(number - 3, text, number % 2 == 0) for number, text in enumerate(TEXTS)]
+            self.assertEqual(session.put(iter(rows), most=5), len(rows))
+            self.assertEqual(session.scan(), rows)
+            self.assertEqual([session.get(row[0]) for row in rows], rows)
+            self.assertIsNone(session.get(1_000))
+            self.assertEqual(session.scan("primary", (0,), (2,)), rows[3:5])
+            session.run("index by_name on name include ok\nbuild by_name 100\n")
+            self.assertEqual(session.scan("by_name", ("Oslo",), ("Oslo", 1)), [("Oslo", -2, False)])
+            session.batch([client.upsert(0, set={"name": 'x,"y"', "ok": False}), client.delete(1)])
+            self.assertEqual((session.get(0), session.get(1)), ((0, 'x,"y"', False), None))
+            self.assertEqual(session.sums("primary", 1, "id", (5,), (6,)), [(1, 5, 5)])
+        with client.Session() as session:
+            session.run("table 16 64 16 1 id:text name:text\n")
+            rows = sorted((text, text) for text in TEXTS + LONG_TEXTS)
+            self.assertEqual(session.load(rows), len(rows))
+            self.assertEqual(session.scan(), rows)
+        with client.Session() as session:
+            session.run("table 16 64 16 1 hash:bytes least:int greatest:int\n")
+            rows = [(b"", 3, 3), (b"\0\xff", -1, 7), (bytes(range(255)), 0, 0)]
+            self.assertEqual(session.put(rows), len(rows))
+            self.assertEqual(session.scan(), sorted(rows))
+            session.batch([client.upsert(row[0], min={"least": 1}, max={"greatest": 5}) for row in rows])
+            self.assertEqual([session.get(row[0])[1:] for row in rows], [(1, 5), (-1, 7), (0, 5)])
+            self.assertEqual(type_of_fault(lambda: client.upsert(b"", most={"greatest": 1})), TypeError)
+
+    def test_texts_that_no_line_has_are_told(self):
+        client = betable()
+        with client.Session() as session:
+            session.run("table 16 64 16 1 id:text name:text\n")
+            for call in (lambda: session.put([("a", "b\nc")]), lambda: session.get("\r"), lambda: session.load([("a", "b\n.\nc")])):
+                self.assertEqual(type_of_fault(call), client.RowValueError)
+            self.assertEqual(session.scan(), [])
+
+    def test_refusals_have_line_and_name(self):
+        client = betable()
+        with client.Session() as session:
+            session.run("table 16 64 16 1 id:int name:text\n")
+            with self.assertRaises(client.Refused) as raised:
+                session.run("get 1\n\nbatch\nput 1,a\nput x,b\nend\nscan primary\ngo\nnothing\n")
+            refused = raised.exception
+            found = refused.line, refused.number, refused.name, refused.item, [reply[0] for reply in refused.replies]
+            self.assertEqual(found, (3, 6, "BadField", 2, ["none", "refused 6 BadField 2", "rows 0", "refused 1 Syntax"]))
+            self.assertIn("line 3: refused 6 BadField 2", str(refused))
+            self.assertEqual(type_of_fault(lambda: session.put([(1, "a"), (2**63, "b")])), client.Refused)
+            self.assertEqual(session.scan(), [])
+
+    def test_wrong_use_is_answered(self):
+        ended = subprocess.run([c_program(HERE / "c/wrong_use.c")], capture_output=True)
+        self.assertEqual(ended.returncode, 0)
+        session = betable().Session()
+        session.close()
+        session.close()
+        self.assertEqual([type_of_fault(lambda: session.run("get 1\n")), type_of_fault(lambda: session.is_lost)], [ValueError, ValueError])
+
+    def test_a_session_in_c_goes_from_thread_to_thread(self):
+        """A lock and joins order the calls."""
+        ended = subprocess.run([moved_session()], capture_output=True, text=True, timeout=SECONDS)
+        self.assertEqual((ended.returncode, ended.stderr), (0, ""))
+
+    @needs("valgrind")
+    def test_helgrind_finds_no_race_in_a_session_that_goes_from_thread_to_thread(self):
+        """Of valgrind, helgrind looks for accesses that nothing orders, those of the library too."""
+        words = ["valgrind", "-q", "--tool=helgrind", "--error-exitcode=9", moved_session()]
+        ended = subprocess.run(words, capture_output=True, text=True, timeout=SECONDS)
+        self.assertEqual((ended.returncode, ended.stderr), (0, ""))
+
+    @needs("rustc")
+    def test_two_threads_in_rust_cannot_share_a_session_without_a_lock(self):
         source = Path(programs().name) / "shared.rs"
         source.write_text("fn is_shared<T: Sync>(_: T) {}\n\nfn main() {\n    is_shared(betable::Session::new().unwrap());\n}\n")
         compiled, _ = compiled_by_rust(source)
-        expect(compiled.returncode != 0, True)
-        expect_within("cannot be shared between threads safely", compiled.stderr)
+        self.assertTrue(compiled.returncode != 0)
+        self.assertIn("cannot be shared between threads safely", compiled.stderr)
 
+    @needs("rustc")
+    def test_sessions_in_rust_go_from_thread_to_thread(self):
+        typed_calls_hold(self, "threads")
 
-def typed_calls_hold(what):
-    if is_installed("rustc", "clients/rust is"):
-        ended = subprocess.run([rust_program(HERE / "rust/typed.rs"), what], capture_output=True, text=True, timeout=SECONDS)
-        expect((ended.returncode, ended.stdout, ended.stderr), (0, "", ""))
+    @needs("rustc")
+    def test_replies_in_rust_are_cut_as_the_library_says(self):
+        typed_calls_hold(self, "replies")
 
+    @needs("rustc")
+    def test_typed_changes_in_rust_leave_the_images_of_scripts(self):
+        typed_calls_hold(self, "changes")
 
-def sessions_in_rust_go_from_thread_to_thread():
-    typed_calls_hold("threads")
+    @needs("rustc")
+    def test_typed_reads_in_rust_give_the_rows_of_replies(self):
+        typed_calls_hold(self, "reads")
 
+    @needs("rustc")
+    def test_pages_in_rust_repeat_and_lose_no_row(self):
+        typed_calls_hold(self, "pages")
 
-def replies_in_rust_are_cut_as_the_library_says():
-    typed_calls_hold("replies")
+    @needs("rustc")
+    def test_typed_sums_in_rust_are_those_of_replies(self):
+        typed_calls_hold(self, "sums")
 
+    @needs("rustc")
+    def test_typed_usage_in_rust_is_that_of_the_image(self):
+        typed_calls_hold(self, "usage")
 
-def typed_changes_in_rust_leave_the_images_of_scripts():
-    typed_calls_hold("changes")
+    @needs("rustc")
+    def test_wrong_typed_calls_in_rust_say_where_and_change_nothing(self):
+        typed_calls_hold(self, "wrong")
 
+    @needs("rustc")
+    def test_typed_calls_in_rust_allocate_nothing_for_a_value(self):
+        typed_calls_hold(self, "allocations")
 
-def typed_reads_in_rust_give_the_rows_of_replies():
-    typed_calls_hold("reads")
-
-
-def pages_in_rust_repeat_and_lose_no_row():
-    typed_calls_hold("pages")
-
-
-def typed_sums_in_rust_are_those_of_replies():
-    typed_calls_hold("sums")
-
-
-def typed_usage_in_rust_is_that_of_the_image():
-    typed_calls_hold("usage")
-
-
-def wrong_typed_calls_in_rust_say_where_and_change_nothing():
-    typed_calls_hold("wrong")
-
-
-def typed_calls_in_rust_allocate_nothing_for_a_value():
-    typed_calls_hold("allocations")
-
-
-def worked_scripts_by_typed_calls_in_rust_leave_the_trees_that_they_leave():
-    """Each batch, get, scan and sums of the worked scripts that has plain values is a typed call. The program compares, and prints how many there were."""
-    if is_installed("rustc", "clients/rust is"):
+    @needs("rustc")
+    def test_worked_scripts_by_typed_calls_in_rust_leave_the_trees_that_they_leave(self):
+        """Each batch, get, scan and sums of the worked scripts that has plain values is a typed call. The program compares, and prints how many there were."""
         words = [word for script, _, places in worked_scripts() for word in ("--", script, *map(str, places))]
         ended = subprocess.run([rust_program(HERE / "rust/scripts.rs"), *words[1:]], capture_output=True, text=True, timeout=SECONDS)
-        expect((ended.returncode, ended.stderr), (0, ""))
+        self.assertEqual((ended.returncode, ended.stderr), (0, ""))
         batches, gets, scans, sums, refused = map(int, re.findall(r"\d+", ended.stdout))
-        expect((batches > 100, gets > 20, scans > 40, sums > 20, refused > 5), (True, True, True, True, True))
+        self.assertEqual((batches > 100, gets > 20, scans > 40, sums > 20, refused > 5), (True, True, True, True, True))
 
+    def test_refused_memory_is_answered(self):
+        """Each request, alone and with those after it: what is returned, what state is left, and that all memory is freed."""
+        program = c_program(HERE / "c/refused_memory.c", "-Wl,--wrap=malloc,--wrap=realloc,--wrap=free")
+        for script in (TOP / "tools/refused_allocations/all_commands.script", WORKED / "building_index"):
+            with self.subTest(script=script.name):
+                text = script.read_bytes()
+                names = ["primary", *sorted(set(re.findall(r"^index (\w+)", text.decode(), re.MULTILINE)))]
+                probe = Path(programs().name) / "probe"
+                probe.write_text("".join(f"image {name}\n" for name in names))
+                ended = subprocess.run([program, script, probe, *map(str, places_between(text))], capture_output=True, text=True, timeout=SECONDS)
+                self.assertEqual((ended.returncode, ended.stderr), (0, ""))
 
-def refused_memory_is_answered():
-    """Each request, alone and with those after it: what is returned, what state is left, and that all memory is freed."""
-    program = c_program(HERE / "c/refused_memory.c", "-Wl,--wrap=malloc,--wrap=realloc,--wrap=free")
-    for script in (TOP / "tools/refused_allocations/all_commands.script", WORKED / "building_index"):
-        text = script.read_bytes()
-        names = ["primary", *sorted(set(re.findall(r"^index (\w+)", text.decode(), re.MULTILINE)))]
-        probe = Path(programs().name) / "probe"
-        probe.write_text("".join(f"image {name}\n" for name in names))
-        ended = subprocess.run([program, script, probe, *map(str, places_between(text))], capture_output=True, text=True, timeout=SECONDS)
-        expect((script.name, ended.returncode, ended.stderr), (script.name, 0, ""))
-
-
-def valgrind_finds_nothing():
-    if not is_installed("valgrind", "what valgrind finds is"):
-        return
-    words = ["valgrind", "-q", "--leak-check=full", "--errors-for-leak-kinds=all", "--error-exitcode=9"]
-    for program in (c_program(HERE / "c/wrong_use.c"), moved_session()):
-        ended = subprocess.run([*words, program], capture_output=True, text=True)
-        expect((ended.returncode, ended.stderr), (0, ""))
-    script = WORKED / "building_index"
-    places = places_between(script.read_bytes())
-    step = max(1, len(places) * (len(places) + 1) // 2 // 5)
-    program = c_program(HERE / "c/cuts.c")
-    ended = subprocess.run([*words, program, script, f"{script}.stdout", str(step), *map(str, places)], capture_output=True, text=True)
-    expect((ended.returncode, ended.stderr), (0, ""))
-
-
-TESTS_OF_TEXTS = [
-    cut_scripts_answer_as_whole_ones_in_c,
-    cut_scripts_answer_as_whole_ones_in_python,
-    cut_scripts_answer_as_whole_ones_in_rust,
-    examples_run_files_on_one_table,
-    replies_of_worked_scripts_are_cut_as_their_text_says,
-    sessions_of_two_threads_do_not_meet,
-    programs_of_the_document_print_what_they_say,
-    examples_print_their_rows,
-    rows_come_as_they_went,
-    texts_that_no_line_has_are_told,
-    refusals_have_line_and_name,
-    wrong_use_is_answered,
-    a_session_in_c_goes_from_thread_to_thread,
-    two_threads_in_rust_cannot_share_a_session_without_a_lock,
-    sessions_in_rust_go_from_thread_to_thread,
-    replies_in_rust_are_cut_as_the_library_says,
-    typed_changes_in_rust_leave_the_images_of_scripts,
-    typed_reads_in_rust_give_the_rows_of_replies,
-    pages_in_rust_repeat_and_lose_no_row,
-    typed_sums_in_rust_are_those_of_replies,
-    typed_usage_in_rust_is_that_of_the_image,
-    wrong_typed_calls_in_rust_say_where_and_change_nothing,
-    typed_calls_in_rust_allocate_nothing_for_a_value,
-    worked_scripts_by_typed_calls_in_rust_leave_the_trees_that_they_leave,
-    refused_memory_is_answered,
-    valgrind_finds_nothing,
-]
-TESTS = []
-BUILDS = [what_tests_share_is_built]
+    @needs("valgrind")
+    def test_valgrind_finds_nothing(self):
+        words = ["valgrind", "-q", "--leak-check=full", "--errors-for-leak-kinds=all", "--error-exitcode=9"]
+        for program in (c_program(HERE / "c/wrong_use.c"), moved_session()):
+            ended = subprocess.run([*words, program], capture_output=True, text=True)
+            self.assertEqual((ended.returncode, ended.stderr), (0, ""))
+        script = WORKED / "building_index"
+        places = places_between(script.read_bytes())
+        step = max(1, len(places) * (len(places) + 1) // 2 // 5)
+        program = c_program(HERE / "c/cuts.c")
+        ended = subprocess.run([*words, program, script, f"{script}.stdout", str(step), *map(str, places)], capture_output=True, text=True)
+        self.assertEqual((ended.returncode, ended.stderr), (0, ""))

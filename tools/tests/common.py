@@ -1,11 +1,13 @@
 """What the tests share: running the tools, and comparing what they print."""
 
 import os
+import shutil
 import signal
 import subprocess
 import sys
 import tempfile
 import traceback
+import unittest
 import xml.etree.ElementTree as xml
 from functools import cache
 from importlib.machinery import SourceFileLoader
@@ -21,18 +23,33 @@ SVG = "{http://www.w3.org/2000/svg}"
 TABLE = "table 4 3 2 1 id:int city:text qty:int"
 
 
-class Failure(Exception):
-    """What a test found, and what it was to find."""
+def needs(program):
+    """Skips a test if a program is not installed."""
+    return unittest.skipUnless(shutil.which(program), f"{program} is not installed")
 
 
-def expect(found, expected):
-    if found != expected:
-        raise Failure(f"found {found!r} and not {expected!r}")
+@cache
+def build_program():
+    """Builds the program if it is missing, or if sources are newer that no commit has, which bin/betable does not look for."""
+    state = subprocess.run([TOP / "bin/betable", "--version"], capture_output=True, text=True).stdout
+    if "\nprogram: proved and built\n" not in state and subprocess.run([TOP / "tools/build_program"]).returncode != 0:
+        raise RuntimeError("tools/build_program does not build the program")
 
 
-def expect_within(part, whole):
-    if part not in whole:
-        raise Failure(f"no {part!r} in {whole!r}")
+class ProgramTestCase(unittest.TestCase):
+    """Tests that run the program."""
+
+    @classmethod
+    def setUpClass(cls):
+        build_program()
+
+
+def output_of(words, **options):
+    """The standard output of a command that ends with status 0 and prints no error."""
+    ended = subprocess.run(words, capture_output=True, **options)
+    if ended.returncode or ended.stderr:
+        raise AssertionError(f"{words[0]}: status {ended.returncode}, {ended.stderr!r}")
+    return ended.stdout
 
 
 def fault_of(call):
@@ -103,9 +120,7 @@ def status_of(code, words, streams):
 
 def replies(script):
     """Those of the program by itself, since there are many of them."""
-    ended = subprocess.run([PROGRAM], input=script.encode(), capture_output=True, timeout=SECONDS)
-    expect((ended.returncode, ended.stderr), (0, b""))
-    return ended.stdout.decode()
+    return output_of([PROGRAM], input=script.encode(), timeout=SECONDS).decode()
 
 
 def explained(script, *words):
@@ -114,14 +129,16 @@ def explained(script, *words):
         path = Path(folder) / "script"
         path.write_bytes(script if isinstance(script, bytes) else script.encode())
         status, text, errors = run_forked("tools/explain", "--program", PROGRAM, *words, path)
-    expect(errors, "")
+    if errors:
+        raise AssertionError(errors)
     return status, text.splitlines()
 
 
 def drawn(images, *words):
     """The picture of tools/draw for these replies."""
     status, text, errors = run_forked("tools/draw", *words, given=images.encode())
-    expect((status, errors), (0, ""))
+    if status or errors:
+        raise AssertionError(errors)
     return xml.fromstring(text)
 
 

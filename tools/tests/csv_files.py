@@ -16,10 +16,11 @@ import tempfile
 from collections import Counter
 from decimal import Decimal
 from pathlib import Path
+from unittest import TestCase
 
-from clients import betable
-from common import expect, expect_within, Failure, imported, PROGRAM, run, run_forked, SECONDS, TOP
-from wrong_uses import OF_FROM_CSV, OF_OTHERS
+from .clients import betable
+from .common import imported, PROGRAM, run, run_forked, SECONDS, TOP, ProgramTestCase
+from .wrong_uses import OF_FROM_CSV, OF_OTHERS
 
 FILES = TOP / "tools/tests/files"
 SHAPE = "table 16 1024 256"
@@ -60,12 +61,12 @@ def read(text, separator=","):
     return list(csv.reader(io.StringIO(text, newline=""), delimiter=separator))
 
 
-def there_and_back(given, *words):
+def there_and_back(test, given, *words):
     """The rows of a CSV text that went through from_csv, the program and to_csv, the header first."""
     status, script, sentences = from_csv(given, *words)
-    expect((status, sentences[-1].startswith("refused")), (0, False))
+    test.assertEqual((status, sentences[-1].startswith("refused")), (0, False))
     status, text, errors = to_csv(script + "scan primary\ngo\n")
-    expect((status, errors), (0, ""))
+    test.assertEqual((status, errors), (0, ""))
     return read(text)
 
 
@@ -129,77 +130,6 @@ FOUND = (
     (f"a,b\n1,{'é' * 130}\n", "--key a --cut b", "1 a:int b:text", f"a,b\n1,{'é' * 127}\n", []),
 )  # fmt: skip
 
-
-def from_csv_finds_what_a_file_is():
-    for given, words, columns, records, wanted in FOUND:
-        status, script, sentences = from_csv(given, *words.split())
-        expect((status, sentences[1]), (0, f"{SHAPE} {columns}"))
-        if records is not None:
-            expect(script, f"{SHAPE} {columns}\nload\n{records}.\n")
-        for part in wanted:
-            expect_within(part, "\n".join([*sentences, ""]))
-
-
-def from_csv_names_the_field_that_makes_a_text_of_numbers():
-    """Also far down in the file, for each way in which a column of ints becomes another."""
-    for odd, said in (
-        ("x1", "n: text, as record 2501 (line 2502) has 'x1', which is neither an int nor a decimal"),
-        ("1 000", "n: text, as record 2501 (line 2502) has '1 000', which is neither an int nor a decimal"),
-        ("007", "n: digits of which an int would lose the zeros, the first '007' in record 2501 (line 2502), kept as text; --kind n=int makes it int"),
-        ("9223372036854775808", "n: numbers that do not fit 64 bits, the first '9223372036854775808' in record 2501 (line 2502), kept as text"),
-        ("0.25", "n: decimals, the first '0.25' in record 2501 (line 2502), kept as text; --scale n=2 makes ints of hundredths"),
-        ("NaN", "n: ints, but 1 field is 'NaN', in record 2501 (line 2502): kept as text; --null n=NaN --empty n=0 make it int"),
-        ("", "n: ints, but 1 field is empty, in record 2501 (line 2502): kept as text; --empty n=0 makes it int"),
-    ):
-        fields = [str(number) for number in range(4000)]
-        fields[2500] = odd
-        status, script, sentences = from_csv("id,n\n" + "".join(f"{place},{field}\n" for place, field in enumerate(fields)), "--key", "id")
-        expect((status, sentences[1:]), (0, [f"{SHAPE} 1 id:int n:text", said]))
-        expect_within(f"\n2500,{odd}\n", script)
-
-
-def from_csv_reads_compressed_files_from_pipes():
-    given = gzip.compress(b"a,b\n1,x\n2,y\n")
-    status, script, errors = run("tools/from_csv", "-", "--key", "a", given=given)
-    expect((status, script), (0, f"{SHAPE} 1 a:int b:text\nload\na,b\n1,x\n2,y\n.\n"))
-    wrong_block = given[:10] + b"\xff" * 20
-    broken = (given[:-4], "ended before the end-of-stream marker"), (given[:-8] + bytes(8), "CRC check failed"), (wrong_block, "invalid block type")
-    for packed, said in broken:
-        status, script, errors = run("tools/from_csv", "-", "--key", "a", given=packed)
-        expect((status, script, "Traceback" in errors), (2, "", False))
-        expect_within("from_csv: standard input cannot be unpacked: ", errors)
-        expect_within(said, errors)
-
-
-def from_csv_makes_names_of_titles():
-    titles = ["Id", "id", "ID", "Store #", "2020", "", "Ørsted/Åse", "n" * 40, "n" * 41, "é", "_x", "a__b"]
-    names = imported("tools/csv_source.py").legal_names(titles)
-    wanted = ["id_2", "id", "id_3", "store", "column_2020", "column_6", "orsted_ase", "n" * 32, "n" * 30 + "_2", "e", "x", "a__b"]
-    expect(names, wanted)
-
-
-def from_csv_says_what_became_of_the_sales():
-    """A file with a mark, semicolons, CR LF, decimal commas, empty fields and titles that are no names."""
-    words = ["--key", "Date,Store #", "--scale", "revenue=2", "--empty", "visitors=0"]
-    status, script, errors = run("tools/from_csv", str(FILES / "sales.csv"), *words)
-    table = f"{SHAPE} 2 date:text store:int revenue:int visitors:int open:flag comment:text"
-    expect(
-        errors.splitlines(),
-        [
-            "6 records, 6 columns, divided by ';'",
-            f"  {table}",
-            "  the byte order mark at the start is left out",
-            "  its lines end with CR LF, and those of the script with LF; inside fields they stay as they are",
-            "  'Date' is named date, 'Store #' store, 'Revenue €' revenue, 'Open?' open",
-            "  revenue: decimals, stored as ints times 100",
-            "  visitors: 2 empty fields are stored as 0",
-        ],
-    )
-    expect((status, script.splitlines()[:4]), (0, [table, "load", "date,store,revenue,visitors,open,comment", "2026-11-02,1,120450,35,TRUE,"]))
-    revenues = [record[2] for record in read(script.split("load\n")[1])[1:-1]]
-    expect(revenues, ["120450", "-1205", "98000", "99", "100000001", "750"])
-
-
 LONG = "é" * 128
 
 # What is refused: the bytes, the words, and the sentences of it.
@@ -218,82 +148,6 @@ REFUSED = (
     ("a,b\n1,92233720368547758.08\n", "--scale b=2", ["'92233720368547758.08', and 9223372036854775808 as an int, which does not fit 64 bits"]),
     ("a,b\n" + "".join(f"{n},{LONG}\n" for n in range(9)), "", ["b of record 3 (line 4) has 256 bytes", "b of 6 other records too"]),
 )
-
-
-def from_csv_refuses_what_cannot_be_loaded():
-    """With record and line, all in one run, and without a script."""
-    for given, words, wanted in REFUSED:
-        status, script, sentences = from_csv(given, "--key", "a", *words.split())
-        expect((status, script, sentences[-1]), (2, "", "no script is written"))
-        refusals = [sentence for sentence in sentences if sentence.startswith("refused: ")]
-        for part in wanted:
-            expect_within(part, "\n".join(refusals))
-    everything = f"a,b,c\n1,{LONG},\n1,x\n"
-    expect(len([sentence for sentence in from_csv(everything, "--key", "a")[2] if sentence.startswith("refused: ")]), 3)
-
-
-def from_csv_wants_right_words():
-    with tempfile.TemporaryDirectory() as folder:
-        path = Path(folder) / "a.csv"
-        path.write_text("id,City name\n1,Oslo\n")
-        wide = Path(folder) / "wide.csv"
-        wide.write_text(",".join(f"c{place}" for place in range(17)) + "\n")
-        bad = Path(folder) / "bad.csv"
-        bad.write_bytes(b"id,city\n1,ok\n2,\xff\n")
-        for words, wanted in (
-            ([path], "--key COLUMNS names the column, or up to four columns, by which each record is found; the columns are: id, city_name"),
-            ([path, "--key", "town"], "no column 'town'; its columns are: id, 'City name' or city_name"),
-            ([path, "--key", ","], "--key names no column"),
-            ([path, "--key", "id,id"], "a column is named twice"),
-            ([wide, "--key", "c0"], "17 columns, and a table has at most 16: --columns takes some of them"),
-            ([wide, "--key", "c0,c1,c2,c3,c4"], "5 key columns, and a table has at most 4"),
-            ([path, "--key", "id", "--shape", "3 4 4"], "--shape wants"),
-            ([path, "--key", "id", "--shape", "4 0b 4"], "--shape wants"),
-            ([path, "--key", "id", "--kind", "id=float"], "--kind wants int, text, flag or bytes and not 'float'"),
-            ([path, "--key", "id", "--scale", "id=x"], "--scale wants the number of digits"),
-            ([path, "--key", "id", "--empty", "id"], "--empty wants COLUMN=VALUE"),
-            ([path, "--key", "id", "--index", "by", "on town"], "index by: there is no column 'town'"),
-            ([path, "--key", "id", "--index", "primary", "on id"], "the name primary of an index is taken"),
-            ([path, "--key", "id", "--index", "by", "id"], "--index wants NAME and 'on LIST"),
-            ([path, "--key", "id", "--index", "by", "on id where id = x"], "'x' is no whole number"),
-            ([path, "--key", "id", "--separator", "ab"], "is no separator"),
-            ([path, "--key", "id", "--encoding", "what"], "is no encoding"),
-            ([path, "--key", "id", "--encoding", "base64"], "is no encoding"),
-            ([bad, "--key", "id"], "line 3 is no UTF-8: byte 3 is FF; --encoding cp1252, latin-1"),
-            ([Path(folder) / "none", "--key", "id"], "No such file"),
-            ([folder, "--key", "id"], "Is a directory"),
-            (["/dev/null", "--key", "id"], "has no record"),
-            ([], "the following arguments are required: FILE"),
-        ):
-            status, text, errors = in_process(FROM_CSV, *map(str, words))
-            expect((status, text), (2, ""))
-            expect_within(wanted, errors)
-        for words in ([], [bad, "--key", "id"], [path, "--key", "town"], [folder, "--key", "id"]):
-            status, text, errors = run("tools/from_csv", *map(str, words))
-            expect((status, text, "Traceback" in errors, errors.splitlines()[-1].startswith("from_csv: ")), (2, "", False, True))
-
-
-def wrong_uses_of_from_csv_say_what_to_do():
-    """Of a table of wrong uses: no script, and what is wrong with what to do about it, to the end of a line."""
-    for given, words, said in OF_FROM_CSV:
-        status, script, sentences = from_csv(given, *words)
-        expect((words, status, script), (words, 2, ""))
-        if not any(sentence.endswith(said) for sentence in sentences):
-            raise Failure(f"{words}: no {said!r} in {sentences!r}")
-
-
-def wrong_uses_of_the_other_tools_say_what_to_do():
-    with tempfile.TemporaryDirectory() as folder:
-        path = Path(folder) / "FILE"
-        for tool, words, contents, status, said in OF_OTHERS:
-            path.write_text(contents)
-            program = ["--program", PROGRAM] if tool not in ("explain_words",) and "--program" not in words else []
-            found, text, errors = run_forked(f"tools/{tool}", *program, *(path if word == "FILE" else word for word in words.split()))
-            lines = (text + errors).replace(str(path), "FILE").splitlines()
-            expect((tool, words, found, lines[-1]), (tool, words, status, said))
-            if tool != "explain" and tool != "explain_words":
-                expect((tool, words, text), (tool, words, ""))
-
 
 # Fields of a column, some of them of another kind.
 POOLS = (["1", "-20", "3"], ["0.05", "12.5", "-3", "1e-2", "7.00"], ["yes", "NO", "y", "0", "1", "true", "False"], ["x", "", "a,b", '"'])
@@ -314,102 +168,6 @@ def stored(field, nulls, filling, digits, is_flag):
     return field
 
 
-def from_csv_stores_what_is_asked_for():
-    """Of random columns and options each field is stored as it is asked for, or all of it is refused; and int and flag columns have such values alone."""
-    dice, kinds, refused = random.Random(4), Counter(), 0
-    for _ in range(900):
-        pool = dice.choice(POOLS)
-        fields = [dice.choice(pool + ([dice.choice(ODD_FIELDS)] if dice.random() < 0.4 else [])) for _ in range(dice.randrange(1, 7))]
-        nulls = dice.choice(([], [], ["NULL"], ["n/a", "-"]))
-        digits, is_flag = dice.choice(((None, False), (None, False), (0, False), (2, False), (None, True)))
-        filling = dice.choice((None, "false" if is_flag else dice.choice(("0", "-1"))))
-        words = [f"--null={','.join(nulls)}"] * bool(nulls) + [f"--empty=v={filling}"] * (filling is not None)
-        words += [f"--scale=v={digits}"] * (digits is not None) + ["--flag=v"] * is_flag
-        text = io.StringIO()
-        csv.writer(text).writerows([["k", "v"], *enumerate(fields)])
-        status, script, _ = from_csv(text.getvalue(), "--key", "k", *words)
-        expected = [stored(field, nulls, filling, digits, is_flag) for field in fields]
-        expect((fields, words, status), (fields, words, 2 if None in expected else 0))
-        if status == 0:
-            kind = re.search(r" v:(\w+)\n", script)[1]
-            expect((fields, words, [row[1] for row in read(script.split("load\n")[1])[1:-1]]), (fields, words, expected))
-            form = {"int": r"-?\d{1,19}", "flag": "(?i:true|false)", "text": ".*"}[kind]
-            expect((fields, kind, [bool(re.fullmatch(form, value)) for value in expected]), (fields, kind, [True] * len(fields)))
-            kinds[kind] += 1
-        refused += status
-    expect((min(kinds.values()) > 30, len(kinds), refused > 200), (True, 3, True))
-
-
-def from_csv_takes_one_record_of_each_key():
-    """Over several chunks: of 2,500 records each key comes twice, the second time at the same distance, and once a third time."""
-    records = [f'{n % 1200},"{n}\r\n"' for n in range(2400)] + ["7,end"]
-    given = "a,b\n" + "\n".join(records) + "\n"
-    first, last = ([row for row in there_and_back(given, "--key", "a", word)[1:]] for word in ("--first", "--last"))
-    expect(first, [[str(n), f"{n}\r\n"] for n in range(1200)])
-    expect(last, [[str(n), "end" if n == 7 else f"{n + 1200}\r\n"] for n in range(1200)])
-    sentences = from_csv(given, "--key", "a", "--last")[2]
-    expect_within("left out: 1,201 records with the key of a later one, first record 1 (line 2), which has that of record 1201 (line 2402)", sentences)
-
-
-def from_csv_warns_of_quotes_that_look_broken():
-    status, script, errors = run("tools/from_csv", str(FILES / "forgotten_quote.csv"), "--key", "id")
-    goes_on = "the quoted field that begins in line 28 goes on after its closing quote in line 29: was a quote forgotten? (it holds 1 line break)"
-    expect((status, script.count("\n"), errors.splitlines()[2:]), (0, 33, [f"  warning: {goes_on}"]))
-    expect_within('\n27,"city,5\n28,city""",5\n29,city,5\n.\n', script)
-    status, script, sentences = from_csv('a;b\n1;"x"y\n2;"z\n3;z\n', "--key", "a")
-    expect_within("warning: the quoted field that begins in line 2 goes on after its closing quote: was a quote forgotten?", sentences)
-    expect_within("warning: the quoted field that begins in line 3 is not closed, and goes on to line 4", sentences[-1])
-    expect((status, read(script)[2:-1]), (0, [["a", "b"], ["1", "xy"], ["2", "z\n3;z\n"]]))
-    for whole in ('a,b\n1,"x ""y"""\n', 'a,b\n1,x "y\n', 'a,b\n1,"x"', 'a,b\n"1",""\n'):
-        expect([sentence for sentence in from_csv(whole, "--key", "a")[2] if "warning" in sentence], [])
-
-
-def from_csv_makes_scripts_of_64_mebibytes_and_no_byte_more():
-    """With a smaller limit in its place, to the byte. Of a larger file it says so at once, and the record with which the script is full if it has to read."""
-    tool = imported("tools/from_csv")
-    with tempfile.TemporaryDirectory() as folder:
-        path = Path(folder) / "a.csv"
-        path.write_text("a,b\n" + "".join(f"{n},xyz\n" for n in range(2500)))
-        size = len(run("tools/from_csv", str(path), "--key", "a")[1])
-        so_far = "1,000 records so far, 2 columns, divided by ','\n  table 16 1024 256 1 a:int b:text\n  refused: the script would have more than 9,000"
-        too_large = f"the file has {path.stat().st_size:,} bytes; --csv writes the records for load_csv of a session, which takes any size (docs/PYTHON.md)"
-        for most, words, status, said in (
-            (size, [], 0, ""),
-            (size - 1, [], 2, f"the script would have {size:,} bytes"),
-            (9000, [], 2, so_far),
-            (9000, [], 2, too_large),
-            (9000, ["--columns", "a,b"], 2, "it is full at record 2000 (line 2001); --csv writes"),
-        ):
-            tool.MOST_SCRIPT = most
-            found = in_process(tool, str(path), "--key", "a", *words)
-            expect(found[0], status)
-            expect_within(said, found[2])
-        # The records alone have no limit.
-        status, text, said = in_process(tool, str(path), "--key", "a", "--csv", "--index", "by_b", "on b")
-        table = "  table 16 1024 256 1 a:int b:text\n  index by_b on b\n  build by_b 1"
-        expect((status, text, said), (0, path.read_text(), f"2,500 records, 2 columns, divided by ','\n{table}\n"))
-
-
-def from_csv_refuses_early_only_what_has_no_room():
-    """Of random files, with quotes, blanks, exponents and zeros that are dropped: the script of just as many bytes as there may be is written."""
-    tool, dice = imported("tools/from_csv"), random.Random(5)
-    decimals, texts = ["0.00", "-0.50", "12.5", "1e-2", "1.5E+1", "007", "-0", "0e5"], ["x", " y ", '"q"', "a,b", "l\nm", ""]
-    with tempfile.TemporaryDirectory() as folder:
-        path = Path(folder) / "a.csv"
-        for _ in range(200):
-            text = io.StringIO(newline="")
-            records = csv.writer(text, lineterminator=dice.choice(("\n", "\r\n")), quoting=dice.choice((csv.QUOTE_ALL, csv.QUOTE_MINIMAL)))
-            # One of each, so that what is dropped adds up.
-            decimal, note = dice.choice(decimals), dice.choice(texts)
-            records.writerows([["k", "d", "s"], *([place, decimal, note] for place in range(dice.randrange(1, 200)))])
-            path.write_text(text.getvalue(), newline="")
-            words = [str(path), "--key", "k", *dice.choice(([], ["--trim"])), *dice.choice(([], ["--scale", "d=2"]))]
-            tool.MOST_SCRIPT = 2**26
-            size = len(in_process(tool, *words)[1].encode())
-            for tool.MOST_SCRIPT, status in ((size, 0), (size - 1, 2)):
-                expect((words[1:], text.getvalue(), in_process(tool, *words)[0]), (words[1:], text.getvalue(), status))
-
-
 def all_of_terminal(near):
     """What was written to the far end of a terminal, which is closed. It may come in parts."""
     text = b""
@@ -421,26 +179,6 @@ def all_of_terminal(near):
         if not part:
             return text
         text += part
-
-
-def from_csv_shows_progress_at_a_terminal_only():
-    near, far = pty.openpty()
-    before = sys.stderr
-    try:
-        with os.fdopen(far, "w") as terminal:
-            sys.stderr = terminal
-            progress = FROM_CSV.Progress()
-            progress.show(5)
-            progress.due -= 1
-            progress.show(1234567)
-            progress.end()
-        sys.stderr = io.StringIO()
-        shown = all_of_terminal(near).decode()
-        expect(FROM_CSV.Progress().due, None)
-    finally:
-        sys.stderr = before
-        os.close(near)
-    expect((shown.startswith("\r1,234,567 records so far\r"), "\r5 " in shown, shown.endswith(" \r")), (True, False, True))
 
 
 # A table with an index, and its replies.
@@ -483,123 +221,10 @@ dropped by_sold
 refused 8 NoSuchTree
 '''
 
-
-def to_csv_takes_replies_from_a_file():
-    """Names that come again, line breaks that look like replies, a get of no row, a refusal, and what has no rows."""
-    with tempfile.TemporaryDirectory() as folder:
-        script, given = Path(folder) / "script", Path(folder) / "replies"
-        script.write_text(STOCK)
-        given.write_text(STOCK_REPLIES)
-
-        def of(number):
-            return run_forked("tools/to_csv", script, "--replies", given, *(["--reply", number] if number is not None else []))
-
-        expect(of(5), (0, 'sold,city,city_2,day,note\n7,Oslo,Oslo,2,\n12,Oslo,Oslo,1,"row, 1\nrows 9\nrow ""x"""\n', ""))
-        expect(of(6), (0, "city,day,sold,note\nOslo,2,7,\n", ""))
-        expect(of(7), (0, "city,day,sold,note\n", "to_csv: command 7 (line 11: get Oslo,3) found no row\n"))
-        expect(of(8), (0, "city,count,day\nOslo,2,3\n", ""))
-        expect(of(9), (0, "sold,city,city_2,count,sold_2\n7,Oslo,Oslo,1,7\n12,Oslo,Oslo,1,12\n", ""))
-        for number in (11, None):
-            expect(of(number), (1, "", "to_csv: command 11 (line 17: scan by_sold) is refused, 8 NoSuchTree: tools/explain says why\n"))
-        expect(of(2)[:2] + of(12)[:2] + of(0)[:2], (2, "", 2, "", 2, ""))
-        expect_within("the script has 11 commands", of(12)[2])
-        listed = run("tools/to_csv", str(script), "--list")[1].splitlines()
-        expect(listed, [f"command {number} (line {line})" for number, line in LISTED])
-
-
 LISTED = (
     (5, "8: scan by_sold"), (6, "10: get Oslo,2"), (7, "11: get Oslo,3"), (8, "12: sums primary 1 day"), (9, "14: sums by_sold 3 sold"),
     (11, "17: scan by_sold"),
 )  # fmt: skip
-
-
-def to_csv_names_no_two_columns_alike():
-    """A column that comes again is never named as another one that is there."""
-    script = """table 4 3 2 1 a:int a_2:int count:int
-index i on a_2,a include a,count
-build i 1
-scan i
-go
-sums i 2 count
-go
-index j on a include a_2
-build j 1
-scan j
-go
-"""
-    with tempfile.TemporaryDirectory() as folder:
-        path = Path(folder) / "replies"
-        path.write_text("table 3\nindex i\nbuild i 0 complete\nrows 0\nsums 0\nindex j\nbuild j 0 complete\nrows 0\n")
-        expect(to_csv(script, "--replies", str(path), "--reply", "4"), (0, "a_2,a,a_3,a_4,count\n", ""))
-        expect(to_csv(script, "--replies", str(path), "--reply", "5"), (0, "a_2,a,count,count_2\n", ""))
-        expect(to_csv(script, "--replies", str(path)), (0, "a,a_3,a_2\n", ""))
-
-
-def to_csv_finds_replies_that_are_not_those_of_the_script():
-    with tempfile.TemporaryDirectory() as folder:
-        script, given = Path(folder) / "script", Path(folder) / "replies"
-        script.write_text(STOCK)
-        lines = STOCK_REPLIES.splitlines(keepends=True)
-        for replies, wanted in (
-            ("", "the replies end before that to command 1 (line 1: "),
-            ("".join(lines[:5]), "the replies end within that to command 5 (line 8: scan by_sold)"),
-            ("".join(lines[:9]), "the replies end before that to command 6"),
-            ("".join(lines[1:]), "the replies are not those of this script: command 1"),
-            ("".join([*lines, "none\n"]), "1 line of them more than it has commands"),
-            ("".join(["refused 5 BadSchema\n", *lines[1:]]), "command 5 (line 8: scan by_sold) could not be answered"),
-            (STOCK_REPLIES.replace("index by_sold", "refused 9 NameTaken"), "command 5 (line 8: scan by_sold) could not be answered"),
-            (STOCK_REPLIES.replace("rows 2\n", "rows 3\n"), "the replies end within that to command 5"),
-        ):
-            given.write_text(replies)
-            status, text, errors = run_forked("tools/to_csv", script, "--replies", given, "--reply", 5)
-            expect((status, text, "Traceback" in errors), (2, "", False))
-            expect_within(wanted, errors)
-
-
-def to_csv_wants_right_words():
-    for words, wanted in (
-        ([], "required: SCRIPT"),
-        (["no/such/file"], "No such file"),
-        (["examples"], "Is a directory"),
-        (["examples/flush"], "the script has no scan and no sums"),
-        (["examples/first_steps", "--replies", "no/such/file"], "No such file"),
-        (["-", "--replies", "-"], "standard input is the script or the replies"),
-    ):
-        status, text, errors = run_forked("tools/to_csv", *words)
-        expect((status, text, "Traceback" in errors), (2, "", False))
-        expect_within(wanted, errors)
-    status, _, errors = run("tools/to_csv", "examples/first_steps", "--program", "no/such/program")
-    expect((status, "no/such/program: No such file" in errors), (3, True))
-    expect(run("tools/to_csv", "examples/ranges_and_sums", "--program", "/bin/false")[0], 3)
-
-
-# After it the program runs.
-
-
-def csv_comes_back_as_it_was():
-    """Quotes, line breaks, empty fields, points, commas, spaces and texts of 255 bytes, written by Python with each separator and line end."""
-    texts = ['the "old" town', "two\nlines", "two\r\nlines", "a\rb", "", ".", ".\n. \n..", "a,b;c\td|e", " 'x' ", '"', "rows 7\nrow 1", "é" * 127 + "x"]
-    rows = [[str(n - 5), text, ["0.5", "-3.25", ""][n % 3], ["true", "false"][n % 2], str((-1) ** n * 9**n)] for n, text in enumerate(texts)]
-    for separator, line_end in ((",", "\n"), (";", "\r\n"), ("\t", "\r"), ("|", "\r\n")):
-        for mark in ("", "\ufeff"):
-            text = io.StringIO(newline="")
-            csv.writer(text, delimiter=separator, lineterminator=line_end, quoting=csv.QUOTE_ALL).writerows([["n", "t", "d", "f", "i"], *rows])
-            expect(there_and_back(mark + text.getvalue(), "--key", "n"), [["n", "t", "d", "f", "i"], *rows])
-
-
-def csv_of_sqlite3_comes_back():
-    """The file that is stored is what sqlite3 writes here, where there is one."""
-    stored = (FILES / "sqlite3.csv").read_bytes()
-    if shutil.which("sqlite3"):
-        text = subprocess.run(["sqlite3", ":memory:"], input=(FILES / "sqlite3.sql").read_bytes(), capture_output=True).stdout
-        expect(read(text.decode()), read(stored.decode()))
-    rows = read(stored.decode())
-    expect(there_and_back(stored, "--key", "id"), rows)
-    # By another key, which comes first.
-    order = [2, 0, 1, 3, 4]
-    wanted = [[row[place] for place in order] for row in rows]
-    expect(there_and_back(stored, "--key", "note"), [wanted[0], *sorted(wanted[1:])])
-
 
 # Files as other programs write them, the words that are asked for, and the rows that are stored.
 OF_OTHER_PROGRAMS = (
@@ -621,107 +246,422 @@ OF_OTHER_PROGRAMS = (
 )  # fmt: skip
 
 
-def csv_of_other_programs_goes_in():
-    """As it is, and compressed."""
-    for given, words, rows in OF_OTHER_PROGRAMS:
-        expect(there_and_back(given, *words.split()), rows)
-        expect(there_and_back(gzip.compress(given), *words.split()), rows)
+class CsvFiles(TestCase):
+    def test_from_csv_finds_what_a_file_is(self):
+        for given, words, columns, records, wanted in FOUND:
+            status, script, sentences = from_csv(given, *words.split())
+            self.assertEqual((status, sentences[1]), (0, f"{SHAPE} {columns}"))
+            if records is not None:
+                self.assertEqual(script, f"{SHAPE} {columns}\nload\n{records}.\n")
+            for part in wanted:
+                self.assertIn(part, "\n".join([*sentences, ""]))
+
+    def test_from_csv_names_the_field_that_makes_a_text_of_numbers(self):
+        """Also far down in the file, for each way in which a column of ints becomes another."""
+        for odd, said in (
+            ("x1", "n: text, as record 2501 (line 2502) has 'x1', which is neither an int nor a decimal"),
+            ("1 000", "n: text, as record 2501 (line 2502) has '1 000', which is neither an int nor a decimal"),
+            ("007", "n: digits of which an int would lose the zeros, the first '007' in record 2501 (line 2502), kept as text; --kind n=int makes it int"),
+            ("9223372036854775808", "n: numbers that do not fit 64 bits, the first '9223372036854775808' in record 2501 (line 2502), kept as text"),
+            ("0.25", "n: decimals, the first '0.25' in record 2501 (line 2502), kept as text; --scale n=2 makes ints of hundredths"),
+            ("NaN", "n: ints, but 1 field is 'NaN', in record 2501 (line 2502): kept as text; --null n=NaN --empty n=0 make it int"),
+            ("", "n: ints, but 1 field is empty, in record 2501 (line 2502): kept as text; --empty n=0 makes it int"),
+        ):
+            fields = [str(number) for number in range(4000)]
+            fields[2500] = odd
+            status, script, sentences = from_csv("id,n\n" + "".join(f"{place},{field}\n" for place, field in enumerate(fields)), "--key", "id")
+            self.assertEqual((status, sentences[1:]), (0, [f"{SHAPE} 1 id:int n:text", said]))
+            self.assertIn(f"\n2500,{odd}\n", script)
+
+    def test_from_csv_reads_compressed_files_from_pipes(self):
+        given = gzip.compress(b"a,b\n1,x\n2,y\n")
+        status, script, errors = run("tools/from_csv", "-", "--key", "a", given=given)
+        self.assertEqual((status, script), (0, f"{SHAPE} 1 a:int b:text\nload\na,b\n1,x\n2,y\n.\n"))
+        wrong_block = given[:10] + b"\xff" * 20
+        broken = (given[:-4], "ended before the end-of-stream marker"), (given[:-8] + bytes(8), "CRC check failed"), (wrong_block, "invalid block type")
+        for packed, said in broken:
+            status, script, errors = run("tools/from_csv", "-", "--key", "a", given=packed)
+            self.assertEqual((status, script, "Traceback" in errors), (2, "", False))
+            self.assertIn("from_csv: standard input cannot be unpacked: ", errors)
+            self.assertIn(said, errors)
+
+    def test_from_csv_makes_names_of_titles(self):
+        titles = ["Id", "id", "ID", "Store #", "2020", "", "Ørsted/Åse", "n" * 40, "n" * 41, "é", "_x", "a__b"]
+        names = imported("tools/csv_source.py").legal_names(titles)
+        wanted = ["id_2", "id", "id_3", "store", "column_2020", "column_6", "orsted_ase", "n" * 32, "n" * 30 + "_2", "e", "x", "a__b"]
+        self.assertEqual(names, wanted)
+
+    def test_from_csv_says_what_became_of_the_sales(self):
+        """A file with a mark, semicolons, CR LF, decimal commas, empty fields and titles that are no names."""
+        words = ["--key", "Date,Store #", "--scale", "revenue=2", "--empty", "visitors=0"]
+        status, script, errors = run("tools/from_csv", str(FILES / "sales.csv"), *words)
+        table = f"{SHAPE} 2 date:text store:int revenue:int visitors:int open:flag comment:text"
+        self.assertEqual(
+            errors.splitlines(),
+            [
+                "6 records, 6 columns, divided by ';'",
+                f"  {table}",
+                "  the byte order mark at the start is left out",
+                "  its lines end with CR LF, and those of the script with LF; inside fields they stay as they are",
+                "  'Date' is named date, 'Store #' store, 'Revenue €' revenue, 'Open?' open",
+                "  revenue: decimals, stored as ints times 100",
+                "  visitors: 2 empty fields are stored as 0",
+            ],
+        )
+        self.assertEqual((status, script.splitlines()[:4]), (0, [table, "load", "date,store,revenue,visitors,open,comment", "2026-11-02,1,120450,35,TRUE,"]))
+        revenues = [record[2] for record in read(script.split("load\n")[1])[1:-1]]
+        self.assertEqual(revenues, ["120450", "-1205", "98000", "99", "100000001", "750"])
+
+    def test_from_csv_refuses_what_cannot_be_loaded(self):
+        """With record and line, all in one run, and without a script."""
+        for given, words, wanted in REFUSED:
+            status, script, sentences = from_csv(given, "--key", "a", *words.split())
+            self.assertEqual((status, script, sentences[-1]), (2, "", "no script is written"))
+            refusals = [sentence for sentence in sentences if sentence.startswith("refused: ")]
+            for part in wanted:
+                self.assertIn(part, "\n".join(refusals))
+        everything = f"a,b,c\n1,{LONG},\n1,x\n"
+        self.assertEqual(len([sentence for sentence in from_csv(everything, "--key", "a")[2] if sentence.startswith("refused: ")]), 3)
+
+    def test_from_csv_wants_right_words(self):
+        with tempfile.TemporaryDirectory() as folder:
+            path = Path(folder) / "a.csv"
+            path.write_text("id,City name\n1,Oslo\n")
+            wide = Path(folder) / "wide.csv"
+            wide.write_text(",".join(f"c{place}" for place in range(17)) + "\n")
+            bad = Path(folder) / "bad.csv"
+            bad.write_bytes(b"id,city\n1,ok\n2,\xff\n")
+            for words, wanted in (
+                ([path], "--key COLUMNS names the column, or up to four columns, by which each record is found; the columns are: id, city_name"),
+                ([path, "--key", "town"], "no column 'town'; its columns are: id, 'City name' or city_name"),
+                ([path, "--key", ","], "--key names no column"),
+                ([path, "--key", "id,id"], "a column is named twice"),
+                ([wide, "--key", "c0"], "17 columns, and a table has at most 16: --columns takes some of them"),
+                ([wide, "--key", "c0,c1,c2,c3,c4"], "5 key columns, and a table has at most 4"),
+                ([path, "--key", "id", "--shape", "3 4 4"], "--shape wants"),
+                ([path, "--key", "id", "--shape", "4 0b 4"], "--shape wants"),
+                ([path, "--key", "id", "--kind", "id=float"], "--kind wants int, text, flag or bytes and not 'float'"),
+                ([path, "--key", "id", "--scale", "id=x"], "--scale wants the number of digits"),
+                ([path, "--key", "id", "--empty", "id"], "--empty wants COLUMN=VALUE"),
+                ([path, "--key", "id", "--index", "by", "on town"], "index by: there is no column 'town'"),
+                ([path, "--key", "id", "--index", "primary", "on id"], "the name primary of an index is taken"),
+                ([path, "--key", "id", "--index", "by", "id"], "--index wants NAME and 'on LIST"),
+                ([path, "--key", "id", "--index", "by", "on id where id = x"], "'x' is no whole number"),
+                ([path, "--key", "id", "--separator", "ab"], "is no separator"),
+                ([path, "--key", "id", "--encoding", "what"], "is no encoding"),
+                ([path, "--key", "id", "--encoding", "base64"], "is no encoding"),
+                ([bad, "--key", "id"], "line 3 is no UTF-8: byte 3 is FF; --encoding cp1252, latin-1"),
+                ([Path(folder) / "none", "--key", "id"], "No such file"),
+                ([folder, "--key", "id"], "Is a directory"),
+                (["/dev/null", "--key", "id"], "has no record"),
+                ([], "the following arguments are required: FILE"),
+            ):
+                status, text, errors = in_process(FROM_CSV, *map(str, words))
+                self.assertEqual((status, text), (2, ""))
+                self.assertIn(wanted, errors)
+            for words in ([], [bad, "--key", "id"], [path, "--key", "town"], [folder, "--key", "id"]):
+                status, text, errors = run("tools/from_csv", *map(str, words))
+                self.assertEqual((status, text, "Traceback" in errors, errors.splitlines()[-1].startswith("from_csv: ")), (2, "", False, True))
+
+    def test_wrong_uses_of_from_csv_say_what_to_do(self):
+        """Of a table of wrong uses: no script, and what is wrong with what to do about it, to the end of a line."""
+        for given, words, said in OF_FROM_CSV:
+            with self.subTest(words=words):
+                status, script, sentences = from_csv(given, *words)
+                self.assertEqual((status, script), (2, ""))
+                if not any(sentence.endswith(said) for sentence in sentences):
+                    raise AssertionError(f"{words}: no {said!r} in {sentences!r}")
+
+    def test_from_csv_stores_what_is_asked_for(self):
+        """Of random columns and options each field is stored as it is asked for, or all of it is refused; and int and flag columns have such values alone."""
+        dice, kinds, refused = random.Random(4), Counter(), 0
+        for _ in range(900):
+            pool = dice.choice(POOLS)
+            fields = [dice.choice(pool + ([dice.choice(ODD_FIELDS)] if dice.random() < 0.4 else [])) for _ in range(dice.randrange(1, 7))]
+            nulls = dice.choice(([], [], ["NULL"], ["n/a", "-"]))
+            digits, is_flag = dice.choice(((None, False), (None, False), (0, False), (2, False), (None, True)))
+            filling = dice.choice((None, "false" if is_flag else dice.choice(("0", "-1"))))
+            words = [f"--null={','.join(nulls)}"] * bool(nulls) + [f"--empty=v={filling}"] * (filling is not None)
+            words += [f"--scale=v={digits}"] * (digits is not None) + ["--flag=v"] * is_flag
+            text = io.StringIO()
+            csv.writer(text).writerows([["k", "v"], *enumerate(fields)])
+            status, script, _ = from_csv(text.getvalue(), "--key", "k", *words)
+            expected = [stored(field, nulls, filling, digits, is_flag) for field in fields]
+            self.assertEqual(status, 2 if None in expected else 0, (fields, words))
+            if status == 0:
+                kind = re.search(r" v:(\w+)\n", script)[1]
+                self.assertEqual([row[1] for row in read(script.split("load\n")[1])[1:-1]], expected, (fields, words))
+                form = {"int": r"-?\d{1,19}", "flag": "(?i:true|false)", "text": ".*"}[kind]
+                self.assertEqual([bool(re.fullmatch(form, value)) for value in expected], [True] * len(fields), (fields, kind))
+                kinds[kind] += 1
+            refused += status
+        self.assertEqual((min(kinds.values()) > 30, len(kinds), refused > 200), (True, 3, True))
+
+    def test_from_csv_warns_of_quotes_that_look_broken(self):
+        status, script, errors = run("tools/from_csv", str(FILES / "forgotten_quote.csv"), "--key", "id")
+        goes_on = "the quoted field that begins in line 28 goes on after its closing quote in line 29: was a quote forgotten? (it holds 1 line break)"
+        self.assertEqual((status, script.count("\n"), errors.splitlines()[2:]), (0, 33, [f"  warning: {goes_on}"]))
+        self.assertIn('\n27,"city,5\n28,city""",5\n29,city,5\n.\n', script)
+        status, script, sentences = from_csv('a;b\n1;"x"y\n2;"z\n3;z\n', "--key", "a")
+        self.assertIn("warning: the quoted field that begins in line 2 goes on after its closing quote: was a quote forgotten?", sentences)
+        self.assertIn("warning: the quoted field that begins in line 3 is not closed, and goes on to line 4", sentences[-1])
+        self.assertEqual((status, read(script)[2:-1]), (0, [["a", "b"], ["1", "xy"], ["2", "z\n3;z\n"]]))
+        for whole in ('a,b\n1,"x ""y"""\n', 'a,b\n1,x "y\n', 'a,b\n1,"x"', 'a,b\n"1",""\n'):
+            self.assertEqual([sentence for sentence in from_csv(whole, "--key", "a")[2] if "warning" in sentence], [])
+
+    def test_from_csv_makes_scripts_of_64_mebibytes_and_no_byte_more(self):
+        """With a smaller limit in its place, to the byte. Of a larger file it says so at once, and the record with which the script is full if it has to
+        read."""
+        tool = imported("tools/from_csv")
+        with tempfile.TemporaryDirectory() as folder:
+            path = Path(folder) / "a.csv"
+            path.write_text("a,b\n" + "".join(f"{n},xyz\n" for n in range(2500)))
+            size = len(run("tools/from_csv", str(path), "--key", "a")[1])
+            so_far = "1,000 records so far, 2 columns, divided by ','\n  table 16 1024 256 1 a:int b:text\n  refused: the script would have more than 9,000"
+            too_large = f"the file has {path.stat().st_size:,} bytes; --csv writes the records for load_csv of a session, which takes any size (docs/PYTHON.md)"
+            for most, words, status, said in (
+                (size, [], 0, ""),
+                (size - 1, [], 2, f"the script would have {size:,} bytes"),
+                (9000, [], 2, so_far),
+                (9000, [], 2, too_large),
+                (9000, ["--columns", "a,b"], 2, "it is full at record 2000 (line 2001); --csv writes"),
+            ):
+                tool.MOST_SCRIPT = most
+                found = in_process(tool, str(path), "--key", "a", *words)
+                self.assertEqual(found[0], status)
+                self.assertIn(said, found[2])
+            # The records alone have no limit.
+            status, text, said = in_process(tool, str(path), "--key", "a", "--csv", "--index", "by_b", "on b")
+            table = "  table 16 1024 256 1 a:int b:text\n  index by_b on b\n  build by_b 1"
+            self.assertEqual((status, text, said), (0, path.read_text(), f"2,500 records, 2 columns, divided by ','\n{table}\n"))
+
+    def test_from_csv_refuses_early_only_what_has_no_room(self):
+        """Of random files, with quotes, blanks, exponents and zeros that are dropped: the script of just as many bytes as there may be is written."""
+        tool, dice = imported("tools/from_csv"), random.Random(5)
+        decimals, texts = ["0.00", "-0.50", "12.5", "1e-2", "1.5E+1", "007", "-0", "0e5"], ["x", " y ", '"q"', "a,b", "l\nm", ""]
+        with tempfile.TemporaryDirectory() as folder:
+            path = Path(folder) / "a.csv"
+            for _ in range(200):
+                text = io.StringIO(newline="")
+                records = csv.writer(text, lineterminator=dice.choice(("\n", "\r\n")), quoting=dice.choice((csv.QUOTE_ALL, csv.QUOTE_MINIMAL)))
+                # One of each, so that what is dropped adds up.
+                decimal, note = dice.choice(decimals), dice.choice(texts)
+                records.writerows([["k", "d", "s"], *([place, decimal, note] for place in range(dice.randrange(1, 200)))])
+                path.write_text(text.getvalue(), newline="")
+                words = [str(path), "--key", "k", *dice.choice(([], ["--trim"])), *dice.choice(([], ["--scale", "d=2"]))]
+                tool.MOST_SCRIPT = 2**26
+                size = len(in_process(tool, *words)[1].encode())
+                for tool.MOST_SCRIPT, status in ((size, 0), (size - 1, 2)):
+                    self.assertEqual((words[1:], text.getvalue(), in_process(tool, *words)[0]), (words[1:], text.getvalue(), status))
+
+    def test_from_csv_shows_progress_at_a_terminal_only(self):
+        near, far = pty.openpty()
+        before = sys.stderr
+        try:
+            with os.fdopen(far, "w") as terminal:
+                sys.stderr = terminal
+                progress = FROM_CSV.Progress()
+                progress.show(5)
+                progress.due -= 1
+                progress.show(1234567)
+                progress.end()
+            sys.stderr = io.StringIO()
+            shown = all_of_terminal(near).decode()
+            self.assertIsNone(FROM_CSV.Progress().due)
+        finally:
+            sys.stderr = before
+            os.close(near)
+        self.assertEqual((shown.startswith("\r1,234,567 records so far\r"), "\r5 " in shown, shown.endswith(" \r")), (True, False, True))
+
+    def test_to_csv_takes_replies_from_a_file(self):
+        """Names that come again, line breaks that look like replies, a get of no row, a refusal, and what has no rows."""
+        with tempfile.TemporaryDirectory() as folder:
+            script, given = Path(folder) / "script", Path(folder) / "replies"
+            script.write_text(STOCK)
+            given.write_text(STOCK_REPLIES)
+
+            def of(number):
+                return run_forked("tools/to_csv", script, "--replies", given, *(["--reply", number] if number is not None else []))
+
+            self.assertEqual(of(5), (0, 'sold,city,city_2,day,note\n7,Oslo,Oslo,2,\n12,Oslo,Oslo,1,"row, 1\nrows 9\nrow ""x"""\n', ""))
+            self.assertEqual(of(6), (0, "city,day,sold,note\nOslo,2,7,\n", ""))
+            self.assertEqual(of(7), (0, "city,day,sold,note\n", "to_csv: command 7 (line 11: get Oslo,3) found no row\n"))
+            self.assertEqual(of(8), (0, "city,count,day\nOslo,2,3\n", ""))
+            self.assertEqual(of(9), (0, "sold,city,city_2,count,sold_2\n7,Oslo,Oslo,1,7\n12,Oslo,Oslo,1,12\n", ""))
+            for number in (11, None):
+                self.assertEqual(of(number), (1, "", "to_csv: command 11 (line 17: scan by_sold) is refused, 8 NoSuchTree: tools/explain says why\n"))
+            self.assertEqual(of(2)[:2] + of(12)[:2] + of(0)[:2], (2, "", 2, "", 2, ""))
+            self.assertIn("the script has 11 commands", of(12)[2])
+            listed = run("tools/to_csv", str(script), "--list")[1].splitlines()
+            self.assertEqual(listed, [f"command {number} (line {line})" for number, line in LISTED])
+
+    def test_to_csv_names_no_two_columns_alike(self):
+        """A column that comes again is never named as another one that is there."""
+        script = """table 4 3 2 1 a:int a_2:int count:int
+index i on a_2,a include a,count
+build i 1
+scan i
+go
+sums i 2 count
+go
+index j on a include a_2
+build j 1
+scan j
+go
+"""
+        with tempfile.TemporaryDirectory() as folder:
+            path = Path(folder) / "replies"
+            path.write_text("table 3\nindex i\nbuild i 0 complete\nrows 0\nsums 0\nindex j\nbuild j 0 complete\nrows 0\n")
+            self.assertEqual(to_csv(script, "--replies", str(path), "--reply", "4"), (0, "a_2,a,a_3,a_4,count\n", ""))
+            self.assertEqual(to_csv(script, "--replies", str(path), "--reply", "5"), (0, "a_2,a,count,count_2\n", ""))
+            self.assertEqual(to_csv(script, "--replies", str(path)), (0, "a,a_3,a_2\n", ""))
+
+    def test_to_csv_finds_replies_that_are_not_those_of_the_script(self):
+        with tempfile.TemporaryDirectory() as folder:
+            script, given = Path(folder) / "script", Path(folder) / "replies"
+            script.write_text(STOCK)
+            lines = STOCK_REPLIES.splitlines(keepends=True)
+            for replies, wanted in (
+                ("", "the replies end before that to command 1 (line 1: "),
+                ("".join(lines[:5]), "the replies end within that to command 5 (line 8: scan by_sold)"),
+                ("".join(lines[:9]), "the replies end before that to command 6"),
+                ("".join(lines[1:]), "the replies are not those of this script: command 1"),
+                ("".join([*lines, "none\n"]), "1 line of them more than it has commands"),
+                ("".join(["refused 5 BadSchema\n", *lines[1:]]), "command 5 (line 8: scan by_sold) could not be answered"),
+                (STOCK_REPLIES.replace("index by_sold", "refused 9 NameTaken"), "command 5 (line 8: scan by_sold) could not be answered"),
+                (STOCK_REPLIES.replace("rows 2\n", "rows 3\n"), "the replies end within that to command 5"),
+            ):
+                given.write_text(replies)
+                status, text, errors = run_forked("tools/to_csv", script, "--replies", given, "--reply", 5)
+                self.assertEqual((status, text, "Traceback" in errors), (2, "", False))
+                self.assertIn(wanted, errors)
 
 
-def csv_of_other_programs_goes_into_a_session():
-    """By the lines that --csv says and the records that it writes."""
-    for given, words, rows in OF_OTHER_PROGRAMS:
-        status, text, sentences = from_csv(given, *words.split(), "--csv", "--index", "by_last", f"on {rows[0][-1]}")
-        lines = [sentence for sentence in sentences if sentence.startswith(("table ", "index ", "build "))]
-        expect((status, len(lines)), (0, 3))
-        with tempfile.TemporaryDirectory() as folder, betable().Session() as session:
-            path = Path(folder) / "records.csv"
-            path.write_text(text, newline="")
-            session.run("\n".join(lines) + "\n")
-            expect(session.load_csv(path), len(rows) - 1)
-            values = [[value if isinstance(value, str) else str(value).lower() for value in row] for row in session.scan()]
-            expect((values, len(session.scan("by_last"))), (rows[1:], len(rows) - 1))
+class CsvFilesWithProgram(ProgramTestCase):
+    def test_wrong_uses_of_the_other_tools_say_what_to_do(self):
+        with tempfile.TemporaryDirectory() as folder:
+            path = Path(folder) / "FILE"
+            for tool, words, contents, status, said in OF_OTHERS:
+                with self.subTest(tool=tool, words=words):
+                    path.write_text(contents)
+                    program = ["--program", PROGRAM] if tool not in ("explain_words",) and "--program" not in words else []
+                    found, text, errors = run_forked(f"tools/{tool}", *program, *(path if word == "FILE" else word for word in words.split()))
+                    lines = (text + errors).replace(str(path), "FILE").splitlines()
+                    self.assertEqual((found, lines[-1]), (status, said))
+                    if tool != "explain" and tool != "explain_words":
+                        self.assertEqual(text, "")
 
+    def test_from_csv_takes_one_record_of_each_key(self):
+        """Over several chunks: of 2,500 records each key comes twice, the second time at the same distance, and once a third time."""
+        records = [f'{n % 1200},"{n}\r\n"' for n in range(2400)] + ["7,end"]
+        given = "a,b\n" + "\n".join(records) + "\n"
+        first, last = ([row for row in there_and_back(self, given, "--key", "a", word)[1:]] for word in ("--first", "--last"))
+        self.assertEqual(first, [[str(n), f"{n}\r\n"] for n in range(1200)])
+        self.assertEqual(last, [[str(n), "end" if n == 7 else f"{n + 1200}\r\n"] for n in range(1200)])
+        sentences = from_csv(given, "--key", "a", "--last")[2]
+        self.assertIn("left out: 1,201 records with the key of a later one, first record 1 (line 2), which has that of record 1201 (line 2402)", sentences)
 
-def csv_with_lines_of_a_point_comes_back_mended():
-    rows = [["1", "a\n.\nb"], ["2", "\n.\r\n.\n"], ["3", "."], ["4", ".\n"], ["5", "x" * 254 + "\n.\ny"]]
-    text = io.StringIO(newline="")
-    csv.writer(text, lineterminator="\r\n").writerows([["a", "b"], *rows])
-    mended = [["1", "a\n. \nb"], ["2", "\n. \r\n. \n"], *rows[2:4], ["5", "x" * 254 + "\n"]]
-    expect(there_and_back(text.getvalue(), "--key", "a", "--mend-points", "--cut", "b"), [["a", "b"], *mended])
+    def test_to_csv_wants_right_words(self):
+        for words, wanted in (
+            ([], "required: SCRIPT"),
+            (["no/such/file"], "No such file"),
+            (["examples"], "Is a directory"),
+            (["examples/flush"], "the script has no scan and no sums"),
+            (["examples/first_steps", "--replies", "no/such/file"], "No such file"),
+            (["-", "--replies", "-"], "standard input is the script or the replies"),
+        ):
+            status, text, errors = run_forked("tools/to_csv", *words)
+            self.assertEqual((status, text, "Traceback" in errors), (2, "", False))
+            self.assertIn(wanted, errors)
+        status, _, errors = run("tools/to_csv", "examples/first_steps", "--program", "no/such/program")
+        self.assertEqual((status, "no/such/program: No such file" in errors), (3, True))
+        self.assertEqual(run("tools/to_csv", "examples/ranges_and_sums", "--program", "/bin/false")[0], 3)
 
+    # After it the program runs.
+    def test_csv_comes_back_as_it_was(self):
+        """Quotes, line breaks, empty fields, points, commas, spaces and texts of 255 bytes, written by Python with each separator and line end."""
+        texts = ['the "old" town', "two\nlines", "two\r\nlines", "a\rb", "", ".", ".\n. \n..", "a,b;c\td|e", " 'x' ", '"', "rows 7\nrow 1", "é" * 127 + "x"]
+        rows = [[str(n - 5), text, ["0.5", "-3.25", ""][n % 3], ["true", "false"][n % 2], str((-1) ** n * 9**n)] for n, text in enumerate(texts)]
+        for separator, line_end in ((",", "\n"), (";", "\r\n"), ("\t", "\r"), ("|", "\r\n")):
+            for mark in ("", "\ufeff"):
+                text = io.StringIO(newline="")
+                csv.writer(text, delimiter=separator, lineterminator=line_end, quoting=csv.QUOTE_ALL).writerows([["n", "t", "d", "f", "i"], *rows])
+                self.assertEqual(there_and_back(self, mark + text.getvalue(), "--key", "n"), [["n", "t", "d", "f", "i"], *rows])
 
-def csv_sums_are_exact():
-    """Decimals as ints of hundredths: their sum is that of the decimals."""
-    given = "day,price\n" + "".join(f"{n},{n // 7 - 40}.{n % 100:02}\n" for n in range(1500))
-    status, script, _ = from_csv(given, "--key", "day", "--scale", "price=2", "--index", "all", "on price include price")
-    expect(status, 0)
-    total = sum((abs(n // 7 - 40) * 100 + n % 100) * (-1 if n // 7 - 40 < 0 else 1) for n in range(1500))
-    status, text, _ = to_csv(script + "sums all 1 price\ngo\n")
-    rows = read(text)
-    expect((status, rows[0]), (0, ["price", "count", "price_2"]))
-    expect((sum(int(row[2]) for row in rows[1:]), sum(int(row[1]) for row in rows[1:])), (total, 1500))
+    def test_csv_of_sqlite3_comes_back(self):
+        """The file that is stored is what sqlite3 writes here, where there is one."""
+        stored = (FILES / "sqlite3.csv").read_bytes()
+        if shutil.which("sqlite3"):
+            text = subprocess.run(["sqlite3", ":memory:"], input=(FILES / "sqlite3.sql").read_bytes(), capture_output=True).stdout
+            self.assertEqual(read(text.decode()), read(stored.decode()))
+        rows = read(stored.decode())
+        self.assertEqual(there_and_back(self, stored, "--key", "id"), rows)
+        # By another key, which comes first.
+        order = [2, 0, 1, 3, 4]
+        wanted = [[row[place] for place in order] for row in rows]
+        self.assertEqual(there_and_back(self, stored, "--key", "note"), [wanted[0], *sorted(wanted[1:])])
 
+    def test_csv_of_other_programs_goes_in(self):
+        """As it is, and compressed."""
+        for given, words, rows in OF_OTHER_PROGRAMS:
+            self.assertEqual(there_and_back(self, given, *words.split()), rows)
+            self.assertEqual(there_and_back(self, gzip.compress(given), *words.split()), rows)
 
-def help_of_from_csv_can_be_followed():
-    """The lines of its help, in a folder with examples/cities.csv."""
-    lines = run("tools/from_csv", "--help")[1].split("the reply:\n")[1].split("\nThe separator")[0]
-    with tempfile.TemporaryDirectory() as folder:
-        for name in ("bin", "tools", "crates", "crates.txt", "examples/cities.csv"):
-            (Path(folder) / Path(name).name).symlink_to(TOP / name)
-        ended = subprocess.run(["sh", "-ec", lines], cwd=folder, capture_output=True, text=True, timeout=SECONDS)
-    expect((ended.returncode, ended.stderr.count("id:int city:text qty:int")), (0, 2))
-    cities = read((TOP / "examples/cities.csv").read_text())
-    sums = [f"sum 1 {row[2]} {row[0]}" for row in cities[1:]]
-    expect(ended.stdout.split("loaded 12\n")[1].split("id,city,qty\n")[0].splitlines(), [*sums, "sums 12"])
-    expect(read("id,city,qty\n" + ended.stdout.split("id,city,qty\n")[1]), cities)
+    def test_csv_of_other_programs_goes_into_a_session(self):
+        """By the lines that --csv says and the records that it writes."""
+        for given, words, rows in OF_OTHER_PROGRAMS:
+            status, text, sentences = from_csv(given, *words.split(), "--csv", "--index", "by_last", f"on {rows[0][-1]}")
+            lines = [sentence for sentence in sentences if sentence.startswith(("table ", "index ", "build "))]
+            self.assertEqual((status, len(lines)), (0, 3))
+            with tempfile.TemporaryDirectory() as folder, betable().Session() as session:
+                path = Path(folder) / "records.csv"
+                path.write_text(text, newline="")
+                session.run("\n".join(lines) + "\n")
+                self.assertEqual(session.load_csv(path), len(rows) - 1)
+                values = [[value if isinstance(value, str) else str(value).lower() for value in row] for row in session.scan()]
+                self.assertEqual((values, len(session.scan("by_last"))), (rows[1:], len(rows) - 1))
 
+    def test_csv_with_lines_of_a_point_comes_back_mended(self):
+        rows = [["1", "a\n.\nb"], ["2", "\n.\r\n.\n"], ["3", "."], ["4", ".\n"], ["5", "x" * 254 + "\n.\ny"]]
+        text = io.StringIO(newline="")
+        csv.writer(text, lineterminator="\r\n").writerows([["a", "b"], *rows])
+        mended = [["1", "a\n. \nb"], ["2", "\n. \r\n. \n"], *rows[2:4], ["5", "x" * 254 + "\n"]]
+        self.assertEqual(there_and_back(self, text.getvalue(), "--key", "a", "--mend-points", "--cut", "b"), [["a", "b"], *mended])
 
-def csv_tools_end_quietly_where_the_reader_goes_away():
-    """More than a pipe holds; only the first line is read."""
-    given = "a,b\n" + "".join(f"{n},{'x' * 200}\n" for n in range(3000))
-    with tempfile.TemporaryDirectory() as folder:
-        path, script = Path(folder) / "a.csv", Path(folder) / "script"
-        path.write_text(given)
-        script.write_text(run("tools/from_csv", str(path), "--key", "a")[1] + "scan primary\ngo\n")
-        for words in (["tools/from_csv", str(path), "--key", "a"], ["tools/to_csv", str(script)]):
-            with subprocess.Popen([TOP / words[0], *words[1:]], stdout=subprocess.PIPE, stderr=subprocess.PIPE) as process:
-                process.stdout.readline()
-                process.stdout.close()
-                errors = process.stderr.read().decode()
-            expect("BrokenPipe" in errors or "Traceback" in errors, False)
+    def test_csv_sums_are_exact(self):
+        """Decimals as ints of hundredths: their sum is that of the decimals."""
+        given = "day,price\n" + "".join(f"{n},{n // 7 - 40}.{n % 100:02}\n" for n in range(1500))
+        status, script, _ = from_csv(given, "--key", "day", "--scale", "price=2", "--index", "all", "on price include price")
+        self.assertEqual(status, 0)
+        total = sum((abs(n // 7 - 40) * 100 + n % 100) * (-1 if n // 7 - 40 < 0 else 1) for n in range(1500))
+        status, text, _ = to_csv(script + "sums all 1 price\ngo\n")
+        rows = read(text)
+        self.assertEqual((status, rows[0]), (0, ["price", "count", "price_2"]))
+        self.assertEqual((sum(int(row[2]) for row in rows[1:]), sum(int(row[1]) for row in rows[1:])), (total, 1500))
 
+    def test_help_of_from_csv_can_be_followed(self):
+        """The lines of its help, in a folder with examples/cities.csv."""
+        lines = run("tools/from_csv", "--help")[1].split("the reply:\n")[1].split("\nThe separator")[0]
+        with tempfile.TemporaryDirectory() as folder:
+            for name in ("bin", "tools", "crates", "crates.txt", "examples/cities.csv"):
+                (Path(folder) / Path(name).name).symlink_to(TOP / name)
+            ended = subprocess.run(["sh", "-ec", lines], cwd=folder, capture_output=True, text=True, timeout=SECONDS)
+        self.assertEqual((ended.returncode, ended.stderr.count("id:int city:text qty:int")), (0, 2))
+        cities = read((TOP / "examples/cities.csv").read_text())
+        sums = [f"sum 1 {row[2]} {row[0]}" for row in cities[1:]]
+        self.assertEqual(ended.stdout.split("loaded 12\n")[1].split("id,city,qty\n")[0].splitlines(), [*sums, "sums 12"])
+        self.assertEqual(read("id,city,qty\n" + ended.stdout.split("id,city,qty\n")[1]), cities)
 
-# Those that ask for no program.
-TESTS_OF_TEXTS = [
-    from_csv_finds_what_a_file_is,
-    from_csv_names_the_field_that_makes_a_text_of_numbers,
-    from_csv_reads_compressed_files_from_pipes,
-    from_csv_makes_names_of_titles,
-    from_csv_says_what_became_of_the_sales,
-    from_csv_refuses_what_cannot_be_loaded,
-    from_csv_wants_right_words,
-    wrong_uses_of_from_csv_say_what_to_do,
-    from_csv_stores_what_is_asked_for,
-    from_csv_warns_of_quotes_that_look_broken,
-    from_csv_makes_scripts_of_64_mebibytes_and_no_byte_more,
-    from_csv_refuses_early_only_what_has_no_room,
-    from_csv_shows_progress_at_a_terminal_only,
-    to_csv_takes_replies_from_a_file,
-    to_csv_names_no_two_columns_alike,
-    to_csv_finds_replies_that_are_not_those_of_the_script,
-]
-
-TESTS = [
-    to_csv_wants_right_words,
-    wrong_uses_of_the_other_tools_say_what_to_do,
-    from_csv_takes_one_record_of_each_key,
-    csv_comes_back_as_it_was,
-    csv_of_sqlite3_comes_back,
-    csv_of_other_programs_goes_in,
-    csv_of_other_programs_goes_into_a_session,
-    csv_with_lines_of_a_point_comes_back_mended,
-    csv_sums_are_exact,
-    help_of_from_csv_can_be_followed,
-    csv_tools_end_quietly_where_the_reader_goes_away,
-]
+    def test_csv_tools_end_quietly_where_the_reader_goes_away(self):
+        """More than a pipe holds; only the first line is read."""
+        given = "a,b\n" + "".join(f"{n},{'x' * 200}\n" for n in range(3000))
+        with tempfile.TemporaryDirectory() as folder:
+            path, script = Path(folder) / "a.csv", Path(folder) / "script"
+            path.write_text(given)
+            script.write_text(run("tools/from_csv", str(path), "--key", "a")[1] + "scan primary\ngo\n")
+            for words in (["tools/from_csv", str(path), "--key", "a"], ["tools/to_csv", str(script)]):
+                with subprocess.Popen([TOP / words[0], *words[1:]], stdout=subprocess.PIPE, stderr=subprocess.PIPE) as process:
+                    process.stdout.readline()
+                    process.stdout.close()
+                    errors = process.stderr.read().decode()
+                self.assertFalse("BrokenPipe" in errors or "Traceback" in errors)

@@ -2,14 +2,14 @@
 
 import json
 import re
-import shutil
 import subprocess
 import tempfile
 from collections.abc import Iterator
 from pathlib import Path
 from typing import Any
+from unittest import TestCase
 
-from common import SECONDS, TOP, expect
+from .common import SECONDS, TOP, needs
 
 from betable import language
 
@@ -62,43 +62,38 @@ def patterns_of(node: Any) -> Iterator[tuple[str, str]]:
             yield from patterns_of(value)
 
 
-def the_grammar_of_textmate_has_all_words() -> None:
-    grammar = json.loads(TEXTMATE.read_text())
-    found: dict[str, set[str]] = {}
-    for scope, pattern in patterns_of(grammar):
-        found.setdefault(scope, set()).update(words_in(pattern))
-    expect({scope: sorted(found[scope]) for scope in PARTS}, {scope: sorted(word.decode() for word in set(words)) for scope, words in PARTS.items()})
-    included = set(re.findall(r'"#(\w+)"', TEXTMATE.read_text()))
-    expect(included, set(grammar["repository"]))
+class Editors(TestCase):
+    def test_the_grammar_of_textmate_has_all_words(self) -> None:
+        grammar = json.loads(TEXTMATE.read_text())
+        found: dict[str, set[str]] = {}
+        for scope, pattern in patterns_of(grammar):
+            found.setdefault(scope, set()).update(words_in(pattern))
+        self.assertEqual(
+            {scope: sorted(found[scope]) for scope in PARTS}, {scope: sorted(word.decode() for word in set(words)) for scope, words in PARTS.items()}
+        )
+        included = set(re.findall(r'"#(\w+)"', TEXTMATE.read_text()))
+        self.assertEqual(included, set(grammar["repository"]))
 
+    def test_the_syntax_of_vim_has_all_words(self) -> None:
+        text = (VIM / "syntax/betable.vim").read_text()
+        found = words_in(" ".join(re.findall(r"/(.*?)/", "\n".join(line for line in text.splitlines() if line.startswith("syntax "))))) | set(text.split())
+        missing = [word.decode() for words in PARTS.values() for word in words if word not in language.OPERATORS and word.decode() not in found]
+        self.assertEqual(missing, [])
 
-def the_syntax_of_vim_has_all_words() -> None:
-    text = (VIM / "syntax/betable.vim").read_text()
-    found = words_in(" ".join(re.findall(r"/(.*?)/", "\n".join(line for line in text.splitlines() if line.startswith("syntax "))))) | set(text.split())
-    missing = [word.decode() for words in PARTS.values() for word in words if word not in language.OPERATORS and word.decode() not in found]
-    expect(missing, [])
-
-
-def vim_takes_the_words_of_a_script_for_what_they_are() -> None:
-    """Of each line the group of its first letter and of its last one."""
-    if not shutil.which("vim"):
-        print("vim is not installed, so its groups are not looked at")
-        return
-    with tempfile.TemporaryDirectory() as folder:
-        script, groups = Path(folder) / "a.betable", Path(folder) / "groups"
-        script.write_text(SCRIPT)
-        ask = "synIDattr(synID(v:val, 1, 1), 'name') . ' ' . synIDattr(synID(v:val, col([v:val, '$']) - 1, 1), 'name')"
-        write = f"call writefile(map(range(1, line('$')), \"{ask}\"), '{groups}')"
-        commands = [f"set runtimepath^={VIM}", "filetype on", "syntax on", f"edit {script}", write, "qall!"]
-        words = [part for command in commands for part in ("-c", command)]
-        subprocess.run(["vim", "-es", "-N", "-u", "NONE", "-i", "NONE", *words], stdin=subprocess.DEVNULL, capture_output=True, timeout=SECONDS)
-        expect([line.replace("betable", "") for line in groups.read_text().splitlines()], [
-            "Command Kind", "Command Command", "Load Load", "Number String", "Command Command",
-            "Command Command", "Message Record", "Message Number", "Command Command",
-            "Command Tree", "Bound Number", "Command Command",
-            "Command Number", "Command Scan", "Command Command",
-        ])  # fmt: skip
-
-
-TESTS_OF_TEXTS = [the_grammar_of_textmate_has_all_words, the_syntax_of_vim_has_all_words, vim_takes_the_words_of_a_script_for_what_they_are]
-TESTS: list[Any] = []
+    @needs("vim")
+    def test_vim_takes_the_words_of_a_script_for_what_they_are(self) -> None:
+        """Of each line the group of its first letter and of its last one."""
+        with tempfile.TemporaryDirectory() as folder:
+            script, groups = Path(folder) / "a.betable", Path(folder) / "groups"
+            script.write_text(SCRIPT)
+            ask = "synIDattr(synID(v:val, 1, 1), 'name') . ' ' . synIDattr(synID(v:val, col([v:val, '$']) - 1, 1), 'name')"
+            write = f"call writefile(map(range(1, line('$')), \"{ask}\"), '{groups}')"
+            commands = [f"set runtimepath^={VIM}", "filetype on", "syntax on", f"edit {script}", write, "qall!"]
+            words = [part for command in commands for part in ("-c", command)]
+            subprocess.run(["vim", "-es", "-N", "-u", "NONE", "-i", "NONE", *words], stdin=subprocess.DEVNULL, capture_output=True, timeout=SECONDS)
+            self.assertEqual([line.replace("betable", "") for line in groups.read_text().splitlines()], [
+                "Command Kind", "Command Command", "Load Load", "Number String", "Command Command",
+                "Command Command", "Message Record", "Message Number", "Command Command",
+                "Command Tree", "Bound Number", "Command Command",
+                "Command Number", "Command Scan", "Command Command",
+            ])  # fmt: skip

@@ -1,6 +1,6 @@
 """Mistakes in a script, each with what tools/explain says of it, for the test of tools/explain."""
 
-from common import TABLE
+from .common import TABLE
 
 LONG = "x" * 250
 FORM = {line.split()[0]: f"the form: {line}" for line in (

@@ -10,9 +10,10 @@ import re
 import struct
 import subprocess
 from textwrap import dedent
+from unittest import TestCase
 
-from common import expect, expect_within, fault_of, SECONDS, TOP
-from clients import OtherLibrary, betable, both_ways, build_extension, c_program, HERE, is_installed, library, library_without_memory, worked_scripts
+from .common import fault_of, SECONDS, TOP, needs
+from .clients import betable, both_ways, build_extension, c_program, HERE, library, library_without_memory, worked_scripts
 
 from betable import language
 
@@ -115,9 +116,9 @@ class Fault(Exception):
     """Why packed bytes are refused: the number, the item and the column."""
 
 
-def rows_of(reply, kinds):
+def rows_of(test, reply, kinds):
     """The rows of a reply, and where each begins in it."""
-    expect(reply[:4], b"BTV\x01")
+    test.assertEqual(reply[:4], b"BTV\x01")
     found, places, bytes_left = [], [], Bytes(reply[4:])
     while bytes_left.rest:
         places.append(len(reply) - len(bytes_left.rest))
@@ -125,9 +126,9 @@ def rows_of(reply, kinds):
     return found, places
 
 
-def groups_of(reply, kinds):
+def groups_of(test, reply, kinds):
     """The groups of a reply: of each the number of rows, the sum, and its values."""
-    expect(reply[:4], b"BTV\x01")
+    test.assertEqual(reply[:4], b"BTV\x01")
     found, bytes_left = [], Bytes(reply[4:])
     while bytes_left.rest:
         values = bytes_left.values(kinds, 0)
@@ -198,11 +199,13 @@ class Raw:
     def reply(self, name, given):
         """The reply of a call that is done."""
         status, fault, reply = self.call(name, given)
-        expect((given, status, fault), (given, DONE, UNWRITTEN))
+        if (status, fault) != (DONE, UNWRITTEN):
+            raise AssertionError((name, given, status, fault))
         return reply
 
     def apply(self, *given):
-        expect(self.reply("betable_apply", changes(*given)), b"")
+        if reply := self.reply("betable_apply", changes(*given)):
+            raise AssertionError(reply)
 
     def images(self):
         return self.session.replies("".join(f"image {name}\n" for name in ["primary", *(name.decode() for name in self.session.state.table.indexes)]))
@@ -245,21 +248,6 @@ def filled(dice, count=40):
 
 
 # ---- beside scripts ----
-
-
-@both_ways
-def changes_by_packed_bytes_and_by_script_leave_equal_trees():
-    """Those of rows and of indexes, of three tables that get the same changes: by script, by packed bytes, and by the client."""
-    for seed in range(12):
-        dice = random.Random(seed)
-        by_script, by_bytes, by_client = Raw(SCHEMA), Raw(SCHEMA), Raw(SCHEMA)
-        for _ in range(15):
-            found = [random_change(dice) for _ in range(dice.choice([0, 1, 2, 5, 40]))]
-            by_script.session.run("batch\n" + "".join(str(message) for message, _ in found) + "end\n")
-            by_bytes.apply(*(given for _, given in found))
-            by_client.session.batch([message for message, _ in found])
-            images = by_script.images()
-            expect((seed, by_bytes.images(), by_client.images()), (seed, images, images))
 
 
 class NotInValues(Exception):
@@ -340,35 +328,6 @@ def call_in_values(command, table):
     return "betable_sums", sums(int(words[2]), tree, words[3].decode(), *bounds.values())
 
 
-def worked_scripts_in_values_leave_the_trees_that_they_leave():
-    """Each batch, get, scan and sums of the worked scripts by packed bytes, if it can be said in values, beside the script: its rows or groups, whether it is
-    refused, and the images of all trees after it. All other commands are run as they are."""
-    said, refused = dict.fromkeys(CALLS, 0), 0
-    for script, _, places in worked_scripts():
-        by_script, by_bytes, text = Raw(), Raw(), script.read_bytes()
-        for part in (text[start:end] for start, end in zip(places, places[1:])):
-            is_refused, rows = replied(by_script.session, part)
-            table = by_script.session.state.table
-            try:
-                if table is None:
-                    raise NotInValues
-                name, given = call_in_values(next(language.commands(part)), table)
-            except NotInValues:
-                by_bytes.session.replies(part)
-                continue
-            status, _, reply = by_bytes.call(name, given)
-            said[name] += 1
-            refused += is_refused
-            expect((script.name, part, status), (script.name, part, REFUSED if is_refused else DONE))
-            if status == DONE and name != "betable_apply":
-                words = part.decode().split()
-                kinds = by_script.kinds("primary" if name == "betable_get" else words[1])
-                found = groups_of(reply, kinds[: int(words[2])]) if name == "betable_sums" else rows_of(reply, kinds)[0]
-                expect((script.name, part, found), (script.name, part, rows))
-            expect((script.name, part, by_bytes.images() == by_script.images()), (script.name, part, True))
-    expect([said[name] > least for name, least in zip(CALLS, (100, 30, 50, 20))] + [refused > 10], [True] * 5)
-
-
 def replied(session, part):
     """Whether a command is refused, and the rows of its reply."""
     try:
@@ -378,153 +337,210 @@ def replied(session, part):
     return False, replies[0].rows if replies else []
 
 
-@both_ways
-def rows_that_are_put_go_as_they_go_by_text():
-    """Rows of the client, one after the other and many at once, beside the lines of a batch."""
-    client, dice = betable(), random.Random(3)
-    for _ in range(20):
-        rows = [random_row(dice) for _ in range(dice.choice([1, 2, 3, 4, 50]))]
-        by_script, by_client = Raw(SCHEMA), Raw(SCHEMA)
-        by_script.session.run("batch\n" + "".join(str(client.put(*row)) for row in rows) + "end\n")
-        expect(by_client.session.put([dice.choice([tuple, list])(row) for row in rows]), len(rows))
-        expect(by_client.images(), by_script.images())
+class BesideScripts(TestCase):
+    @both_ways
+    def test_changes_by_packed_bytes_and_by_script_leave_equal_trees(self):
+        """Those of rows and of indexes, of three tables that get the same changes: by script, by packed bytes, and by the client."""
+        for seed in range(12):
+            with self.subTest(seed=seed):
+                dice = random.Random(seed)
+                by_script, by_bytes, by_client = Raw(SCHEMA), Raw(SCHEMA), Raw(SCHEMA)
+                for _ in range(15):
+                    found = [random_change(dice) for _ in range(dice.choice([0, 1, 2, 5, 40]))]
+                    by_script.session.run("batch\n" + "".join(str(message) for message, _ in found) + "end\n")
+                    by_bytes.apply(*(given for _, given in found))
+                    by_client.session.batch([message for message, _ in found])
+                    images = by_script.images()
+                    self.assertEqual((by_bytes.images(), by_client.images()), (images, images))
 
+    def test_worked_scripts_in_values_leave_the_trees_that_they_leave(self):
+        """Each batch, get, scan and sums of the worked scripts by packed bytes, if it can be said in values, beside the script: its rows or groups, whether it
+        is refused, and the images of all trees after it. All other commands are run as they are."""
+        said, refused = dict.fromkeys(CALLS, 0), 0
+        for script, _, places in worked_scripts():
+            by_script, by_bytes, text = Raw(), Raw(), script.read_bytes()
+            for part in (text[start:end] for start, end in zip(places, places[1:])):
+                with self.subTest(script=script.name, part=part):
+                    is_refused, rows = replied(by_script.session, part)
+                    table = by_script.session.state.table
+                    try:
+                        if table is None:
+                            raise NotInValues
+                        name, given = call_in_values(next(language.commands(part)), table)
+                    except NotInValues:
+                        by_bytes.session.replies(part)
+                        continue
+                    status, _, reply = by_bytes.call(name, given)
+                    said[name] += 1
+                    refused += is_refused
+                    self.assertEqual(status, REFUSED if is_refused else DONE)
+                    if status == DONE and name != "betable_apply":
+                        words = part.decode().split()
+                        kinds = by_script.kinds("primary" if name == "betable_get" else words[1])
+                        found = groups_of(self, reply, kinds[: int(words[2])]) if name == "betable_sums" else rows_of(self, reply, kinds)[0]
+                        self.assertEqual(found, rows)
+                    self.assertTrue(by_bytes.images() == by_script.images())
+        self.assertEqual([said[name] > least for name, least in zip(CALLS, (100, 30, 50, 20))] + [refused > 10], [True] * 5)
 
-@both_ways
-def gets_and_pages_are_those_of_scans():
-    """Of random keys, bounds and limits, in the rows and in the indexes, by packed bytes and by the client."""
-    for seed in range(6):
-        dice = random.Random(seed)
+    @both_ways
+    def test_rows_that_are_put_go_as_they_go_by_text(self):
+        """Rows of the client, one after the other and many at once, beside the lines of a batch."""
+        client, dice = betable(), random.Random(3)
+        for _ in range(20):
+            rows = [random_row(dice) for _ in range(dice.choice([1, 2, 3, 4, 50]))]
+            by_script, by_client = Raw(SCHEMA), Raw(SCHEMA)
+            by_script.session.run("batch\n" + "".join(str(client.put(*row)) for row in rows) + "end\n")
+            self.assertEqual(by_client.session.put([dice.choice([tuple, list])(row) for row in rows]), len(rows))
+            self.assertEqual(by_client.images(), by_script.images())
+
+    @both_ways
+    def test_gets_and_pages_are_those_of_scans(self):
+        """Of random keys, bounds and limits, in the rows and in the indexes, by packed bytes and by the client."""
+        for seed in range(6):
+            dice = random.Random(seed)
+            raw = filled(dice)
+            session = raw.session
+            for key in range(-12, 33):
+                with self.subTest(key=key):
+                    wanted = session.run(f"get {key}\n")[0].rows
+                    reply = raw.reply("betable_get", header(1) + value_bytes(key))
+                    self.assertEqual((rows_of(self, reply, raw.kinds())[0], session.get(key)), (wanted, wanted[0] if wanted else None))
+            for tree in ("primary", "by_city", "large"):
+                whole = session.run(f"scan {tree}\ngo\n")[0].rows
+                count = len(session.state.table.key_of(tree.encode()))
+                for _ in range(60):
+                    bounds = [dice.choice(whole)[: dice.randrange(count + 1)] for _ in range(2)]
+                    lines = "".join(f"{word} {betable().record(values)}\n" for word, values in zip(("from", "to"), bounds) if values)
+                    wanted = session.run(f"scan {tree}\n{lines}go\n")[0].rows
+                    for limit in (0, 1, 2, len(wanted), len(wanted) + 1, 2**32 - 1):
+                        with self.subTest(tree=tree, limit=limit):
+                            reply = raw.reply("betable_page", page(limit, tree, *(from_values(*values) for values in bounds)))
+                            self.assertEqual(rows_of(self, reply, raw.kinds(tree))[0], wanted[:limit], bounds)
+                            found = session.scan(tree, *(values or None for values in bounds), limit)
+                            self.assertEqual(found, wanted[:limit], bounds)
+                    self.assertEqual(session.scan(tree, *(values or None for values in bounds)), wanted)
+                    self.assertEqual(list(session.iterate(tree, *(values or None for values in bounds), dice.randrange(1, 9))), wanted)
+
+    def test_sums_are_those_of_scripts(self):
+        """Of random bounds and numbers of columns, in the rows and in the indexes. Some totals need more than 64 bits."""
+        largest = 0
+        for seed in range(6):
+            dice = random.Random(seed)
+            raw = filled(dice, 80)
+            session = raw.session
+            for tree, columns in (("primary", ("id", "qty")), ("by_city", ("id", "qty")), ("large", ("qty", "id"))):
+                with self.subTest(tree=tree):
+                    whole, kinds = session.run(f"scan {tree}\ngo\n")[0].rows, raw.kinds(tree)
+                    count = len(session.state.table.key_of(tree.encode()))
+                    for _ in range(40):
+                        bounds = [dice.choice(whole)[: dice.randrange(count + 1)] for _ in range(2)]
+                        column, by = dice.choice(columns), dice.randrange(1, count + 1)
+                        lines = "".join(f"{word} {betable().record(values)}\n" for word, values in zip(("from", "to"), bounds) if values)
+                        wanted = session.run(f"sums {tree} {by} {column}\n{lines}go\n")[0].rows
+                        found = groups_of(self, raw.reply("betable_sums", sums(by, tree, column, *(from_values(*values) for values in bounds))), kinds[:by])
+                        self.assertEqual(found, wanted, (by, column, bounds))
+                        largest = max([largest, *(abs(group[1]) for group in found)])
+        self.assertGreater(largest, 2**64)
+
+    def test_sums_after_a_row_begin_with_the_next_one(self):
+        dice = random.Random(9)
         raw = filled(dice)
-        session = raw.session
-        for key in range(-12, 33):
-            wanted = session.run(f"get {key}\n")[0].rows
-            reply = raw.reply("betable_get", header(1) + value_bytes(key))
-            expect((key, rows_of(reply, raw.kinds())[0], session.get(key)), (key, wanted, wanted[0] if wanted else None))
         for tree in ("primary", "by_city", "large"):
-            whole = session.run(f"scan {tree}\ngo\n")[0].rows
-            count = len(session.state.table.key_of(tree.encode()))
-            for _ in range(60):
-                bounds = [dice.choice(whole)[: dice.randrange(count + 1)] for _ in range(2)]
-                lines = "".join(f"{word} {betable().record(values)}\n" for word, values in zip(("from", "to"), bounds) if values)
-                wanted = session.run(f"scan {tree}\n{lines}go\n")[0].rows
-                for limit in (0, 1, 2, len(wanted), len(wanted) + 1, 2**32 - 1):
-                    reply = raw.reply("betable_page", page(limit, tree, *(from_values(*values) for values in bounds)))
-                    expect((tree, bounds, limit, rows_of(reply, raw.kinds(tree))[0]), (tree, bounds, limit, wanted[:limit]))
-                    found = session.scan(tree, *(values or None for values in bounds), limit)
-                    expect((tree, bounds, limit, found), (tree, bounds, limit, wanted[:limit]))
-                expect(session.scan(tree, *(values or None for values in bounds)), wanted)
-                expect(list(session.iterate(tree, *(values or None for values in bounds), dice.randrange(1, 9))), wanted)
+            whole, keys = raw.session.scan(tree), len(raw.session.state.table.key_of(tree.encode()))
+            for place, row in enumerate(whole):
+                with self.subTest(tree=tree, row=row):
+                    reply = raw.reply("betable_sums", sums(keys, tree, "qty", after_row(*row[:keys])))
+                    self.assertEqual([group[2:] for group in groups_of(self, reply, raw.kinds(tree)[:keys])], [later[:keys] for later in whole[place + 1 :]])
 
+    @both_ways
+    def test_a_page_after_a_row_repeats_and_loses_no_row(self):
+        """Pages that begin with 2 and the first bytes of the last row, which a program has without decoding it."""
+        dice = random.Random(1)
+        raw = filled(dice)
+        for tree in ("primary", "by_city", "large"):
+            kinds, keys = raw.kinds(tree), len(raw.session.state.table.key_of(tree.encode()))
+            wanted = raw.session.run(f"scan {tree}\ngo\n")[0].rows
+            self.assertGreater(len(wanted), 5)
+            for limit in (1, 2, 3, len(wanted) - 1, len(wanted), len(wanted) + 1):
+                with self.subTest(tree=tree, limit=limit):
+                    found, lower, pages = [], b"\0", 0
+                    while True:
+                        reply = raw.reply("betable_page", page(limit, tree, lower))
+                        rows, places = rows_of(self, reply, kinds)
+                        found, pages = found + rows, pages + 1
+                        if len(rows) < limit:
+                            break
+                        end = places[-1] + len(values_bytes(rows[-1][:keys]))
+                        lower = b"\2" + reply[places[-1] : end]
+                    self.assertEqual((found, pages), (wanted, len(wanted) // limit + 1))
+                    self.assertEqual(list(raw.session.iterate(tree, page=limit)), wanted)
 
-def sums_are_those_of_scripts():
-    """Of random bounds and numbers of columns, in the rows and in the indexes. Some totals need more than 64 bits."""
-    largest = 0
-    for seed in range(6):
-        dice = random.Random(seed)
-        raw = filled(dice, 80)
+    @both_ways
+    def test_keys_that_begin_alike_are_in_one_page_each(self):
+        """Texts and bytes that are the beginning of another, zeros, the largest ints, and texts that only a load takes."""
+        dice = random.Random(2)
+        for kind, pool in (
+            ("text", [*TEXTS, "\n", "a\r\n", "a\x01", "\0"]),
+            ("bytes", [*BINARIES, b"\0\1", b"\xff\0"]),
+            ("int", INTS),
+            ("flag", [False, True]),
+        ):
+            for columns in (1, 2, 3):
+                raw = Raw(f"table 4 3 2 {columns} " + " ".join(f"{name}:{kind}" for name in ("a", "b", "c")[:columns]) + " qty:int\n")
+                raw.session.run("index by_qty on qty\nbuild by_qty 1\n")
+                keys = {tuple(dice.choice(pool) for _ in range(columns)) for _ in range(30)}
+                raw.session.load([(*key, dice.randrange(3)) for key in keys])
+                for tree in ("primary", "by_qty"):
+                    wanted = raw.session.run(f"scan {tree}\ngo\n")[0].rows
+                    for size in (1, 2, len(keys)):
+                        with self.subTest(kind=kind, tree=tree, size=size):
+                            self.assertEqual(list(raw.session.iterate(tree, page=size)), wanted)
+                    for row in wanted:
+                        with self.subTest(kind=kind, tree=tree, row=row):
+                            key = row[: len(raw.session.state.table.key_of(tree.encode()))]
+                            reply = raw.reply("betable_page", page(9, tree, from_values(*key), after_row(*key)))
+                            self.assertEqual(rows_of(self, reply, raw.kinds(tree))[0], [row])
+                            reply = raw.reply("betable_page", page(99, tree, after_row(*key)))
+                            self.assertEqual(rows_of(self, reply, raw.kinds(tree))[0], wanted[wanted.index(row) + 1 :])
+
+    def test_columns_are_those_of_the_tables_and_indexes(self):
+        raw = Raw("table 16 64 16 2 land:text id:int ok:flag raw:bytes qty:int\nindex by_qty on qty include ok\n")
         session = raw.session
-        for tree, columns in (("primary", ("id", "qty")), ("by_city", ("id", "qty")), ("large", ("qty", "id"))):
-            whole, kinds = session.run(f"scan {tree}\ngo\n")[0].rows, raw.kinds(tree)
-            count = len(session.state.table.key_of(tree.encode()))
-            for _ in range(40):
-                bounds = [dice.choice(whole)[: dice.randrange(count + 1)] for _ in range(2)]
-                column, by = dice.choice(columns), dice.randrange(1, count + 1)
-                lines = "".join(f"{word} {betable().record(values)}\n" for word, values in zip(("from", "to"), bounds) if values)
-                wanted = session.run(f"sums {tree} {by} {column}\n{lines}go\n")[0].rows
-                found = groups_of(raw.reply("betable_sums", sums(by, tree, column, *(from_values(*values) for values in bounds))), kinds[:by])
-                expect((tree, by, column, bounds, found), (tree, by, column, bounds, wanted))
-                largest = max([largest, *(abs(group[1]) for group in found)])
-    expect(largest > 2**64, True)
+        text = b"\1\4land\0\2id\2\2ok\4\3raw\0\3qty"
+        self.assertEqual(raw.reply("betable_columns", header(1) + value_bytes("primary")), b"BTV\x01" + struct.pack("<q", 2) + text)
+        # An index that is building has its columns too.
+        self.assertEqual(raw.reply("betable_columns", header(1) + value_bytes("by_qty")), b"BTV\x01" + struct.pack("<q", 3) + b"\0\3qty\1\4land\0\2id\2\2ok")
+        self.assertEqual(
+            session.columns(), [("land", "text", True), ("id", "int", True), ("ok", "flag", False), ("raw", "bytes", False), ("qty", "int", False)]
+        )
+        found = session.columns("by_qty")
+        self.assertEqual(
+            (found, found[3].name, found[3].kind, found[3].is_key),
+            ([("qty", "int", True), ("land", "text", True), ("id", "int", True), ("ok", "flag", False)], "ok", "flag", False),
+        )
 
-
-def sums_after_a_row_begin_with_the_next_one():
-    dice = random.Random(9)
-    raw = filled(dice)
-    for tree in ("primary", "by_city", "large"):
-        whole, keys = raw.session.scan(tree), len(raw.session.state.table.key_of(tree.encode()))
-        for place, row in enumerate(whole):
-            reply = raw.reply("betable_sums", sums(keys, tree, "qty", after_row(*row[:keys])))
-            expect((tree, row, [group[2:] for group in groups_of(reply, raw.kinds(tree)[:keys])]), (tree, row, [later[:keys] for later in whole[place + 1 :]]))
-
-
-@both_ways
-def a_page_after_a_row_repeats_and_loses_no_row():
-    """Pages that begin with 2 and the first bytes of the last row, which a program has without decoding it."""
-    dice = random.Random(1)
-    raw = filled(dice)
-    for tree in ("primary", "by_city", "large"):
-        kinds, keys = raw.kinds(tree), len(raw.session.state.table.key_of(tree.encode()))
-        wanted = raw.session.run(f"scan {tree}\ngo\n")[0].rows
-        expect(len(wanted) > 5, True)
-        for limit in (1, 2, 3, len(wanted) - 1, len(wanted), len(wanted) + 1):
-            found, lower, pages = [], b"\0", 0
-            while True:
-                reply = raw.reply("betable_page", page(limit, tree, lower))
-                rows, places = rows_of(reply, kinds)
-                found, pages = found + rows, pages + 1
-                if len(rows) < limit:
-                    break
-                end = places[-1] + len(values_bytes(rows[-1][:keys]))
-                lower = b"\2" + reply[places[-1] : end]
-            expect((tree, limit, found, pages), (tree, limit, wanted, len(wanted) // limit + 1))
-            expect(list(raw.session.iterate(tree, page=limit)), wanted)
-
-
-@both_ways
-def keys_that_begin_alike_are_in_one_page_each():
-    """Texts and bytes that are the beginning of another, zeros, the largest ints, and texts that only a load takes."""
-    dice = random.Random(2)
-    for kind, pool in (("text", [*TEXTS, "\n", "a\r\n", "a\x01", "\0"]), ("bytes", [*BINARIES, b"\0\1", b"\xff\0"]), ("int", INTS), ("flag", [False, True])):
-        for columns in (1, 2, 3):
-            raw = Raw(f"table 4 3 2 {columns} " + " ".join(f"{name}:{kind}" for name in ("a", "b", "c")[:columns]) + " qty:int\n")
-            raw.session.run("index by_qty on qty\nbuild by_qty 1\n")
-            keys = {tuple(dice.choice(pool) for _ in range(columns)) for _ in range(30)}
-            raw.session.load([(*key, dice.randrange(3)) for key in keys])
-            for tree in ("primary", "by_qty"):
-                wanted = raw.session.run(f"scan {tree}\ngo\n")[0].rows
-                for size in (1, 2, len(keys)):
-                    expect((kind, tree, size, list(raw.session.iterate(tree, page=size))), (kind, tree, size, wanted))
-                for row in wanted:
-                    key = row[: len(raw.session.state.table.key_of(tree.encode()))]
-                    reply = raw.reply("betable_page", page(9, tree, from_values(*key), after_row(*key)))
-                    expect((kind, tree, row, rows_of(reply, raw.kinds(tree))[0]), (kind, tree, row, [row]))
-                    reply = raw.reply("betable_page", page(99, tree, after_row(*key)))
-                    expect((kind, tree, row, rows_of(reply, raw.kinds(tree))[0]), (kind, tree, row, wanted[wanted.index(row) + 1 :]))
-
-
-def columns_are_those_of_the_tables_and_indexes():
-    raw = Raw("table 16 64 16 2 land:text id:int ok:flag raw:bytes qty:int\nindex by_qty on qty include ok\n")
-    session = raw.session
-    text = b"\1\4land\0\2id\2\2ok\4\3raw\0\3qty"
-    expect(raw.reply("betable_columns", header(1) + value_bytes("primary")), b"BTV\x01" + struct.pack("<q", 2) + text)
-    # An index that is building has its columns too.
-    expect(raw.reply("betable_columns", header(1) + value_bytes("by_qty")), b"BTV\x01" + struct.pack("<q", 3) + b"\0\3qty\1\4land\0\2id\2\2ok")
-    expect(session.columns(), [("land", "text", True), ("id", "int", True), ("ok", "flag", False), ("raw", "bytes", False), ("qty", "int", False)])
-    found = session.columns("by_qty")
-    expect((found, found[3].name, found[3].kind, found[3].is_key), ([("qty", "int", True), ("land", "text", True), ("id", "int", True), ("ok", "flag", False)], "ok", "flag", False))
-
-
-def usage_is_that_of_the_image():
-    """The rows of the leaves, the messages of the inner nodes, and the height, of trees that are empty, of one leaf, and of some levels."""
-    seen = set()
-    for seed in range(4):
-        dice = random.Random(seed)
-        raw = Raw(SCHEMA + "index begun on ok\n")
-        for count in (0, 1, 2, 5, 40, 100):
-            raw.apply(*(random_change(dice)[1] for _ in range(count)))
-            for tree in (*TREES, "begun"):
-                lines = raw.session.replies(f"image {tree}\n").decode().splitlines()
-                counts = {word: sum(int(line.split()[-1]) for line in lines if line.split()[0] == word) for word in ("leaf", "inner")}
-                height = int(lines[0].split()[-1])
-                reply = raw.reply("betable_usage", header(1) + value_bytes(tree))
-                expect((seed, count, tree, reply), (seed, count, tree, b"BTV\x01" + struct.pack("<QQQ", counts["leaf"], counts["inner"], height)))
-                expect((seed, count, tree, raw.session.usage(tree)), (seed, count, tree, (counts["leaf"], counts["inner"], height)))
-                seen.add((min(height, 3), counts["inner"] > 0))
-    expect(seen >= {(1, False), (2, True), (3, True)}, True)
+    def test_usage_is_that_of_the_image(self):
+        """The rows of the leaves, the messages of the inner nodes, and the height, of trees that are empty, of one leaf, and of some levels."""
+        seen = set()
+        for seed in range(4):
+            dice = random.Random(seed)
+            raw = Raw(SCHEMA + "index begun on ok\n")
+            for count in (0, 1, 2, 5, 40, 100):
+                raw.apply(*(random_change(dice)[1] for _ in range(count)))
+                for tree in (*TREES, "begun"):
+                    with self.subTest(seed=seed, count=count, tree=tree):
+                        lines = raw.session.replies(f"image {tree}\n").decode().splitlines()
+                        counts = {word: sum(int(line.split()[-1]) for line in lines if line.split()[0] == word) for word in ("leaf", "inner")}
+                        height = int(lines[0].split()[-1])
+                        reply = raw.reply("betable_usage", header(1) + value_bytes(tree))
+                        self.assertEqual(reply, b"BTV\x01" + struct.pack("<QQQ", counts["leaf"], counts["inner"], height))
+                        self.assertEqual(raw.session.usage(tree), (counts["leaf"], counts["inner"], height))
+                        seen.add((min(height, 3), counts["inner"] > 0))
+        self.assertGreaterEqual(seen, {(1, False), (2, True), (3, True)})
 
 
 # ---- bytes that are none of the layout ----
+
 
 ROW = (1, "Oslo", True, b"\0\xff", 30)
 KEY_TOO_LONG = bytes([PUT]) + value_bytes(4) + b"\xff" + b"a" * 20
@@ -624,96 +640,99 @@ MALFORMED = [
 ]
 
 
-@both_ways
-def sums_of_the_client_are_those_of_its_scripts():
-    """Of each tree, by groups of each number of columns, of each column, between bounds of each length, beside those of text; also sums over 64 bits."""
-    client = betable()
-    for seed in range(4):
-        dice = random.Random(seed)
-        session = filled(dice, dice.choice([0, 1, 40, 400])).session
-        for tree, most, columns in (("primary", 1, ["id", "qty"]), ("by_city", 2, ["id", "qty"]), ("large", 2, ["qty", "id"])):
-            there = session.columns(tree)
-            for _ in range(30):
-                row = dict(zip(["id", "city", "ok", "raw", "qty"], random_row(dice)))
-                bounds = [dice.choice([None, tuple(row[column.name] for column in there[: dice.randrange(1, most + 1)])]) for _ in range(2)]
-                given = tree, dice.randrange(1, most + 1), dice.choice(columns), *bounds
-                found = session.sums(*given)
-                expect((given, found), (given, client.Calls.sums(session, *given)))
-                expect({tuple(map(type, group[:2])) for group in found} <= {(int, int)}, True)
-        for call in (
-            lambda: session.sums("primary", 2, "qty"), lambda: session.sums("by_city", 1, "city"), lambda: session.sums("by_city", 1, "raw"), lambda: session.sums("by_city", 1, "x"),
-            lambda: session.sums("nothing", 1, "qty"), lambda: session.sums("large", 1, "qty", (2**63,)), lambda: session.sums("primary", 0, "qty"),
-        ):  # fmt: skip
-            faults = [fault_of(call), fault_of(lambda: client.Calls.sums(session, "by_city", 1, "qty"))]
-            expect((type(faults[0]), faults[1]), (client.Refused, None))
-    session = client.Session()
-    session.table("side:int id:int qty:int", keys=2)
-    numbers = [2**63 - 1, -(2**63), 2**62, -1, 0]
-    rows = [(side, number, numbers[side]) for side in range(5) for number in range(side * 700 + 3)]
-    session.put(rows)
-    expect(session.sums("primary", 1, "qty"), [(side * 700 + 3, numbers[side] * (side * 700 + 3), side) for side in range(5)])
-    expect(session.sums("primary", 1, "qty", stop=(2,), start=(1,)), [(703, -(2**63) * 703, 1)])
-    expect(session.sums(tree="primary", columns=2, column="id", start=(4, 2_801)), [(1, number, 4, number) for number in (2_801, 2_802)])
+class OtherBytes(TestCase):
+    @both_ways
+    def test_sums_of_the_client_are_those_of_its_scripts(self):
+        """Of each tree, by groups of each number of columns, of each column, between bounds of each length, beside those of text; also sums over 64 bits."""
+        client = betable()
+        for seed in range(4):
+            dice = random.Random(seed)
+            session = filled(dice, dice.choice([0, 1, 40, 400])).session
+            for tree, most, columns in (("primary", 1, ["id", "qty"]), ("by_city", 2, ["id", "qty"]), ("large", 2, ["qty", "id"])):
+                there = session.columns(tree)
+                for _ in range(30):
+                    row = dict(zip(["id", "city", "ok", "raw", "qty"], random_row(dice)))
+                    bounds = [dice.choice([None, tuple(row[column.name] for column in there[: dice.randrange(1, most + 1)])]) for _ in range(2)]
+                    given = tree, dice.randrange(1, most + 1), dice.choice(columns), *bounds
+                    found = session.sums(*given)
+                    self.assertEqual(found, client.Calls.sums(session, *given), given)
+                    self.assertLessEqual({tuple(map(type, group[:2])) for group in found}, {(int, int)})
+            for call in (
+                lambda: session.sums("primary", 2, "qty"), lambda: session.sums("by_city", 1, "city"), lambda: session.sums("by_city", 1, "raw"), lambda: session.sums("by_city", 1, "x"),
+                lambda: session.sums("nothing", 1, "qty"), lambda: session.sums("large", 1, "qty", (2**63,)), lambda: session.sums("primary", 0, "qty"),
+            ):  # fmt: skip
+                faults = [fault_of(call), fault_of(lambda: client.Calls.sums(session, "by_city", 1, "qty"))]
+                self.assertEqual((type(faults[0]), faults[1]), (client.Refused, None))
+        session = client.Session()
+        session.table("side:int id:int qty:int", keys=2)
+        numbers = [2**63 - 1, -(2**63), 2**62, -1, 0]
+        rows = [(side, number, numbers[side]) for side in range(5) for number in range(side * 700 + 3)]
+        session.put(rows)
+        self.assertEqual(session.sums("primary", 1, "qty"), [(side * 700 + 3, numbers[side] * (side * 700 + 3), side) for side in range(5)])
+        self.assertEqual(session.sums("primary", 1, "qty", stop=(2,), start=(1,)), [(703, -(2**63) * 703, 1)])
+        self.assertEqual(session.sums(tree="primary", columns=2, column="id", start=(4, 2_801)), [(1, number, 4, number) for number in (2_801, 2_802)])
 
+    def test_malformed_bytes_are_refused_at_their_place_and_change_nothing(self):
+        raw = filled(random.Random(4))
+        raw.session.run("index begun on qty\n")
+        before = raw.images()
+        for number, (name, given, fault) in enumerate(MALFORMED):
+            with self.subTest(number=number):
+                self.assertEqual(raw.call(name, given), (REFUSED, fault, b""))
+                self.assertEqual(raw.images(), before)
+        raw.apply(put(*ROW))
+        self.assertEqual(raw.session.get(1), ROW)
 
-def malformed_bytes_are_refused_at_their_place_and_change_nothing():
-    raw = filled(random.Random(4))
-    raw.session.run("index begun on qty\n")
-    before = raw.images()
-    for number, (name, given, fault) in enumerate(MALFORMED):
-        expect((number, raw.call(name, given)), (number, (REFUSED, fault, b"")))
-        expect((number, raw.images()), (number, before))
-    raw.apply(put(*ROW))
-    expect(raw.session.get(1), ROW)
-
-
-def bytes_that_are_cut_are_refused_where_they_end():
-    """A message with each kind of change and value, cut after each of its bytes: the place is that of what is not whole."""
-    parts = [(b"BTV\x01" + struct.pack("<I", 4), (SYNTAX, 0, 0))]
-    for item, code, values in ((1, PUT, ROW), (2, DEL, (2,)), (3, PUT, (3, "æ", False, b"", -1)), (4, UPS, (1,))):
-        parts.append((bytes([code]), (BAD_FIELD, item, 0)))
-        parts += [(value_bytes(value), (BAD_FIELD, item, place)) for place, value in enumerate(values, 1)]
-    parts.append((b"\4", (BAD_FIELD, 4, 0)))
-    for code, place, value in ((0, 1, "Bergen, west"), (0, 2, False), (0, 3, b"ab"), (1, 4, -5)):
-        parts += [(bytes([code, place]), (BAD_FIELD, 4, 0)), (value_bytes(value), (BAD_FIELD, 4, place + 1))]
-    whole = b"".join(part for part, _ in parts)
-    raw = filled(random.Random(5))
-    before, at = raw.images(), 0
-    for part, fault in parts:
-        for end in range(at, at + len(part)):
-            expect((end, raw.call("betable_apply", whole[:end])), (end, (REFUSED, fault, b"")))
-        at += len(part)
-        expect((at, raw.images()), (at, before))
-    expect(raw.reply("betable_apply", whole), b"")
-    expect([raw.session.get(key) for key in (1, 2, 3)], [(1, "Bergen, west", False, b"ab", 25), None, (3, "æ", False, b"", -1)])
-    # The same for a page of an index, and for sums of it.
-    bounds = [(b"\1\2", (BAD_FIELD, 1, 0)), (value_bytes("a"), (BAD_FIELD, 1, 1)), (value_bytes(7), (BAD_FIELD, 1, 2))]
-    bounds += [(b"\2", (BAD_FIELD, 2, 0)), (value_bytes("z"), (BAD_FIELD, 2, 1)), (value_bytes(9), (BAD_FIELD, 2, 2))]
-    for name, names in (("betable_page", ["by_city"]), ("betable_sums", ["by_city", "qty"])):
-        parts = [(header(2), (SYNTAX, 0, 0)), *((value_bytes(each), (BAD_FIELD, 0, 0)) for each in names), *bounds]
-        whole, at = b"".join(part for part, _ in parts), 0
+    def test_bytes_that_are_cut_are_refused_where_they_end(self):
+        """A message with each kind of change and value, cut after each of its bytes: the place is that of what is not whole."""
+        parts = [(b"BTV\x01" + struct.pack("<I", 4), (SYNTAX, 0, 0))]
+        for item, code, values in ((1, PUT, ROW), (2, DEL, (2,)), (3, PUT, (3, "æ", False, b"", -1)), (4, UPS, (1,))):
+            parts.append((bytes([code]), (BAD_FIELD, item, 0)))
+            parts += [(value_bytes(value), (BAD_FIELD, item, place)) for place, value in enumerate(values, 1)]
+        parts.append((b"\4", (BAD_FIELD, 4, 0)))
+        for code, place, value in ((0, 1, "Bergen, west"), (0, 2, False), (0, 3, b"ab"), (1, 4, -5)):
+            parts += [(bytes([code, place]), (BAD_FIELD, 4, 0)), (value_bytes(value), (BAD_FIELD, 4, place + 1))]
+        whole = b"".join(part for part, _ in parts)
+        raw = filled(random.Random(5))
+        before, at = raw.images(), 0
         for part, fault in parts:
             for end in range(at, at + len(part)):
-                expect((name, end, raw.call(name, whole[:end])), (name, end, (REFUSED, fault, b"")))
+                with self.subTest(end=end):
+                    self.assertEqual(raw.call("betable_apply", whole[:end]), (REFUSED, fault, b""))
             at += len(part)
-        raw.reply(name, whole)
+            self.assertEqual(raw.images(), before, at)
+        self.assertEqual(raw.reply("betable_apply", whole), b"")
+        self.assertEqual([raw.session.get(key) for key in (1, 2, 3)], [(1, "Bergen, west", False, b"ab", 25), None, (3, "æ", False, b"", -1)])
+        # The same for a page of an index, and for sums of it.
+        bounds = [(b"\1\2", (BAD_FIELD, 1, 0)), (value_bytes("a"), (BAD_FIELD, 1, 1)), (value_bytes(7), (BAD_FIELD, 1, 2))]
+        bounds += [(b"\2", (BAD_FIELD, 2, 0)), (value_bytes("z"), (BAD_FIELD, 2, 1)), (value_bytes(9), (BAD_FIELD, 2, 2))]
+        for name, names in (("betable_page", ["by_city"]), ("betable_sums", ["by_city", "qty"])):
+            parts = [(header(2), (SYNTAX, 0, 0)), *((value_bytes(each), (BAD_FIELD, 0, 0)) for each in names), *bounds]
+            whole, at = b"".join(part for part, _ in parts), 0
+            for part, fault in parts:
+                for end in range(at, at + len(part)):
+                    with self.subTest(name=name, end=end):
+                        self.assertEqual(raw.call(name, whole[:end]), (REFUSED, fault, b""))
+                at += len(part)
+            raw.reply(name, whole)
 
-
-@both_ways
-def calls_without_a_table_or_on_a_closed_session_are_refused():
-    raw = Raw()
-    for name in CALLS:
-        for given in (b"", changes(put(*ROW)), b"BTV"):
-            expect((name, raw.call(name, given)), (name, (REFUSED, (NO_TABLE, 0, 0), b"")))
-    session, client = raw.session, betable()
-    for call in (lambda: session.put([ROW]), lambda: session.get(1), lambda: session.scan(limit=1), lambda: session.iterate(), session.columns):
-        fault = fault_of(call)
-        expect((type(fault), fault.number), (client.Refused, NO_TABLE))
-    session.close()
-    for name in CALLS:
-        expect((name, raw.call(name, changes(put(*ROW)))), (name, (NOT_OPEN, UNWRITTEN, b"")))
-    for call in (lambda: session.put([ROW]), lambda: session.get(1), lambda: session.scan(limit=1), lambda: session.iterate(), session.columns):
-        expect(type(fault_of(call)), ValueError)
+    @both_ways
+    def test_calls_without_a_table_or_on_a_closed_session_are_refused(self):
+        raw = Raw()
+        for name in CALLS:
+            with self.subTest(name=name):
+                for given in (b"", changes(put(*ROW)), b"BTV"):
+                    self.assertEqual(raw.call(name, given), (REFUSED, (NO_TABLE, 0, 0), b""))
+        session, client = raw.session, betable()
+        for call in (lambda: session.put([ROW]), lambda: session.get(1), lambda: session.scan(limit=1), lambda: session.iterate(), session.columns):
+            fault = fault_of(call)
+            self.assertEqual((type(fault), fault.number), (client.Refused, NO_TABLE))
+        session.close()
+        for name in CALLS:
+            with self.subTest(name=name):
+                self.assertEqual(raw.call(name, changes(put(*ROW))), (NOT_OPEN, UNWRITTEN, b""))
+        for call in (lambda: session.put([ROW]), lambda: session.get(1), lambda: session.scan(limit=1), lambda: session.iterate(), session.columns):
+            self.assertEqual(type(fault_of(call)), ValueError)
 
 
 # ---- random bytes ----
@@ -845,17 +864,17 @@ def place_to_sum(tree, column, number):
     return names.index(column)
 
 
-def read_reply(name, given, reply):
+def read_reply(test, name, given, reply):
     """What a reply has: rows, groups, or the number of key columns and the names of all."""
     if name == "betable_get":
-        return rows_of(reply, TREES["primary"][0])[0]
+        return rows_of(test, reply, TREES["primary"][0])[0]
     kinds, keys, names, _ = TREES[given[9 : 9 + given[8]].decode()]
     if name == "betable_page":
-        return rows_of(reply, kinds)[0]
+        return rows_of(test, reply, kinds)[0]
     if name == "betable_sums":
-        return groups_of(reply, kinds[: struct.unpack("<I", given[4:8])[0]])
+        return groups_of(test, reply, kinds[: struct.unpack("<I", given[4:8])[0]])
     codes = {"int": 0, "text": 1, "flag": 2, "bytes": 4}
-    expect(reply, b"BTV\x01" + struct.pack("<q", keys) + b"".join(bytes([codes[kind]]) + value_bytes(each) for kind, each in zip(kinds, names)))
+    test.assertEqual(reply, b"BTV\x01" + struct.pack("<q", keys) + b"".join(bytes([codes[kind]]) + value_bytes(each) for kind, each in zip(kinds, names)))
     return keys, names
 
 
@@ -874,48 +893,49 @@ def random_request(dice, name):
     return sums(dice.randrange(4), tree, dice.choice(["qty", "qty", "qty", "id", "city", "ok", "nothing"]), *bounds)
 
 
-def random_bytes_are_refused_or_answered_as_they_say():
-    """Random and mutated bytes of each call. The reader of this file says of changes what they are, and of requests what they find, or why and where they are
-    refused; rows are those of a dict. A call that is refused changes no row, and one that only reads changes none."""
-    dice = random.Random(int(SEED))
-    raw, rows, kinds, refused, done, read = Raw(SCHEMA), {}, TREES["primary"][0], 0, 0, 0
-    everything = page(2**32 - 1)
-    shown = raw.reply("betable_page", everything)
-    for number in range(FUZZ):
-        if dice.random() < 0.3:
-            name = dice.choice(READS)
-            given = random_request(dice, name if dice.random() < 0.9 else dice.choice(READS))
-            given = mutated(dice, given) if dice.random() < 0.7 else given
-            status, fault, reply = raw.call(name, given)
-            try:
-                found = found_by(name, given, rows)
-                expect((name, given, status, fault), (name, given, DONE, UNWRITTEN))
-                expect((name, given, read_reply(name, given, reply)), (name, given, found))
-                read += 1
-            except Fault as wanted:
-                expect((name, given, status, fault, reply), (name, given, REFUSED, wanted.args, b""))
-        else:
-            given = changes(*(random_change(dice)[1] for _ in range(dice.choice([1, 1, 2, 4]))))
-            given = mutated(dice, given) if dice.random() < 0.95 else dice.randbytes(dice.randrange(40))
-            try:
-                found, wanted = changes_of(given, kinds, 1), (DONE, UNWRITTEN, b"")
-                applied(rows, found)
-                done += 1
-            except Fault as fault:
-                wanted = (REFUSED, fault.args, b"")
-                refused += 1
-            expect((given, raw.call("betable_apply", given)), (given, wanted))
-            if wanted[0] == DONE:
-                shown = raw.reply("betable_page", everything)
-                if len(rows) > 60:
-                    raw.apply(*map(delete, list(rows)[::2]))
-                    rows = {key: row for place, (key, row) in enumerate(rows.items()) if place % 2}
+class RandomBytes(TestCase):
+    def test_random_bytes_are_refused_or_answered_as_they_say(self):
+        """Random and mutated bytes of each call. The reader of this file says of changes what they are, and of requests what they find, or why and where they
+        are refused; rows are those of a dict. A call that is refused changes no row, and one that only reads changes none."""
+        dice = random.Random(int(SEED))
+        raw, rows, kinds, refused, done, read = Raw(SCHEMA), {}, TREES["primary"][0], 0, 0, 0
+        everything = page(2**32 - 1)
+        shown = raw.reply("betable_page", everything)
+        for number in range(FUZZ):
+            if dice.random() < 0.3:
+                name = dice.choice(READS)
+                given = random_request(dice, name if dice.random() < 0.9 else dice.choice(READS))
+                given = mutated(dice, given) if dice.random() < 0.7 else given
+                status, fault, reply = raw.call(name, given)
+                try:
+                    found = found_by(name, given, rows)
+                    self.assertEqual((status, fault), (DONE, UNWRITTEN), (name, given))
+                    self.assertEqual(read_reply(self, name, given, reply), found, (name, given))
+                    read += 1
+                except Fault as wanted:
+                    self.assertEqual((status, fault, reply), (REFUSED, wanted.args, b""), (name, given))
+            else:
+                given = changes(*(random_change(dice)[1] for _ in range(dice.choice([1, 1, 2, 4]))))
+                given = mutated(dice, given) if dice.random() < 0.95 else dice.randbytes(dice.randrange(40))
+                try:
+                    found, wanted = changes_of(given, kinds, 1), (DONE, UNWRITTEN, b"")
+                    applied(rows, found)
+                    done += 1
+                except Fault as fault:
+                    wanted = (REFUSED, fault.args, b"")
+                    refused += 1
+                self.assertEqual(raw.call("betable_apply", given), wanted, given)
+                if wanted[0] == DONE:
                     shown = raw.reply("betable_page", everything)
-                expect((given, rows_of(shown, kinds)[0]), (given, [rows[key] for key in sorted(rows)]))
-        expect((given, raw.reply("betable_page", everything) == shown), (given, True))
-    expect((refused > FUZZ // 5, done > FUZZ // 10, read > FUZZ // 10), (True, True, True))
-    by_city = sorted((row[1].encode(), row[0], row[2], row[4]) for row in rows.values())
-    expect([(row[0].encode(), *row[1:]) for row in raw.session.scan("by_city")], by_city)
+                    if len(rows) > 60:
+                        raw.apply(*map(delete, list(rows)[::2]))
+                        rows = {key: row for place, (key, row) in enumerate(rows.items()) if place % 2}
+                        shown = raw.reply("betable_page", everything)
+                    self.assertEqual(rows_of(self, shown, kinds)[0], [rows[key] for key in sorted(rows)], given)
+            self.assertTrue(raw.reply("betable_page", everything) == shown, given)
+        self.assertEqual((refused > FUZZ // 5, done > FUZZ // 10, read > FUZZ // 10), (True, True, True))
+        by_city = sorted((row[1].encode(), row[0], row[2], row[4]) for row in rows.values())
+        self.assertEqual([(row[0].encode(), *row[1:]) for row in raw.session.scan("by_city")], by_city)
 
 
 # ---- the client ----
@@ -937,108 +957,111 @@ REFUSED_CALLS = [
 ]
 
 
-@both_ways
-def refusals_of_packed_bytes_are_those_of_text():
-    """The exceptions of the client, with their fields, beside those of a client that goes by text."""
-    client = betable()
+class TheClient(TestCase):
+    @both_ways
+    def test_refusals_of_packed_bytes_are_those_of_text(self):
+        """The exceptions of the client, with their fields, beside those of a client that goes by text."""
+        client = betable()
 
-    class ByText(client.Session):
-        put, batch, get, sums = client.Calls.put, client.Calls.batch, client.Calls.get, client.Calls.sums
-        _apply, scan = client.Calls._apply, client.Calls.scan
+        class ByText(client.Session):
+            put, batch, get, sums = client.Calls.put, client.Calls.batch, client.Calls.get, client.Calls.sums
+            _apply, scan = client.Calls._apply, client.Calls.scan
 
-    packed, text = client.Session(), ByText()
-    for session in (packed, text):
-        session.run(SCHEMA + "index begun on qty\n")
-        session.put([ROW])
-    for number, call in enumerate(REFUSED_CALLS):
-        faults = [fault_of(lambda: call(client, session)) for session in (packed, text)]
-        expect((number, type(faults[0])), (number, client.Refused))
-        expect((number, str(faults[0]), faults[0].__dict__), (number, str(faults[1]), faults[1].__dict__))
-        expect(packed.scan(), [ROW])
+        packed, text = client.Session(), ByText()
+        for session in (packed, text):
+            session.run(SCHEMA + "index begun on qty\n")
+            session.put([ROW])
+        for number, call in enumerate(REFUSED_CALLS):
+            with self.subTest(number=number):
+                faults = [fault_of(lambda: call(client, session)) for session in (packed, text)]
+                self.assertEqual(type(faults[0]), client.Refused)
+                self.assertEqual((str(faults[0]), faults[0].__dict__), (str(faults[1]), faults[1].__dict__))
+                self.assertEqual(packed.scan(), [ROW])
 
+    @both_ways
+    def test_limits_and_pages_are_checked(self):
+        client, session = betable(), filled(random.Random(6)).session
+        wrong = [
+            (lambda: session.scan(limit="5"), TypeError, "the limit of a scan is an int, and not '5'"),
+            (lambda: session.scan(limit=True), TypeError, "the limit of a scan is an int, and not True"),
+            (lambda: session.scan(limit=-1), ValueError, "the limit of a scan is 0 or more, and not -1"),
+            (lambda: session.iterate(page=0), ValueError, "the size of a page is 1 or more, and not 0"),
+            (lambda: session.iterate(page=None), TypeError, "the size of a page is an int, and not None"),
+            (lambda: session.iterate("by city"), ValueError, "a tree: "),
+            (lambda: session.iterate("nothing"), client.Refused, "refused 8 NoSuchTree"),
+            (lambda: session.iterate("primary", 1), client.RowTypeError, "a bound is a tuple, and not 1 of type int: write (1,)"),
+            (lambda: session.scan("primary", (1, 2), limit=1), client.RowValueError, "2 values, and a bound has 1 (id)"),
+            (lambda: session.scan("primary", (2**63,), limit=1), client.Refused, "refused 6 BadField"),
+            (lambda: session.scan("nothing", limit=1), client.Refused, "refused 8 NoSuchTree"),
+            (lambda: list(session.iterate("primary", (2**63,))), client.Refused, "refused 6 BadField"),
+            (lambda: session.columns("nothing"), client.Refused, "refused 8 NoSuchTree: no tree is named 'nothing'"),
+            (lambda: session.columns(5), TypeError, "a tree is named by a str, and not by 5"),
+        ]
+        for number, (call, kind, said) in enumerate(wrong):
+            with self.subTest(number=number):
+                fault = fault_of(call)
+                self.assertEqual(type(fault), kind)
+                self.assertIn(said, str(fault))
+        self.assertEqual(session.scan(limit=10**30), session.scan())
 
-@both_ways
-def limits_and_pages_are_checked():
-    client, session = betable(), filled(random.Random(6)).session
-    wrong = [
-        (lambda: session.scan(limit="5"), TypeError, "the limit of a scan is an int, and not '5'"),
-        (lambda: session.scan(limit=True), TypeError, "the limit of a scan is an int, and not True"),
-        (lambda: session.scan(limit=-1), ValueError, "the limit of a scan is 0 or more, and not -1"),
-        (lambda: session.iterate(page=0), ValueError, "the size of a page is 1 or more, and not 0"),
-        (lambda: session.iterate(page=None), TypeError, "the size of a page is an int, and not None"),
-        (lambda: session.iterate("by city"), ValueError, "a tree: "),
-        (lambda: session.iterate("nothing"), client.Refused, "refused 8 NoSuchTree"),
-        (lambda: session.iterate("primary", 1), client.RowTypeError, "a bound is a tuple, and not 1 of type int: write (1,)"),
-        (lambda: session.scan("primary", (1, 2), limit=1), client.RowValueError, "2 values, and a bound has 1 (id)"),
-        (lambda: session.scan("primary", (2**63,), limit=1), client.Refused, "refused 6 BadField"),
-        (lambda: session.scan("nothing", limit=1), client.Refused, "refused 8 NoSuchTree"),
-        (lambda: list(session.iterate("primary", (2**63,))), client.Refused, "refused 6 BadField"),
-        (lambda: session.columns("nothing"), client.Refused, "refused 8 NoSuchTree: no tree is named 'nothing'"),
-        (lambda: session.columns(5), TypeError, "a tree is named by a str, and not by 5"),
-    ]
-    for number, (call, kind, said) in enumerate(wrong):
-        fault = fault_of(call)
-        expect((number, type(fault)), (number, kind))
-        expect_within(said, str(fault))
-    expect(session.scan(limit=10**30), session.scan())
-
-
-@both_ways
-def rows_that_change_while_they_are_read_come_once():
-    """Rows that are added after the last one that was read come, and those before it do not; a tree that is dropped ends the reading."""
-    client = betable()
-    with client.Session() as session:
-        session.run("table 4 3 2 1 id:int qty:int\nindex by_qty on qty\nbuild by_qty 1\n")
-        session.put((number, 0) for number in range(0, 20, 2))
-        rows = session.iterate(page=2)
-        found = [next(rows) for _ in range(4)]
-        session.put([(1, 0), (9, 0)])
-        session.batch([client.delete(10)])
-        expect([row[0] for row in [*found, *rows]], [0, 2, 4, 6, 8, 9, 12, 14, 16, 18])
-        rows = session.iterate("by_qty", page=2)
-        next(rows), next(rows)
-        session.run("drop by_qty\nindex by_qty on qty\nbuild by_qty 100\n")
-        expect_within("the tree 'by_qty' was dropped, or made again", str(fault_of(lambda: next(rows))))
-        rows = session.iterate(page=1)
-        next(rows)
-    expect(type(fault_of(lambda: next(rows))), ValueError)
-
-
-@both_ways
-def out_of_memory_is_an_exception_of_each_call():
-    client, session = betable(), filled(random.Random(7)).session
-    before, library = session.scan(), library_without_memory(session)
-    for call in (
-        lambda: session.put([ROW]), lambda: session.batch([client.delete(1)]), lambda: session.get(1), lambda: session.scan(limit=1), session.columns,
-        lambda: session.sums("by_city", 1, "qty"), lambda: session.scan_columns(), lambda: list(session.iterate()),
-    ):  # fmt: skip
-        fault = fault_of(call)
-        expect((type(fault), fault.replies, fault.is_lost, str(fault)), (client.OutOfMemory, b"", False, "betable: out of memory"))
-    library.end(session)
-    expect(session.scan(), before)
-
-
-@both_ways
-def messages_of_many_shapes_keep_their_encoders_apart():
-    """More shapes than are kept at a time, and values of the types that only text takes, after those of packed bytes."""
-    client = betable()
-    with client.Session() as session:
-        names = [f"c{number}" for number in range(12)]
-        session.run("table 16 64 16 1 id:int " + " ".join(f"{name}:int" for name in names) + "\n")
-        wanted = [0] * 12
-        for number in range(1_500):
-            chosen = [place for place in range(12) if number >> place & 1] or [11]
-            session.batch([client.upsert(1, add={names[place]: place + 1 for place in chosen})])
-            wanted = [count + place + 1 if place in chosen else count for place, count in enumerate(wanted)]
-        expect(session.get(1), (1, *wanted))
-    for kind, plain, other, stored in (("text", "a", type("Text", (str,), {})("b"), "b"), ("int", 1, type("Int", (int,), {})(2), 2), ("bytes", b"a", bytearray(b"b"), b"b")):
+    @both_ways
+    def test_rows_that_change_while_they_are_read_come_once(self):
+        """Rows that are added after the last one that was read come, and those before it do not; a tree that is dropped ends the reading."""
+        client = betable()
         with client.Session() as session:
-            session.run(f"table 16 64 16 1 id:int it:{kind}\n")
-            for value, found in ((plain, plain), (other, stored), (plain, plain)):
-                session.put([(1, value)])
-                expect((session.get(1), type(session.get(1)[1])), ((1, found), type(plain)))
-                session.batch([client.upsert(1, set={"it": value})])
-                expect(session.scan(), [(1, found)])
+            session.run("table 4 3 2 1 id:int qty:int\nindex by_qty on qty\nbuild by_qty 1\n")
+            session.put((number, 0) for number in range(0, 20, 2))
+            rows = session.iterate(page=2)
+            found = [next(rows) for _ in range(4)]
+            session.put([(1, 0), (9, 0)])
+            session.batch([client.delete(10)])
+            self.assertEqual([row[0] for row in [*found, *rows]], [0, 2, 4, 6, 8, 9, 12, 14, 16, 18])
+            rows = session.iterate("by_qty", page=2)
+            next(rows), next(rows)
+            session.run("drop by_qty\nindex by_qty on qty\nbuild by_qty 100\n")
+            self.assertIn("the tree 'by_qty' was dropped, or made again", str(fault_of(lambda: next(rows))))
+            rows = session.iterate(page=1)
+            next(rows)
+        self.assertEqual(type(fault_of(lambda: next(rows))), ValueError)
+
+    @both_ways
+    def test_out_of_memory_is_an_exception_of_each_call(self):
+        client, session = betable(), filled(random.Random(7)).session
+        before, library = session.scan(), library_without_memory(session)
+        for call in (
+            lambda: session.put([ROW]), lambda: session.batch([client.delete(1)]), lambda: session.get(1), lambda: session.scan(limit=1), session.columns,
+            lambda: session.sums("by_city", 1, "qty"), lambda: session.scan_columns(), lambda: list(session.iterate()),
+        ):  # fmt: skip
+            fault = fault_of(call)
+            self.assertEqual((type(fault), fault.replies, fault.is_lost, str(fault)), (client.OutOfMemory, b"", False, "betable: out of memory"))
+        library.end(session)
+        self.assertEqual(session.scan(), before)
+
+    @both_ways
+    def test_messages_of_many_shapes_keep_their_encoders_apart(self):
+        """More shapes than are kept at a time, and values of the types that only text takes, after those of packed bytes."""
+        client = betable()
+        with client.Session() as session:
+            names = [f"c{number}" for number in range(12)]
+            session.run("table 16 64 16 1 id:int " + " ".join(f"{name}:int" for name in names) + "\n")
+            wanted = [0] * 12
+            for number in range(1_500):
+                chosen = [place for place in range(12) if number >> place & 1] or [11]
+                session.batch([client.upsert(1, add={names[place]: place + 1 for place in chosen})])
+                wanted = [count + place + 1 if place in chosen else count for place, count in enumerate(wanted)]
+            self.assertEqual(session.get(1), (1, *wanted))
+        for kind, plain, other, stored in (
+            ("text", "a", type("Text", (str,), {})("b"), "b"),
+            ("int", 1, type("Int", (int,), {})(2), 2),
+            ("bytes", b"a", bytearray(b"b"), b"b"),
+        ):
+            with client.Session() as session:
+                session.run(f"table 16 64 16 1 id:int it:{kind}\n")
+                for value, found in ((plain, plain), (other, stored), (plain, plain)):
+                    session.put([(1, value)])
+                    self.assertEqual((session.get(1), type(session.get(1)[1])), ((1, found), type(plain)))
+                    session.batch([client.upsert(1, set={"it": value})])
+                    self.assertEqual(session.scan(), [(1, found)])
 
 
 # ---- C ----
@@ -1058,7 +1081,7 @@ refused 6, item 2, column 2
 """
 
 
-def what_tests_share_is_built():
+def setUpModule():
     """The library, the extension of the Python client, and the programs that more than one test runs, before tests run side by side."""
     library()
     build_extension()
@@ -1073,67 +1096,34 @@ def refused_packed():
     return c_program(HERE / "c/refused_packed.c", "-Wl,--wrap=malloc,--wrap=realloc,--wrap=free")
 
 
-def random_bytes_in_c_are_read_within_their_ends():
-    """A call that reads bytes before or after its message ends the program. The images of all trees are compared after each call."""
-    ended = subprocess.run([random_packed(), SEED, str(FUZZ)], capture_output=True, text=True, timeout=SECONDS + FUZZ // 1_000)
-    expect((ended.returncode, ended.returncode and ended.stdout, ended.stderr), (0, 0, ""))
-    counts = list(map(int, re.findall(r"\d+", ended.stdout)))
-    expect((sum(counts), min(counts) > FUZZ // 100), (FUZZ, True))
+class InC(TestCase):
+    def test_random_bytes_in_c_are_read_within_their_ends(self):
+        """A call that reads bytes before or after its message ends the program. The images of all trees are compared after each call."""
+        ended = subprocess.run([random_packed(), SEED, str(FUZZ)], capture_output=True, text=True, timeout=SECONDS + FUZZ // 1_000)
+        self.assertEqual((ended.returncode, ended.returncode and ended.stdout, ended.stderr), (0, 0, ""))
+        counts = list(map(int, re.findall(r"\d+", ended.stdout)))
+        self.assertEqual((sum(counts), min(counts) > FUZZ // 100), (FUZZ, True))
 
+    def test_refused_memory_is_answered_by_packed_calls(self):
+        """Each request of each call, alone and with those after it: what is returned, that the table is as before or lost, and that all memory is freed."""
+        ended = subprocess.run([refused_packed()], capture_output=True, text=True, timeout=SECONDS)
+        self.assertEqual((ended.returncode, ended.returncode and ended.stdout, ended.stderr), (0, 0, ""))
 
-def refused_memory_is_answered_by_packed_calls():
-    """Each request of each call, alone and with those after it: what is returned, that the table is as before or lost, and that all memory is freed."""
-    ended = subprocess.run([refused_packed()], capture_output=True, text=True, timeout=SECONDS)
-    expect((ended.returncode, ended.returncode and ended.stdout, ended.stderr), (0, 0, ""))
-
-
-def valgrind_finds_nothing_in_packed_calls():
-    """In the example, in random messages, and with memory refused."""
-    if is_installed("valgrind", "what valgrind finds in packed calls is"):
+    @needs("valgrind")
+    def test_valgrind_finds_nothing_in_packed_calls(self):
+        """In the example, in random messages, and with memory refused."""
         words = ["valgrind", "-q", "--leak-check=full", "--errors-for-leak-kinds=all", "--error-exitcode=9"]
         for program in ([c_program(TOP / "clients/c/packed.c")], [random_packed(), SEED, str(FUZZ // 100)], [refused_packed()]):
-            ended = subprocess.run([*words, *program], capture_output=True, text=True, timeout=SECONDS + FUZZ // 100)
-            expect((program, ended.returncode, ended.stderr), (program, 0, ""))
+            with self.subTest(program=program):
+                ended = subprocess.run([*words, *program], capture_output=True, text=True, timeout=SECONDS + FUZZ // 100)
+                self.assertEqual((ended.returncode, ended.stderr), (0, ""))
 
+    def test_the_example_in_c_prints_its_rows(self):
+        ended = subprocess.run([c_program(TOP / "clients/c/packed.c")], capture_output=True, text=True, timeout=SECONDS)
+        self.assertEqual((ended.returncode, ended.stdout, ended.stderr), (0, PRINTED, ""))
 
-def the_example_in_c_prints_its_rows():
-    ended = subprocess.run([c_program(TOP / "clients/c/packed.c")], capture_output=True, text=True, timeout=SECONDS)
-    expect((ended.returncode, ended.stdout, ended.stderr), (0, PRINTED, ""))
-
-
-def the_page_has_a_part_of_the_example_in_c():
-    """docs/C.md has some of its lines, unchanged, and what the whole of it prints."""
-    code, after = (TOP / "docs/C.md").read_text().split("### Calls on packed bytes\n")[1].split("```c\n")[1].split("```\n", 1)
-    expect_within(code, dedent((TOP / "clients/c/packed.c").read_text().split("int main(void) {\n")[1].removesuffix("}\n")))
-    expect(after.split("```text\n")[1].split("```")[0], PRINTED)
-
-
-TESTS_OF_TEXTS = [
-    changes_by_packed_bytes_and_by_script_leave_equal_trees,
-    worked_scripts_in_values_leave_the_trees_that_they_leave,
-    rows_that_are_put_go_as_they_go_by_text,
-    gets_and_pages_are_those_of_scans,
-    sums_are_those_of_scripts,
-    sums_after_a_row_begin_with_the_next_one,
-    a_page_after_a_row_repeats_and_loses_no_row,
-    keys_that_begin_alike_are_in_one_page_each,
-    columns_are_those_of_the_tables_and_indexes,
-    sums_of_the_client_are_those_of_its_scripts,
-    usage_is_that_of_the_image,
-    malformed_bytes_are_refused_at_their_place_and_change_nothing,
-    bytes_that_are_cut_are_refused_where_they_end,
-    calls_without_a_table_or_on_a_closed_session_are_refused,
-    random_bytes_are_refused_or_answered_as_they_say,
-    refusals_of_packed_bytes_are_those_of_text,
-    limits_and_pages_are_checked,
-    rows_that_change_while_they_are_read_come_once,
-    out_of_memory_is_an_exception_of_each_call,
-    messages_of_many_shapes_keep_their_encoders_apart,
-    random_bytes_in_c_are_read_within_their_ends,
-    refused_memory_is_answered_by_packed_calls,
-    valgrind_finds_nothing_in_packed_calls,
-    the_example_in_c_prints_its_rows,
-    the_page_has_a_part_of_the_example_in_c,
-]
-TESTS = []
-BUILDS = [what_tests_share_is_built]
+    def test_the_page_has_a_part_of_the_example_in_c(self):
+        """docs/C.md has some of its lines, unchanged, and what the whole of it prints."""
+        code, after = (TOP / "docs/C.md").read_text().split("### Calls on packed bytes\n")[1].split("```c\n")[1].split("```\n", 1)
+        self.assertIn(code, dedent((TOP / "clients/c/packed.c").read_text().split("int main(void) {\n")[1].removesuffix("}\n")))
+        self.assertEqual(after.split("```text\n")[1].split("```")[0], PRINTED)

@@ -5,9 +5,10 @@ import re
 import tempfile
 from pathlib import Path
 from typing import Any
+from unittest import TestCase
 
-from callers import House
-from common import expect, imported, run, TOP
+from .callers import House
+from .common import imported, run, TOP
 
 promises: Any = imported("tools/promises")
 
@@ -21,30 +22,12 @@ UNCALLED: dict[str, str] = {
     "bt_show::KeyRange::after": "the rest of a range after a page, for callers in Rattle; the library for C takes packed bounds instead",
 }
 
-
-def each_public_function_is_reached_by_a_program_or_a_test() -> None:
-    found = House(TOP).callers()
-    expect(sorted(name for name, programs in found if not programs), sorted(UNCALLED))
-    listed = {crate for crate, _, _ in (name.partition("::") for name, _ in found)}
-    expect(sorted(name for name, _ in found), sorted(str(one) for one in promises.functions_of(TOP) if one.crate in listed and not one.is_for_c))
-
-
 # Functions of a module of the engine, although only callers outside of it need them, each with the reason.
 BESIDE: dict[str, str] = {
     "bt_row::copy_change": "is the copy of an upsert that the trait `Merge` requires",
     "bt_shell::replies_to": "is the run of a script whose text is in memory",
     "bt_shell::run_script": "is the run of a script on any streams, for which THEOREM.md states the theorem",
 }
-
-
-def functions_that_the_engine_does_not_call_are_in_library_calls() -> None:
-    """Neither the program nor the library for C reaches a function of a module of this name, and no other function stays unreached."""
-    programs = dict(House(TOP).callers())
-    found = [one for one in promises.functions_of(TOP) if not one.type and not one.is_for_c and str(one) in programs]
-    beside = [str(one) for one in found if not {"betable", "bt_c"} & set(programs[str(one)]) and one.file != "library_calls.rt" and one.crate != "bt_laws"]
-    expect(sorted(beside), sorted(BESIDE))
-    expect([str(one) for one in found if one.file == "library_calls.rt" and {"betable", "bt_c"} & set(programs[str(one)])], [])
-
 
 LIBRARY = """pub use list::{List, unused};
 pub fn used(list: &List<u8>) -> usize
@@ -102,14 +85,6 @@ def repository(folder: str) -> Path:
     return top
 
 
-def functions_that_no_program_reaches_are_found() -> None:
-    """The words after `use`, in comments, strings and clauses are no calls, and neither is that of a function with the name of a method."""
-    with tempfile.TemporaryDirectory() as folder:
-        found = House(repository(folder)).callers()
-    expect([name for name, programs in found if programs != ["program"]], ["lists::unused", "lists::List::first"])
-    expect(len(found), 7)
-
-
 STORE = """mod inside;
 pub use inside::{Session, Table as Board};
 pub fn open() -> Result<Session, ()> { Ok(Session { tables: Vec::new(), last: None }) }
@@ -148,44 +123,6 @@ def reached_by(*programs: str) -> dict[str, str]:
     return {name.removeprefix("store::"): "".join(names) for name, names in house_of(*programs).callers()}
 
 
-def a_call_of_the_same_name_on_another_type_does_not_count() -> None:
-    """Also on a type that is not known."""
-    loads = [reached_by(text) for text in (
-        "fn main() { let Ok(mut session) = open() else { return }; session.load(b\"\"); }", "fn main() { Session::load(s, b\"\") }",
-        "struct Mine; impl Mine { fn load(&self, text: &[u8]) {} } fn f(mine: &Mine) { mine.load(b\"\") }", "fn load() { load() }",
-    )]  # fmt: skip
-    expect([(found["Session::load"], found["Table::load"]) for found in loads], [("a", ""), ("a", ""), ("", ""), ("", "")])
-    unknown = house_of("fn f(other: &Other) { other.table().load(b\"\") }")
-    expect((unknown.unknown, [names for name, names in unknown.callers() if name.endswith("load")]), (["a::f: .load()"], [[], []]))
-
-
-def the_type_of_a_receiver_is_found() -> None:
-    """From parameters, fields, results, options, patterns, loops, closures, imports under another name, and types with parameters."""
-    for text in (
-        "fn f(table: &mut Board) { (*table).load(b\"\"); }",
-        "struct Held { board: Board } impl Held { fn f(&mut self) { self.board.load(b\"\"); } }",
-        "fn f(session: &mut Session) { if let Some(table) = session.last() && true { table.load(b\"\"); } }",
-        "fn f(session: &mut Session) { match session.last() { Some(session) if true => session.load(b\"\"), _ => 0 }; }",
-        "fn f() -> Result<(), ()> { for table in open()?.tables() { table.load(b\"\"); } Ok(()) }",
-        "fn f(session: &Session) { session.tables().iter().map(|table| table.load(b\"\")); }",
-        "fn f(mut all: Vec<(u8, Board)>) { while let Some((_, table)) = all.pop() { table.load(b\"\"); } }",
-        "use store::Board as Other; fn f(tables: &mut [Other; 2]) { let load = |n: usize| tables[n].load(b\"\"); }",
-        "struct Pair<T> { one: T } impl<T> Pair<T> { fn one(self) -> T { self.one } } fn f(pair: Pair<Board>) { pair.one().load(b\"\"); }",
-        "enum Either<A, B> { Left(A), Right { of: B } } fn f(e: Either<Session, Board>) { if let Either::Right { of } = e { of.load(b\"\"); } }",
-        "fn f(mut all: Vec<Option<Board>>) { let mut kept = Vec::new(); for one in all { kept.push(one?); } kept[0].load(b\"\"); }",
-        "fn f() { let load = Board::load; }",
-    ):  # fmt: skip
-        found = reached_by(text)
-        expect((text, found["Table::load"], found["Session::load"]), (text, "a", ""))
-
-
-def a_function_is_reached_by_each_program_that_calls_what_calls_it() -> None:
-    """A trait's method reaches each implementation, and a function that nothing calls reaches nothing."""
-    found = reached_by("fn main() { all(&open()?) } fn all<C: Counts>(c: &C) { c.count(); }", "fn main() { counted(1); }", "fn main() {}")
-    names = ("open", "never", "by_never", "Counts::count", "counted", "Session::tables", "Session::last")
-    expect([found[name] for name in names], ["a", "", "", "a", "ab", "a", ""])
-
-
 LINES = """8 functions in 2 files, as `tools/promises` finds them.
 
 ### lists
@@ -200,43 +137,84 @@ LINES = """8 functions in 2 files, as `tools/promises` finds them.
 """
 
 
-def each_public_function_is_listed_with_its_clauses() -> None:
-    """Methods and those of a public trait too; no clause of a body, no file of definitions inside, and nothing of a crate that is no library."""
-    with tempfile.TemporaryDirectory() as folder:
-        expect(run("tools/promises", "--top", repository(folder)), (0, LINES, ""))
+class PublicCalls(TestCase):
+    def test_each_public_function_is_reached_by_a_program_or_a_test(self) -> None:
+        found = House(TOP).callers()
+        self.assertEqual(sorted(name for name, programs in found if not programs), sorted(UNCALLED))
+        listed = {crate for crate, _, _ in (name.partition("::") for name, _ in found)}
+        self.assertEqual(sorted(name for name, _ in found), sorted(str(one) for one in promises.functions_of(TOP) if one.crate in listed and not one.is_for_c))
 
+    def test_functions_that_the_engine_does_not_call_are_in_library_calls(self) -> None:
+        """Neither the program nor the library for C reaches a function of a module of this name, and no other function stays unreached."""
+        programs = dict(House(TOP).callers())
+        found = [one for one in promises.functions_of(TOP) if not one.type and not one.is_for_c and str(one) in programs]
+        beside = [str(one) for one in found if not {"betable", "bt_c"} & set(programs[str(one)]) and one.file != "library_calls.rt" and one.crate != "bt_laws"]
+        self.assertEqual(sorted(beside), sorted(BESIDE))
+        self.assertEqual([str(one) for one in found if one.file == "library_calls.rt" and {"betable", "bt_c"} & set(programs[str(one)])], [])
 
-def the_list_names_each_file_of_definitions_and_each_public_function() -> None:
-    """In the section of its crate, in lines of at most 160 letters, found by patterns of this test."""
-    lines = list(promises.lines_of(TOP))
-    expect([line for line in lines if len(line) > 160], [])
-    sections = {title: text for title, _, text in (part.partition("\n") for part in "\n".join(lines).split("\n### ")[1:])}
-    files = {(path.parents[1].name, path.stem) for path in TOP.glob("crates/bt_*/specs/*.antt") if path.stem not in ("Lib", "inside")}
-    expect(sorted((crate, name) for crate, name in files if f"`{name}`" not in sections[crate].split("\n- `src/")[0]), [])
-    found = {(path.relative_to(TOP).parts[1], name) for path in TOP.glob("crates/bt_*/src/**/*.rt")
-             for name in re.findall(r'^ *pub (?:unsafe |extern "C" )*fn (\w+)', path.read_text(), re.MULTILINE)}  # fmt: skip
-    expect(sorted((crate, name) for crate, name in found if not re.search(rf"[`:]{name}`", sections[crate])), [])
-    expect((len(files) > 100, len(found) > 250), (True, True))
+    def test_functions_that_no_program_reaches_are_found(self) -> None:
+        """The words after `use`, in comments, strings and clauses are no calls, and neither is that of a function with the name of a method."""
+        with tempfile.TemporaryDirectory() as folder:
+            found = House(repository(folder)).callers()
+        self.assertEqual([name for name, programs in found if programs != ["program"]], ["lists::unused", "lists::List::first"])
+        self.assertEqual(len(found), 7)
 
+    def test_a_call_of_the_same_name_on_another_type_does_not_count(self) -> None:
+        """Also on a type that is not known."""
+        loads = [reached_by(text) for text in (
+            "fn main() { let Ok(mut session) = open() else { return }; session.load(b\"\"); }", "fn main() { Session::load(s, b\"\") }",
+            "struct Mine; impl Mine { fn load(&self, text: &[u8]) {} } fn f(mine: &Mine) { mine.load(b\"\") }", "fn load() { load() }",
+        )]  # fmt: skip
+        self.assertEqual([(found["Session::load"], found["Table::load"]) for found in loads], [("a", ""), ("a", ""), ("", ""), ("", "")])
+        unknown = house_of('fn f(other: &Other) { other.table().load(b"") }')
+        self.assertEqual((unknown.unknown, [names for name, names in unknown.callers() if name.endswith("load")]), (["a::f: .load()"], [[], []]))
 
-# Those that ask for no program.
-def contracts_that_a_page_quotes_are_those_of_the_sources() -> None:
-    """Line by line, without the indentation of a method, and up to its body."""
-    codes = [re.sub(r"(?m)^    ", "", path.read_text()) for path in TOP.glob("crates/bt_*/src/**/*.rt")]
-    quoted = re.findall(r"```text\n(pub fn .*?)```", (TOP / "docs/VERIFYING.md").read_text(), flags=re.DOTALL)
-    expect((len(quoted) > 0, [contract for contract in quoted if not any(f"{contract}{{\n" in code for code in codes)]), (True, []))
+    def test_the_type_of_a_receiver_is_found(self) -> None:
+        """From parameters, fields, results, options, patterns, loops, closures, imports under another name, and types with parameters."""
+        for text in (
+            'fn f(table: &mut Board) { (*table).load(b""); }',
+            'struct Held { board: Board } impl Held { fn f(&mut self) { self.board.load(b""); } }',
+            'fn f(session: &mut Session) { if let Some(table) = session.last() && true { table.load(b""); } }',
+            'fn f(session: &mut Session) { match session.last() { Some(session) if true => session.load(b""), _ => 0 }; }',
+            'fn f() -> Result<(), ()> { for table in open()?.tables() { table.load(b""); } Ok(()) }',
+            'fn f(session: &Session) { session.tables().iter().map(|table| table.load(b"")); }',
+            'fn f(mut all: Vec<(u8, Board)>) { while let Some((_, table)) = all.pop() { table.load(b""); } }',
+            'use store::Board as Other; fn f(tables: &mut [Other; 2]) { let load = |n: usize| tables[n].load(b""); }',
+            'struct Pair<T> { one: T } impl<T> Pair<T> { fn one(self) -> T { self.one } } fn f(pair: Pair<Board>) { pair.one().load(b""); }',
+            'enum Either<A, B> { Left(A), Right { of: B } } fn f(e: Either<Session, Board>) { if let Either::Right { of } = e { of.load(b""); } }',
+            'fn f(mut all: Vec<Option<Board>>) { let mut kept = Vec::new(); for one in all { kept.push(one?); } kept[0].load(b""); }',
+            "fn f() { let load = Board::load; }",
+        ):
+            with self.subTest(text=text):  # fmt: skip
+                found = reached_by(text)
+                self.assertEqual((found["Table::load"], found["Session::load"]), ("a", ""))
 
+    def test_a_function_is_reached_by_each_program_that_calls_what_calls_it(self) -> None:
+        """A trait's method reaches each implementation, and a function that nothing calls reaches nothing."""
+        found = reached_by("fn main() { all(&open()?) } fn all<C: Counts>(c: &C) { c.count(); }", "fn main() { counted(1); }", "fn main() {}")
+        names = ("open", "never", "by_never", "Counts::count", "counted", "Session::tables", "Session::last")
+        self.assertEqual([found[name] for name in names], ["a", "", "", "a", "ab", "a", ""])
 
-TESTS_OF_TEXTS = [
-    each_public_function_is_reached_by_a_program_or_a_test,
-    functions_that_the_engine_does_not_call_are_in_library_calls,
-    functions_that_no_program_reaches_are_found,
-    a_call_of_the_same_name_on_another_type_does_not_count,
-    the_type_of_a_receiver_is_found,
-    a_function_is_reached_by_each_program_that_calls_what_calls_it,
-    each_public_function_is_listed_with_its_clauses,
-    the_list_names_each_file_of_definitions_and_each_public_function,
-    contracts_that_a_page_quotes_are_those_of_the_sources,
-]
+    def test_each_public_function_is_listed_with_its_clauses(self) -> None:
+        """Methods and those of a public trait too; no clause of a body, no file of definitions inside, and nothing of a crate that is no library."""
+        with tempfile.TemporaryDirectory() as folder:
+            self.assertEqual(run("tools/promises", "--top", repository(folder)), (0, LINES, ""))
 
-TESTS: list[object] = []
+    def test_the_list_names_each_file_of_definitions_and_each_public_function(self) -> None:
+        """In the section of its crate, in lines of at most 160 letters, found by patterns of this test."""
+        lines = list(promises.lines_of(TOP))
+        self.assertEqual([line for line in lines if len(line) > 160], [])
+        sections = {title: text for title, _, text in (part.partition("\n") for part in "\n".join(lines).split("\n### ")[1:])}
+        files = {(path.parents[1].name, path.stem) for path in TOP.glob("crates/bt_*/specs/*.antt") if path.stem not in ("Lib", "inside")}
+        self.assertEqual(sorted((crate, name) for crate, name in files if f"`{name}`" not in sections[crate].split("\n- `src/")[0]), [])
+        found = {(path.relative_to(TOP).parts[1], name) for path in TOP.glob("crates/bt_*/src/**/*.rt")
+                 for name in re.findall(r'^ *pub (?:unsafe |extern "C" )*fn (\w+)', path.read_text(), re.MULTILINE)}  # fmt: skip
+        self.assertEqual(sorted((crate, name) for crate, name in found if not re.search(rf"[`:]{name}`", sections[crate])), [])
+        self.assertEqual((len(files) > 100, len(found) > 250), (True, True))
+
+    # Those that ask for no program.
+    def test_contracts_that_a_page_quotes_are_those_of_the_sources(self) -> None:
+        """Line by line, without the indentation of a method, and up to its body."""
+        codes = [re.sub(r"(?m)^    ", "", path.read_text()) for path in TOP.glob("crates/bt_*/src/**/*.rt")]
+        quoted = re.findall(r"```text\n(pub fn .*?)```", (TOP / "docs/VERIFYING.md").read_text(), flags=re.DOTALL)
+        self.assertEqual((len(quoted) > 0, [contract for contract in quoted if not any(f"{contract}{{\n" in code for code in codes)]), (True, []))

@@ -21,9 +21,10 @@ import time
 import uuid
 from concurrent.futures import ThreadPoolExecutor
 from pathlib import Path
+from unittest import TestCase
 
-from common import expect, expect_within, fault_of, TABLE, TOP
-from clients import OtherLibrary, betable, both_ways, build_extension, library, library_without_memory
+from .common import fault_of, TABLE, TOP
+from .clients import OtherLibrary, betable, both_ways, build_extension, library, library_without_memory
 
 SCHEMA = "table 16 64 16 1 id:int city:text ok:flag raw:bytes\nindex by_city on city include ok\nbuild by_city 100\n"
 ROWS = [(1, "Oslo", True, b"\0"), (2, "Bergen, west", False, b""), (3, "", True, b"ab")]
@@ -264,87 +265,89 @@ OTHERS += [(lambda c, s, name=name: s.sums("primary", 1, name), "ValueError", "a
 WRONG_USES = VALUES + LENGTHS + SHAPES + UPSERTS + OTHERS
 
 
-@both_ways
-def wrong_uses_of_the_python_client_change_nothing():
-    """Each raises what it should, says what to do, and leaves rows, indexes and trees as they were, and what the client knows of them."""
-    expect(len(WRONG_USES) >= 120, True)
-    client, session = betable(), filled()
-    before, shown = content(session), repr(session)
-    for number, (call, kind, said) in enumerate(WRONG_USES):
-        try:
-            call(client, session)
-        except Exception as fault:
-            expect((number, type(fault).__name__), (number, kind))
-            expect_within(said, str(fault))
-        else:
-            expect((number, "no exception"), (number, kind))
-        expect((number, content(session), repr(session)), (number, before, shown))
-    expect(session.get(1), ROWS[0])
+class PythonClient(TestCase):
+    @both_ways
+    def test_wrong_uses_of_the_python_client_change_nothing(self):
+        """Each raises what it should, says what to do, and leaves rows, indexes and trees as they were, and what the client knows of them."""
+        self.assertGreaterEqual(len(WRONG_USES), 120)
+        client, session = betable(), filled()
+        before, shown = content(session), repr(session)
+        for number, (call, kind, said) in enumerate(WRONG_USES):
+            with self.subTest(number=number):
+                try:
+                    call(client, session)
+                except Exception as fault:
+                    self.assertEqual(type(fault).__name__, kind)
+                    self.assertIn(said, str(fault))
+                else:
+                    self.assertEqual("no exception", kind)
+                self.assertEqual((content(session), repr(session)), (before, shown))
+        self.assertEqual(session.get(1), ROWS[0])
 
+    @both_ways
+    def test_calls_without_a_table_are_refused(self):
+        client = betable()
+        with client.Session() as session:
+            calls = [
+                lambda: session.put(ROWS), lambda: session.put([]), lambda: session.batch([client.delete(1)]), lambda: session.load(ROWS), lambda: session.get(1),
+                lambda: session.scan(), lambda: session.sums("primary", 1, "id"), lambda: session.load_csv(__file__),
+            ]  # fmt: skip
+            for call in calls:
+                try:
+                    call()
+                except client.Refused as refused:
+                    self.assertEqual((refused.number, refused.name), (3, "NoTable"))
+                    self.assertIn("There is no table yet", str(refused))
+                else:
+                    self.assertEqual("no exception", "Refused")
 
-@both_ways
-def calls_without_a_table_are_refused():
-    client = betable()
-    with client.Session() as session:
-        calls = [
-            lambda: session.put(ROWS), lambda: session.put([]), lambda: session.batch([client.delete(1)]), lambda: session.load(ROWS), lambda: session.get(1),
-            lambda: session.scan(), lambda: session.sums("primary", 1, "id"), lambda: session.load_csv(__file__),
-        ]  # fmt: skip
-        for call in calls:
-            try:
-                call()
-            except client.Refused as refused:
-                expect((refused.number, refused.name), (3, "NoTable"))
-                expect_within("There is no table yet", str(refused))
-            else:
-                expect("no exception", "Refused")
-
-
-@both_ways
-def names_are_never_a_piece_of_a_script():
-    """Each public method is here: those with a name take none that is more than one, and the others take texts as values."""
-    client = betable()
-    text = "x\ngo\ndrop by_city\n"
-    methods = {
-        "batch": lambda s: s.batch([client.put(4, text, True, b"")]),
-        "check": None,
-        "close": None,
-        "columns": lambda s: s.columns(text),
-        "delete": lambda s: s.delete(text),
-        "get": lambda s: s.get(text),
-        "index": lambda s: s.index("by_ok", on="ok", where=("city", "=", text)),
-        "is_lost": None,
-        "iterate": lambda s: s.iterate(text),
-        "load": lambda s: s.load([(4, text, True, text)]),
-        "load_csv": lambda s: s.load_csv(text),
-        "put": lambda s: s.put([(4, text, True, b"")]),
-        "put_csv": lambda s: s.put_csv(text),
-        "put_frame": None,
-        "replies": None,
-        "run": None,
-        "scan": lambda s: s.scan(text),
-        "scan_columns": lambda s: s.scan_columns(text),
-        "scan_frame": lambda s: s.scan_frame(text),
-        "state": None,
-        "sums": lambda s: s.sums("by_city", 1, text),
-        "table": lambda s: s.table([(text, "int")]),
-        "to_csv": lambda s: s.to_csv("/nowhere/rows.csv", text),
-        "trees": None,
-        "upsert": lambda s: s.upsert(4, set={"city": text}),
-        "usage": lambda s: s.usage(text),
-    }
-    expect(sorted(name for name in dir(client.Session) if not name.startswith("_")), sorted(methods))
-    session = filled()
-    before = content(session)
-    for name, call in methods.items():
-        if call:
-            for parameter in inspect.signature(getattr(client.Session, name)).parameters.values():
-                kinds = [parameter.VAR_POSITIONAL, parameter.POSITIONAL_OR_KEYWORD] + [parameter.VAR_KEYWORD] * (name == "upsert")
-                expect((name, parameter.kind in kinds or parameter.name == "self"), (name, True))
-            expect((name, fault_of(lambda: call(session)) is not None, content(session)), (name, True, before))
+    @both_ways
+    def test_names_are_never_a_piece_of_a_script(self):
+        """Each public method is here: those with a name take none that is more than one, and the others take texts as values."""
+        client = betable()
+        text = "x\ngo\ndrop by_city\n"
+        methods = {
+            "batch": lambda s: s.batch([client.put(4, text, True, b"")]),
+            "check": None,
+            "close": None,
+            "columns": lambda s: s.columns(text),
+            "delete": lambda s: s.delete(text),
+            "get": lambda s: s.get(text),
+            "index": lambda s: s.index("by_ok", on="ok", where=("city", "=", text)),
+            "is_lost": None,
+            "iterate": lambda s: s.iterate(text),
+            "load": lambda s: s.load([(4, text, True, text)]),
+            "load_csv": lambda s: s.load_csv(text),
+            "put": lambda s: s.put([(4, text, True, b"")]),
+            "put_csv": lambda s: s.put_csv(text),
+            "put_frame": None,
+            "replies": None,
+            "run": None,
+            "scan": lambda s: s.scan(text),
+            "scan_columns": lambda s: s.scan_columns(text),
+            "scan_frame": lambda s: s.scan_frame(text),
+            "state": None,
+            "sums": lambda s: s.sums("by_city", 1, text),
+            "table": lambda s: s.table([(text, "int")]),
+            "to_csv": lambda s: s.to_csv("/nowhere/rows.csv", text),
+            "trees": None,
+            "upsert": lambda s: s.upsert(4, set={"city": text}),
+            "usage": lambda s: s.usage(text),
+        }
+        self.assertEqual(sorted(name for name in dir(client.Session) if not name.startswith("_")), sorted(methods))
+        session = filled()
+        before = content(session)
+        for name, call in methods.items():
+            with self.subTest(name=name):
+                if call:
+                    for parameter in inspect.signature(getattr(client.Session, name)).parameters.values():
+                        kinds = [parameter.VAR_POSITIONAL, parameter.POSITIONAL_OR_KEYWORD] + [parameter.VAR_KEYWORD] * (name == "upsert")
+                        self.assertTrue(parameter.kind in kinds or parameter.name == "self")
+                    self.assertEqual((fault_of(lambda: call(session)) is not None, content(session)), (True, before))
 
 
 # ---- values of all types ----
+
 
 POOL = [
     0, 1, -1, 2**63 - 1, -(2**63), 2**63, 10**30, True, False, None, 0.0, 1.5, float("inf"), 1j, decimal.Decimal("1.0"), fractions.Fraction(1, 2), Number(6),
@@ -397,42 +400,6 @@ def stored_row(row, is_load):
     return None if None in found or (has_break and not is_load) or (is_load and has_point) else found
 
 
-@both_ways
-def values_of_all_types_are_stored_exactly_or_refused():
-    """Random rows, keys, bounds and messages: afterwards either the exact rows are there, with values of their columns' types, or an exception came and
-    nothing changed."""
-    client, dice, stored_calls = betable(), random.Random(5), 0
-    for _ in range(60):
-        with client.Session() as session:
-            session.run("table 16 64 16 1 id:int city:text ok:flag raw:bytes\nindex by_city on city\nbuild by_city 1\n")
-            rows = {}
-            for _ in range(40):
-                given = [row_of(dice) for _ in range(dice.choice([1, 1, 2, 3, 6]))]
-                is_load = not rows and dice.random() < 0.3
-                wanted = [stored_row(row, is_load) for row in given]
-                is_right = None not in wanted and not (is_load and len({row[0] for row in wanted}) < len(wanted))
-                put = dice.choice([session.put, lambda rows: session.batch([client.put(*row) for row in rows])])
-                if any(isinstance(row, dict) for row in given):
-                    put = session.put
-                fault = fault_of(lambda: (session.load if is_load else put)(iter(given) if dice.random() < 0.5 else given))
-                expect((given, fault is None), (given, is_right)) if not any(isinstance(value, Broken) for row in given for value in row) else None
-                if fault is None:
-                    rows |= {row[0]: row for row in wanted}
-                    stored_calls += 1
-                elif not isinstance(fault, (client.Refused, client.RowError, TypeError, ValueError)):
-                    raise fault
-                found = session.scan()
-                expect(found, [rows[key] for key in sorted(rows)])
-                expect({tuple(map(type, row)) for row in found} <= {(int, str, bool, bytes)}, True)
-                single = dice.choice(POOL)
-                key = stored(single, "int")
-                got = fault_of(lambda: expect(session.get(single), rows.get(key)))
-                expect((single, got is None), (single, key is not None)) if not isinstance(single, Broken) else None
-                anything_may_be_asked(client, session, dice)
-                expect(session.scan(), found)
-    expect(stored_calls > 300, True)
-
-
 def anything_may_be_asked(client, session, dice):
     """Calls with values of any type in any place; none of them can change a row."""
     one, two, three = (dice.choice(POOL) for _ in range(3))
@@ -448,163 +415,114 @@ def anything_may_be_asked(client, session, dice):
         raise fault
 
 
-@both_ways
-def texts_are_keys_as_they_are():
-    """Texts with a byte order mark, quotes, points and nothing in them, as the whole of a row and as the first part of a line."""
-    client = betable()
-    texts = ["", ".", "..", "\ufeff", "\ufeffx", "x\ufeff", '"', 'a"', "a,b", " ", "end", "go", "put 1", "é", "\0", "a" * 254]
-    for load in (False, True):
-        for some in (1, 3, len(texts)):
+class ValuesOfAllTypes(TestCase):
+    @both_ways
+    def test_values_of_all_types_are_stored_exactly_or_refused(self):
+        """Random rows, keys, bounds and messages: afterwards either the exact rows are there, with values of their columns' types, or an exception came and
+        nothing changed."""
+        client, dice, stored_calls = betable(), random.Random(5), 0
+        for _ in range(60):
             with client.Session() as session:
-                session.run("table 16 64 16 1 name:text\n")
-                for place in range(0, len(texts), some) if not load else [0]:
-                    (session.load if load else session.put)([(text,) for text in (texts if load else texts[place : place + some])])
-                expect(session.scan(), sorted((text,) for text in texts))
-                for text in texts:
-                    expect((text, session.get(text), session.scan("primary", (text,), (text + "\0",))), (text, (text,), [(text,)]))
-                expect(session.batch([client.delete(text) for text in texts]), len(texts))
-                expect(session.scan(), [])
-    # Many rows; only one of them needs quotes.
-    for special in ("\ufeffx", ".", "", "a,b"):
+                session.run("table 16 64 16 1 id:int city:text ok:flag raw:bytes\nindex by_city on city\nbuild by_city 1\n")
+                rows = {}
+                for _ in range(40):
+                    given = [row_of(dice) for _ in range(dice.choice([1, 1, 2, 3, 6]))]
+                    is_load = not rows and dice.random() < 0.3
+                    wanted = [stored_row(row, is_load) for row in given]
+                    is_right = None not in wanted and not (is_load and len({row[0] for row in wanted}) < len(wanted))
+                    put = dice.choice([session.put, lambda rows: session.batch([client.put(*row) for row in rows])])
+                    if any(isinstance(row, dict) for row in given):
+                        put = session.put
+                    fault = fault_of(lambda: (session.load if is_load else put)(iter(given) if dice.random() < 0.5 else given))
+                    self.assertEqual(fault is None, is_right, given) if not any(isinstance(value, Broken) for row in given for value in row) else None
+                    if fault is None:
+                        rows |= {row[0]: row for row in wanted}
+                        stored_calls += 1
+                    elif not isinstance(fault, (client.Refused, client.RowError, TypeError, ValueError)):
+                        raise fault
+                    found = session.scan()
+                    self.assertEqual(found, [rows[key] for key in sorted(rows)])
+                    self.assertLessEqual({tuple(map(type, row)) for row in found}, {(int, str, bool, bytes)})
+                    single = dice.choice(POOL)
+                    key = stored(single, "int")
+                    got = fault_of(lambda: self.assertEqual(session.get(single), rows.get(key)))
+                    self.assertEqual(got is None, key is not None, single) if not isinstance(single, Broken) else None
+                    anything_may_be_asked(client, session, dice)
+                    self.assertEqual(session.scan(), found)
+        self.assertGreater(stored_calls, 300)
+
+    @both_ways
+    def test_texts_are_keys_as_they_are(self):
+        """Texts with a byte order mark, quotes, points and nothing in them, as the whole of a row and as the first part of a line."""
+        client = betable()
+        texts = ["", ".", "..", "\ufeff", "\ufeffx", "x\ufeff", '"', 'a"', "a,b", " ", "end", "go", "put 1", "é", "\0", "a" * 254]
         for load in (False, True):
-            with client.Session() as session:
-                session.run("table 16 64 16 1 name:text\n")
-                rows = [*(("a" * count,) for count in range(1, 9)), (special,)]
-                (session.load if load else session.put)(rows)
-                expect((special, load, session.scan()), (special, load, sorted(rows)))
+            for some in (1, 3, len(texts)):
+                with client.Session() as session:
+                    session.run("table 16 64 16 1 name:text\n")
+                    for place in range(0, len(texts), some) if not load else [0]:
+                        (session.load if load else session.put)([(text,) for text in (texts if load else texts[place : place + some])])
+                    self.assertEqual(session.scan(), sorted((text,) for text in texts))
+                    for text in texts:
+                        with self.subTest(text=text):
+                            self.assertEqual((session.get(text), session.scan("primary", (text,), (text + "\0",))), ((text,), [(text,)]))
+                    self.assertEqual(session.batch([client.delete(text) for text in texts]), len(texts))
+                    self.assertEqual(session.scan(), [])
+        # Many rows; only one of them needs quotes.
+        for special in ("\ufeffx", ".", "", "a,b"):
+            for load in (False, True):
+                with self.subTest(special=special, load=load):
+                    with client.Session() as session:
+                        session.run("table 16 64 16 1 name:text\n")
+                        rows = [*(("a" * count,) for count in range(1, 9)), (special,)]
+                        (session.load if load else session.put)(rows)
+                        self.assertEqual(session.scan(), sorted(rows))
 
+    @both_ways
+    def test_keys_of_two_columns_have_two_values(self):
+        client = betable()
+        with client.Session() as session:
+            session.run("table 16 64 16 2 land:text city:text qty:int\n")
+            rows = [("n", "o", 1), ("n", "z", 2), ("no", "a", 3), ("o", "x", 4)]
+            session.put(rows)
+            for call in (
+                lambda: session.scan("primary", "no"), lambda: session.get("no"), lambda: session.get(("n", "o")), lambda: session.batch([client.delete("n")]),
+                lambda: session.batch([client.upsert("n", add={"qty": 1})]), lambda: session.scan("primary", ["n", "o", 1]),
+            ):  # fmt: skip
+                self.assertIsInstance(fault_of(call), client.RowError)
+            self.assertEqual(session.scan("primary", ("n",), ("n", "z")), rows[:1])
+            self.assertEqual((session.scan("primary", ["no"]), session.get("n", "z"), session.scan()), (rows[2:], rows[1], rows))
 
-@both_ways
-def keys_of_two_columns_have_two_values():
-    client = betable()
-    with client.Session() as session:
-        session.run("table 16 64 16 2 land:text city:text qty:int\n")
-        rows = [("n", "o", 1), ("n", "z", 2), ("no", "a", 3), ("o", "x", 4)]
-        session.put(rows)
-        for call in (
-            lambda: session.scan("primary", "no"), lambda: session.get("no"), lambda: session.get(("n", "o")), lambda: session.batch([client.delete("n")]),
-            lambda: session.batch([client.upsert("n", add={"qty": 1})]), lambda: session.scan("primary", ["n", "o", 1]),
-        ):  # fmt: skip
-            expect(isinstance(fault_of(call), client.RowError), True)
-        expect(session.scan("primary", ("n",), ("n", "z")), rows[:1])
-        expect((session.scan("primary", ["no"]), session.get("n", "z"), session.scan()), (rows[2:], rows[1], rows))
-
-
-@both_ways
-def messages_that_are_alike_differ_by_their_values():
-    """Upserts of one shape, whose line is made once: texts that need quotes, and values whose Python text is not their field, after plain ones."""
-    client = betable()
-    with client.Session() as session:
-        session.run("table 16 64 16 1 id:int city:text ok:flag raw:bytes qty:int\n")
-        texts, binaries = ["a", "b,c", '"', "", "."], [b"a", b"", b"\xff"]
-        messages = [client.put(number, "x", False, b"", 0) for number in range(9)]
-        messages += [client.upsert(number, set={"city": text}) for number, text in enumerate(texts)]
-        messages += [client.upsert(number, set={"raw": value, "ok": True}) for number, value in enumerate(binaries, 5)]
-        messages += [client.upsert(8, add={"qty": 5}, set={"qty": 1}, max={"qty": 4}), client.upsert(0, add={"qty": 2**62}), client.delete(1)]
-        expect(session.batch(messages), len(messages))
-        wanted = [(number, text, False, b"", 0) for number, text in enumerate(texts)] + [(number, "x", True, value, 0) for number, value in enumerate(binaries, 5)]
-        expect(session.scan(), [(0, "a", False, b"", 2**62), *wanted[2:], (8, "x", False, b"", 6)])
-        for wrong in (client.upsert(0, set={"city": "a\nb"}), client.upsert(0, set={"raw": "a"}), client.upsert("0", add={"qty": 1})):
-            expect(isinstance(fault_of(lambda: session.batch([*messages, wrong])), client.RowError), True)
-        expect(session.get(1), None)
-        session.batch([client.upsert(number, set={"qty": Number(7)}) for number in range(2, 4)])
-        expect((session.get(2)[4], session.get(3)[4]), (7, 7))
+    @both_ways
+    def test_messages_that_are_alike_differ_by_their_values(self):
+        """Upserts of one shape, whose line is made once: texts that need quotes, and values whose Python text is not their field, after plain ones."""
+        client = betable()
+        with client.Session() as session:
+            session.run("table 16 64 16 1 id:int city:text ok:flag raw:bytes qty:int\n")
+            texts, binaries = ["a", "b,c", '"', "", "."], [b"a", b"", b"\xff"]
+            messages = [client.put(number, "x", False, b"", 0) for number in range(9)]
+            messages += [client.upsert(number, set={"city": text}) for number, text in enumerate(texts)]
+            messages += [client.upsert(number, set={"raw": value, "ok": True}) for number, value in enumerate(binaries, 5)]
+            messages += [client.upsert(8, add={"qty": 5}, set={"qty": 1}, max={"qty": 4}), client.upsert(0, add={"qty": 2**62}), client.delete(1)]
+            self.assertEqual(session.batch(messages), len(messages))
+            wanted = [(number, text, False, b"", 0) for number, text in enumerate(texts)] + [
+                (number, "x", True, value, 0) for number, value in enumerate(binaries, 5)
+            ]
+            self.assertEqual(session.scan(), [(0, "a", False, b"", 2**62), *wanted[2:], (8, "x", False, b"", 6)])
+            for wrong in (client.upsert(0, set={"city": "a\nb"}), client.upsert(0, set={"raw": "a"}), client.upsert("0", add={"qty": 1})):
+                self.assertIsInstance(fault_of(lambda: session.batch([*messages, wrong])), client.RowError)
+            self.assertIsNone(session.get(1))
+            session.batch([client.upsert(number, set={"qty": Number(7)}) for number in range(2, 4)])
+            self.assertEqual((session.get(2)[4], session.get(3)[4]), (7, 7))
 
 
 # ---- exceptions ----
-
-
-@both_ways
-def refusals_say_what_to_do():
-    """Fields of exceptions: the row of the call, its column, its value, and how many rows were applied before."""
-    client = betable()
-    with client.Session() as session:
-        session.run("table 16 1024 256 1 id:int city:text qty:int\n")
-        fault = fault_of(lambda: session.put(((n, "a", 1 if n != 25 else 2**63) for n in range(40)), most=10))
-        found = fault.row, fault.column, fault.value, fault.taken, fault.line, fault.number, fault.name, fault.item
-        expect(found, (26, "qty", 2**63, 20, 1, 6, "BadField", 6))
-        expect_within("row 26: column 3 'qty' (int): '9223372036854775808' is over the largest int", str(fault))
-        expect_within("(20 rows of this call were applied before it, in earlier batches)", str(fault))
-        expect(len(session.scan()), 20)
-        fault = fault_of(lambda: session.put(((n, "a", 1 if n != 125 else "x") for n in range(100, 140)), most=10))
-        expect((type(fault), fault.row, fault.column, fault.value, fault.taken), (client.RowTypeError, 26, "qty", "x", 20))
-        expect(len(session.scan()), 40)
-        fault = fault_of(lambda: session.run("get 0\nbatch\nput 1,b,5\nput 2,c,y\nend\nget 1\n"))
-        expect((fault.line, fault.item, fault.column, fault.value, len(fault.replies)), (2, 2, "qty", "y", 3))
-        expect(fault.replies[2].rows, [(1, "a", 1)])
-        fault = fault_of(lambda: session.batch([client.upsert(1, add={"qty": 2**63})]))
-        expect((fault.row, fault.column, fault.value), (1, "qty", 2**63))
-
-
-def reads_of_another_form_are_refused():
-    """Their kinds of rows are asked for although they have none."""
-    client = betable()
-    for text in ("sums", "sums primary", "sums primary 1", "sums primary x qty", "sums primary 1x qty", "sums primary -1 qty", "scan", "scan x"):
-        with client.Session() as session:
-            session.run(f"{TABLE}\n")
-            fault = fault_of(lambda: session.run(f"{text}\ngo\nbatch\nput 1,a,2\nend\n"))
-            expect((text, type(fault), fault.replies[1:], session.get(1)), (text, client.Refused, [["batch 1"]], (1, "a", 2)))
-
-
-def names_that_are_no_text_are_refused():
-    client = betable()
-    for text in (b"batch\nups 1,set,\xff,2\nend\n", b"sums primary 1 \xff\ngo\n", b"scan \xff\ngo\n", b"index \xff on qty\n", b"index a on \xff\n", b"\xff\n"):
-        with client.Session() as session:
-            session.run(f"{TABLE}\n")
-            expect((text, type(fault_of(lambda: session.run(text)))), (text, client.Refused))
-
-
-def the_reason_is_that_of_the_least_refusal():
-    """Of a batch with a line of the wrong length and then a value that is none, the second one is what the refusal names."""
-    client = betable()
-    with client.Session() as session:
-        session.run("table 16 64 16 1 id:int city:text\n")
-        fault = fault_of(lambda: session.run("batch\nput 1\nput x,a\nput y,b\nend\n"))
-        expect((fault.number, fault.item, fault.column, fault.value), (6, 2, "id", "x"))
-        fault = fault_of(lambda: session.run("load\nid,city\n1\nx,a\n.\n"))
-        expect((fault.number, fault.item, fault.value), (6, 2, "x"))
 
 
 def library_that_runs(session, script):
     """A library that runs this script in place of another one, and returns that memory ran out after it."""
     run = session._library.betable_run
     return OtherLibrary(session, {"betable_run": lambda handle, *_: run(handle, script, len(script)) + 1})
-
-
-@both_ways
-def out_of_memory_says_what_was_carried_out():
-    client = betable()
-    with client.Session() as session:
-        session.run("table 16 64 16 1 id:int city:text\n")
-        session.put([(1, "a")])
-        library = library_that_runs(session, b"get 1\n")
-        fault = fault_of(lambda: session.run("get 1\nindex by_city on city\nbuild by_city 9\n"))
-        expect((type(fault), fault.replies, fault.is_cut, fault.is_lost, fault.taken), (client.OutOfMemory, b"row 1,a\n", False, False, 0))
-        # Perhaps the index was made, so its columns are known.
-        library.end(session)
-        session.run("index by_city on city\nbuild by_city 9\n")
-        expect(session.scan("by_city"), [("a", 1)])
-        library = library_without_memory(session)
-        fault = fault_of(lambda: session.put([(2, "b")]))
-        expect((type(fault), fault.replies, str(fault)), (client.OutOfMemory, b"", "betable: out of memory"))
-        library.end(session)
-        expect(session.scan(), [(1, "a")])
-
-
-@both_ways
-def a_class_with_replies_of_its_own_runs_by_them():
-    given = []
-
-    class Shown(betable().Session):
-        def replies(self, script):
-            given.append(script)
-            return b"none\n" if script == b"get 1\n" else super().replies(script)
-
-    with Shown() as session:
-        session.run(SCHEMA)
-        session.put(ROWS)
-        expect([reply.rows for reply in session.run("get 2\nget 3\n")], [[ROWS[1]], [ROWS[2]]])
-        expect((list(session.run("get 1\n")[0]), given), (["none"], [SCHEMA.encode(), b"get 2\nget 3\n", b"get 1\n"]))
 
 
 # A call of each kind.
@@ -625,90 +543,6 @@ CALLS = [
     lambda s: s.check("get 1\n"),
     lambda s: s.is_lost,
 ]
-
-
-@both_ways
-def a_closed_session_raises():
-    session = filled()
-    for _ in range(2):
-        session.close()
-        expect({type(fault_of(lambda: call(session))) for call in CALLS}, {ValueError})
-    expect(betable().Session().__enter__().close(), None)
-
-
-@both_ways
-def a_session_goes_through_a_pool_of_threads():
-    """Each call is made by some thread of a pool, which holds a lock, and the last thread closes the session."""
-    client, lock, threads = betable(), threading.Lock(), set()
-    session = client.Session()
-
-    def made():
-        session.table("thread:int count:int", keys=1, fanout=4, buffer=8, leaf=4)
-        session.index("by_count", "count")
-
-    def counted(number):
-        with lock:
-            threads.add(threading.get_ident())
-            key, before = number % 7, session.get(number % 7) or (number % 7, 0)
-            session.upsert(key, add={"count": 1})
-            expect((session.get(key), session.run(f"get {key}\n")[0].rows), ((key, before[1] + 1), [(key, before[1] + 1)]))
-            session.put([(1_000 + number, number)])
-            expect(sum(total for _, total, _ in session.sums("by_count", 1, "count")), sum(row[1] for row in session.scan()))
-        time.sleep(0.001)
-
-    with ThreadPoolExecutor(8) as pool:
-        pool.submit(made).result()
-        list(pool.map(counted, range(350)))
-        expect([row for row in session.scan(stop=(1_000,))], [(key, 50) for key in range(7)])
-        expect(len(session.scan("by_count")), 357)
-        pool.submit(session.close).result()
-    expect((len(threads) > 1, type(fault_of(session.scan))), (True, ValueError))
-
-
-@both_ways
-def a_session_works_in_the_threads_of_asyncio():
-    async def all_at_once():
-        session, lock = await asyncio.to_thread(betable().Session), asyncio.Lock()
-
-        async def called(function, *given):
-            async with lock:
-                return await asyncio.to_thread(function, *given)
-
-        await called(session.table, "id:int qty:int")
-        await asyncio.gather(*(called(session.put, [(number, number)]) for number in range(100)))
-        expect(await called(session.scan), [(number, number) for number in range(100)])
-        await called(session.close)
-
-    asyncio.run(all_at_once())
-
-
-@both_ways
-def a_call_during_another_one_is_refused():
-    """Of another thread, and of the same one, while the library carries out a script or sums. The call that was first ends as it should."""
-    for name, call in (("betable_run", lambda: session.run("get 1\n")[0].rows), ("betable_sums", lambda: session.sums("by_city", 1, "id"))):
-        session = filled()
-        wanted, begun, ended, found = call(), threading.Event(), threading.Event(), []
-
-        def waits(handle, given, length, *fault):
-            found.append(fault_of(lambda: session.get(1)))
-            begun.set()
-            expect(ended.wait(60), True)
-            return getattr(library.library, name)(handle, ctypes.string_at(given, length), length, *fault)
-
-        function = getattr(session._library, name)
-        data = [ctypes.c_void_p if kind is ctypes.c_char_p else kind for kind in function.argtypes]
-        library = OtherLibrary(session, {name: ctypes.CFUNCTYPE(function.restype, *data)(waits)})
-        thread = threading.Thread(target=lambda: found.append(call()))
-        thread.start()
-        expect(begun.wait(60), True)
-        faults = [fault_of(lambda: one(session)) for one in [*CALLS, lambda session: session.close()]]
-        ended.set()
-        thread.join()
-        library.end(session)
-        expect({type(fault) for fault in [*faults, found[0]]}, {RuntimeError})
-        expect_within("one call at a time", str(faults[0]))
-        expect((found[1:], session.scan()), ([wanted], ROWS))
-
 
 INTERRUPTED = """
 import signal, sys
@@ -733,404 +567,552 @@ print(count, session.scan(limit=2), session.close())
 """
 
 
-def interrupts_leave_a_session_free():
-    """Ctrl-C, at many places of calls by the extension and by ctypes: no call takes the session for good."""
-    for pure in "01":
-        code = INTERRUPTED.format(path=str(TOP / "clients/python"))
-        settings = {**os.environ, "BETABLE_LIBRARY": library(), "BETABLE_PURE": pure}
-        ended = subprocess.run([sys.executable, "-B", "-c", code], capture_output=True, text=True, env=settings)
-        expect((pure, ended.returncode, ended.stderr), (pure, 0, ""))
-        count, rest = ended.stdout.split(" ", 1)
-        expect((pure, int(count) > 1_400, rest), (pure, True, "[(0, 0), (1, 1)] None\n"))
-
-
-@both_ways
-def threads_without_a_lock_get_their_own_replies_or_a_fault():
-    session, wrong, refused, rows = betable().Session(), [], [], 2_000
-    session.table("id:int qty:int")
-    session.put([(number, number) for number in range(rows)])
-    is_over, interval = time.monotonic() + 0.7, sys.getswitchinterval()
-
-    def reads(first):
-        key = first
-        while time.monotonic() < is_over:
-            key = (key + 7) % rows
-            for call, wanted in (
-                (lambda: session.run(f"get {key}\nscan primary\nfrom {key}\nto {key + 1}\ngo\n")[1].rows, [(key, key)]),
-                (lambda: session.get(key), (key, key)),
-                (lambda: session.scan("primary", (key,), (key + 1,)), [(key, key)]),
-                (lambda: session.sums("primary", 1, "qty", (key,), (key + 1,)), [(1, key, key)]),
-            ):
-                try:
-                    found = call()
-                except RuntimeError as fault:
-                    refused.append(fault)
-                    continue
-                except Exception as fault:
-                    found = fault
-                if found != wanted:
-                    wrong.append((found, wanted))
-
-    threads = [threading.Thread(target=reads, args=[first]) for first in range(4)]
-    sys.setswitchinterval(1e-6)
-    try:
-        for thread in threads:
-            thread.start()
-    finally:
-        for thread in threads:
-            thread.join()
-        sys.setswitchinterval(interval)
-    expect((wrong[:3], len(refused) > 0, session.get(5)), ([], True, (5, 5)))
-
-
-@both_ways
-def a_session_that_another_thread_drops_is_closed():
-    sessions, closed = [filled()], []
-    close = sessions[0]._library.betable_close
-    OtherLibrary(sessions[0], {"betable_close": lambda handle: closed.append((threading.get_ident(), close(handle)))})
-    thread = threading.Thread(target=sessions.clear)
-    thread.start()
-    number = thread.ident
-    thread.join()
-    expect(closed, [(number, 0)])
-
-
-def usage_has_names_and_is_refused_without_a_tree():
-    client = betable()
-    with filled() as session, client.Session() as other:
-        expect([(use.rows, use.messages, use.height) for use in (session.usage(), session.usage("by_city"))], [(3, 0, 1)] * 2)
-        faults = [fault_of(call) for call in (lambda: session.usage("nothing"), other.usage, lambda: session.usage(5), lambda: session.usage("a b"))]
-        expect([type(fault) for fault in faults], [client.Refused, client.Refused, TypeError, ValueError])
-        expect([fault.name for fault in faults[:2]], ["NoSuchTree", "NoTable"])
-
-
-def a_load_names_the_line_of_its_file():
-    client = betable()
-    with tempfile.TemporaryDirectory() as folder, client.Session() as session:
-        session.run("table 16 64 16 1 id:int city:text\n")
-        path = Path(folder) / "cities.csv"
-        cases = [
-            (b"id,city\n1,Oslo\n\n2,Bergen,x\n", client.Refused, f"{path}, line 4: 3 fields, and a record has 2 (id, city)"),
-            (b"id,city\n1,Oslo\nx,Bergen\n", client.Refused, f"{path}, line 3: column 1 'id' (int): 'x' is no"),
-            (b"id,town\n1,Oslo\n", client.Refused, f"{path}, line 1: column 2 'city': the header has 'town' there"),
-            (b"id,city\n1,Oslo\n1,Bergen\n", client.Refused, "refused 14 DuplicateKey 2"),
-            (b"id,city\n1,Oslo\n.\n2,Bergen\n", ValueError, f"{path}, line 3: a line that is a point alone would end the load"),
-            (b"id,city\n1,\xff\n", client.Refused, f"{path}, line 2: column 2 'city' (text): byte 1 of"),
-            (b"\x1f\x8b\x08\0\0\0", ValueError, f"{path} is compressed by gzip"),
-            (b"", client.Refused, "the block has no header"),
-        ]
-        for text, kind, said in cases:
-            path.write_bytes(text)
-            fault = fault_of(lambda: session.load_csv(path))
-            expect((text, type(fault)), (text, kind))
-            expect_within(said, str(fault))
-            expect(session.scan(), [])
-        path.write_bytes(b'\xef\xbb\xbfid,city\r\n2,"a\nb"\r\n1,Oslo')
-        expect((session.load_csv(str(path)), session.scan()), (2, [(1, "Oslo"), (2, "a\nb")]))
-
-
-@both_ways
-def a_csv_file_of_any_size_is_put_in_batches():
-    """With records at every place of the blocks in which it is read, beside a load of the same file."""
-    client, calls = betable(), []
-    module = sys.modules["betable.csv_input"]
-    block = module.BLOCK
-    texts = ["Oslo", '"Bergen, west"', '"a ""b"""', '5" wide', "", "æ", ".", "end"]
-    text = "\ufeffid,city\n" + "".join(f"{number},{texts[number % 8]}" + ("\r\n", "\n", "\n\n", "\r")[number // 8 % 4] for number in range(300)) + "300,last"
-    with tempfile.TemporaryDirectory() as folder, client.Session() as loaded:
-        path = Path(folder) / "cities.csv"
-        path.write_text(text, newline="")
-        size = path.stat().st_size
-        loaded.table("id:int city:text")
-        reader = sys.modules["betable.calls"]
-        try:
-            reader.BLOCK = 1_000
-            expect((loaded.load_csv(path, lambda *call: calls.append(call)), calls), (301, [(min(read, size), size) for read in range(1_000, size + 1_000, 1_000)]))
-        finally:
-            reader.BLOCK = block
-        try:
-            for module.BLOCK in (1, 7, 50, 51, 52, 53, 1_000, block):
-                for most in (1, 7, 301, client.MOST_MESSAGES):
-                    with client.Session() as session:
-                        session.table("id:int city:text")
-                        calls.clear()
-                        expect(session.put_csv(str(path), lambda *call: calls.append(call), most), 301)
-                        expect((module.BLOCK, most, session.scan() == loaded.scan()), (module.BLOCK, most, True))
-                        expect((calls[-1], {total for _, total in calls}, calls), ((size, size), {size}, sorted(calls)))
-                        expect(len(calls) >= 301 // most, True)
-        finally:
-            module.BLOCK = block
-        with client.Session() as session:
-            session.table("id:int city:text")
-            session.put([(1, "old"), (900, "old")])
-            expect((session.put_csv(path), session.get(1), session.get(900)), (301, (1, "Bergen, west"), (900, "old")))
-            before = session.scan()
-            cases = [
-                ("id,city\n1,a\n\n2,b,x\n", client.Refused, f"{path}, line 4: 3 fields, and a put has 2 (id, city)"),
-                ('id,city\n1,a\nx,"b"\n', client.Refused, f"{path}, line 3: column 1 'id' (int): 'x' is no"),
-                ('id,city\n1,a\n3,"b\nc"\n', client.RowValueError, f"{path}, line 3: a field has a line break, which only load_csv takes"),
-                ('id,city\n1,a\n\n3,"b\rc"\n', client.RowValueError, f"{path}, line 4: a field has a line break, which only load_csv takes"),
-                ('id,city\n1,a\n3,"b\n', client.RowValueError, f"{path}, line 3: a field has a line break"),
-                ("id,town\n1,a\n", client.RowValueError, f"{path}, line 1: the header is 'id,town', and the columns are id,city"),
-                ("\n\n1,a\n", client.RowValueError, f"{path}, line 3: the header is '1,a', and the columns are id,city"),
-                ("", client.RowValueError, f"{path}: the header is '', and the columns are id,city"),
-            ]
-            for given, kind, said in cases:
-                path.write_text(given, newline="")
-                fault = fault_of(lambda: session.put_csv(path))
-                expect((given, type(fault)), (given, kind))
-                expect_within(said, str(fault))
-                expect((given, session.scan()), (given, before))
-            path.write_text("id,city\n" + "".join(f"{number},a\n" for number in range(2_000, 2_025)) + "x,b\n")
-            fault = fault_of(lambda: session.put_csv(path, most=10))
-            expect((type(fault), fault.taken, fault.column), (client.Refused, 19, "id"))
-            expect_within(f"{path}, line 27: column 1 'id' (int): 'x' is no", str(fault))
-            expect(len(session.scan("primary", (2_000,))), 19)
-            path.write_bytes(b"\x1f\x8b\x08\0")
-            expect_within("is compressed by gzip", str(fault_of(lambda: session.put_csv(path))))
-            expect([type(fault_of(lambda: session.put_csv(path, None, most))) for most in (0, "1")], [ValueError, TypeError])
-
-
-@both_ways
-def a_csv_file_is_cut_by_lines_where_it_has_no_quotes():
-    """With the same records, and the same lines of faults, as a load has. Where a block has a quote or a carriage return, its records are found one by one."""
-    client, module = betable(), sys.modules["betable.csv_input"]
-    block, cut, cuts = module.BLOCK, module._records, []
-    plain = "\ufeffid,city\n" + "".join(f"{number},city {number % 9}\n" + "\n" * (number % 3 == 0) for number in range(200))
-    quoted = "".join(f'{number},"a ""b"", {number}"\r\n\r\n' for number in range(200, 240))
-    after = "".join(f"{number},{'x' * (number % 60)}\n" for number in range(240, 400))
-    module._records = lambda *given: cuts.append(given[0]) or cut(*given)
-    try:
-        with tempfile.TemporaryDirectory() as folder:
-            path = Path(folder) / "cities.csv"
-            for text, count in ((plain, 200), (plain + quoted, 240), (plain + quoted + after, 400), (plain.removesuffix("\n"), 200), (plain.replace("\n", "\r"), 200)):
-                path.write_text(text, newline="")
-                for module.BLOCK in (1, 30, 64, 1_000, block):
-                    cuts.clear()
-                    with client.Session() as session, client.Session() as loaded:
-                        session.table("id:int city:text")
-                        loaded.table("id:int city:text")
-                        expect((session.put_csv(path, most=50), loaded.load_csv(path)), (count, count))
-                        expect((module.BLOCK, count, session.scan() == loaded.scan()), (module.BLOCK, count, True))
-                    expect((module.BLOCK, bool(cuts)), (module.BLOCK, '"' in text or "\r" in text))
-                    if module.BLOCK < 1_000 and text.endswith(after):
-                        # After the quotes it is cut by lines again.
-                        expect(any(b"399," in one for one in cuts), False)
-                wrong = text + "\n\nx,y\n"
-                path.write_text(wrong, newline="")
-                line = wrong[: wrong.index("x,y")].count("\n") + 1
-                for module.BLOCK in (1, 30, 1_000, block):
-                    with client.Session() as session:
-                        session.table("id:int city:text")
-                        fault = fault_of(lambda: session.put_csv(path, most=50))
-                        expect(type(fault), client.Refused)
-                        expect_within(f"{path}, line {line}: column 1 'id' (int): 'x' is no", str(fault))
-                        expect((fault.taken, len(session.scan())), ((count + 1) // 50 * 50 - 1, (count + 1) // 50 * 50 - 1))
-    finally:
-        module.BLOCK, module._records = block, cut
-
-
-@both_ways
-def rows_come_back_from_a_csv_file_as_they_were():
-    """Of more rows than a page has, with all that needs quotes, in the order of the tree. What `put_csv` takes has no line breaks."""
-    client, module = betable(), sys.modules["betable.calls"]
-    texts = ["", ".", "..", " x ", "a,b", '"', 'say "so"', "\ufeff", "\ufeffx", "æ", "\0", "end", "put 1", "'", "#", "\t"]
-    breaks = ["a\nb", "\r\n", "\n\n", 'x"\n,"y', "a\rb", "\n"]
-    page = module.CSV_ROWS
-    with tempfile.TemporaryDirectory() as folder:
-        path = Path(folder) / "rows.csv"
-        try:
-            for module.CSV_ROWS in (1, 7, page):
-                for given, calls in ((texts, ("load_csv", "put_csv")), (texts + breaks, ("load_csv",))):
-                    for columns, rows in (
-                        ("t:text", [(text,) for text in given]),
-                        ("t:text n:int f:flag b:bytes", [(text, place - 3, place % 2 == 1, bytes(range(place))) for place, text in enumerate(given)]),
-                        ("n:int t:text", []),
-                    ):
-                        with client.Session() as session:
-                            session.table(columns)
-                            session.load(rows)
-                            expect(session.to_csv(path), len(rows))
-                            wanted = session.scan()
-                        for call in calls:
-                            with client.Session() as session:
-                                session.table(columns)
-                                expect((columns, call, getattr(session, call)(path)), (columns, call, len(rows)))
-                                expect((columns, call, session.scan()), (columns, call, wanted))
-                        path.unlink()
-        finally:
-            module.CSV_ROWS = page
-        path.write_bytes(b'id,city\r\n\r\n2,"a ""b"", c"\r\n\r\n\r\n1,Oslo\r\n3,\r\n')
-        with client.Session() as session, client.Session() as again:
-            for one in (session, again):
-                one.table("id:int city:text")
-            session.index("by_city", on="city")
-            expect((session.put_csv(path), session.to_csv(f"{folder}/a.csv")), (3, 3))
-            expect(Path(folder, "a.csv").read_bytes(), b'id,city\n1,Oslo\n2,"a ""b"", c"\n3,""\n')
-            expect((again.put_csv(f"{folder}/a.csv"), again.scan()), (3, session.scan()))
-            expect(session.to_csv(Path(folder, "b.csv"), "by_city", ("O",), ("a",)), 1)
-            expect(Path(folder, "b.csv").read_bytes(), b"city,id\nOslo,1\n")
-
-
-@both_ways
-def a_csv_file_that_is_not_written_leaves_nothing():
-    client = betable()
-    with tempfile.TemporaryDirectory() as folder, client.Session() as session, client.Session() as other:
-        path = Path(folder) / "rows.csv"
-        session.table("id:int city:text")
-        session.put([(number, "x") for number in range(9)])
-        session.index("building", on="city", build=False)
-        path.write_bytes(b"before\n")
-        for call, kind, said in (
-            (lambda: session.to_csv(path), FileExistsError, f"{path} is there already"),
-            (lambda: session.to_csv(f"{folder}/none/rows.csv"), FileNotFoundError, "none/rows.csv.part"),
-            (lambda: session.to_csv(f"{folder}/a", "none"), client.Refused, "no tree is named 'none'"),
-            (lambda: session.to_csv(f"{folder}/b", "building"), client.Refused, "refused 11 Building"),
-            (lambda: session.to_csv(f"{folder}/c", "primary", 5), client.RowTypeError, "a bound is a tuple"),
-            (lambda: other.to_csv(f"{folder}/d"), client.Refused, "refused 3 NoTable"),
-        ):
-            fault = fault_of(call)
-            expect((said, type(fault)), (said, kind))
-            expect_within(said, str(fault))
-        expect(([one.name for one in Path(folder).iterdir()], path.read_bytes()), (["rows.csv"], b"before\n"))
-
-
-def exceptions_can_be_pickled():
-    client = betable()
-    faults = [
-        client.Refused(3, 6, "BadField", 2, [["none"]], reason="why", column="qty", value=2**63, row=7, taken=5),
-        client.OutOfMemory(b"table 1\n", True, True, 4),
-        client.RowTypeError("why", row=2, column="city", value=b"x", taken=1),
-        client.RowValueError("why"),
-        fault_of(lambda: filled().run("get 1\nscan primary\ngo\nnothing\n")),
-    ]
-    for fault in faults:
-        again = pickle.loads(pickle.dumps(fault))
-        expect((type(again), str(again), again.__dict__), (type(fault), str(fault), fault.__dict__))
-    expect(pickle.loads(pickle.dumps(faults[-1])).replies[1].rows, [*ROWS])
-
-
-@both_ways
-def a_session_says_what_it_has():
-    client = betable()
-    session = client.Session()
-    expect(repr(session), "<betable.Session, open, without a table>")
-    session.run("table 16 64 16 1 id:int city:text\n")
-    session.put([(1, "a")])
-    session.run("index by_city on city\n")
-    expect(repr(session), "<betable.Session, open, 2 columns, indexes: by_city (building)>")
-    session.run("build by_city 10\n")
-    expect(repr(session), "<betable.Session, open, 2 columns, indexes: by_city (complete)>")
-    session.close()
-    expect(repr(session), "<betable.Session, closed>")
-
-
-def a_missing_library_is_named():
-    code = "import betable\nbetable.Session()"
-    with tempfile.TemporaryDirectory() as folder:
-        environment = {**os.environ, "PYTHONPATH": str(TOP / "clients/python"), "BETABLE_LIBRARY": folder}
-        ended = subprocess.run([sys.executable, "-B", "-c", code], capture_output=True, text=True, env=environment)
-    expect(ended.returncode, 1)
-    expect_within("FileNotFoundError", ended.stderr)
-    for part in (folder, "bin/build_c", "BETABLE_LIBRARY"):
-        expect_within(part, ended.stderr)
-
-
-@both_ways
-def scripts_of_any_form_are_cut_as_they_are_run():
-    """Replies of `run`, beside those of a session that gets each command by itself: texts with line breaks and quotes, and words of replies inside of texts."""
-    client = betable()
-    texts = ["rows 1", "a\nrows 2\nrow x", 'q"\nsums 3\n"', "end\nend", "\nrow 1,x\nrows 1", "refused 1 Syntax"]
-    with client.Session() as session, client.Session() as other:
-        for one in (session, other):
-            one.run("table 4 64 16 1 id:int city:text\n")
-            one.load(list(enumerate(texts)))
-            one.run("index by_city on city\nbuild by_city 10\n")
-        commands = ["scan primary\ngo\n", "get 1\n", "nothing\n", "scan by_city\ngo\n", "image primary\n", "sums by_city 1 id\ngo\n", "get 9\n", "scan nope\ngo\n", "drain primary\n"]
-        dice = random.Random(3)
-        for _ in range(50):
-            chosen = dice.choices(commands, k=dice.randrange(6))
-            script = "\n".join(chosen).encode()
-            replies, places = session._replies_with_places(script)
-            alone = [(reply, reply.startswith(b"refused ")) for reply in map(other.replies, chosen)]
-            for some in (places, None):
-                expect([found[1:] for found in client.replies.answered(client.language.commands(script), replies, some)], alone)
-        rows = session.run("scan primary\ngo\n")[0].rows
-        expect((rows, session.scan()), (list(enumerate(texts)), list(enumerate(texts))))
-        sums = session.run("sums by_city 1 id\ngo\n")[0].rows
-        expect((sums, sums), (session.sums("by_city", 1, "id"), [(1, texts.index(text), text) for text in sorted(texts)]))
-
-
-@both_ways
-def integers_of_numpy_are_ints():
-    try:
-        import numpy
-    except ImportError:
-        print("NumPy is not installed: its scalars are not tested")
-        return
-    client = betable()
-    with client.Session() as session:
-        session.run("table 16 64 16 1 id:int city:text ok:flag\n")
-        expect(session.put([(numpy.int64(5), numpy.str_("a"), True)]), 1)
-        expect(session.scan(), [(5, "a", True)])
-        for row in ((numpy.float64(5), "a", True), (5, "a", numpy.bool_(True)), (numpy.bool_(True), "a", True), (5, numpy.bytes_(b"a"), True)):
-            expect(type(fault_of(lambda: session.put([row]))), client.RowTypeError)
-
-
-def the_page_loads_a_large_file_as_it_says():
-    """The lines of docs/HOW_TO.md on a file that is too large for a script, unchanged, on a small one."""
-    shell, python = (TOP / "docs/HOW_TO.md").read_text().split("## A large CSV file\n")[1].split("\n## ")[0].split("```sh\n")[1].split("```python\n")
-    betable()
-    with tempfile.TemporaryDirectory() as folder:
-        line = shell.split("\n```")[0].replace("examples/", f"{TOP}/examples/").replace("tools/", f"{TOP}/tools/")
-        ended = subprocess.run(["sh", "-c", line], cwd=folder, capture_output=True, text=True)
-        expect(ended.returncode, 0)
-        expect_within("table 16 1024 256 1 id:int city:text qty:int", ended.stdout + ended.stderr)
-        code = python.split("```")[0] + "    print(len(session.scan()))\n"
-        environment = {**os.environ, "PYTHONPATH": str(TOP / "clients/python")}
-        ended = subprocess.run([sys.executable, "-B", "-c", code], cwd=folder, capture_output=True, text=True, env=environment)
-        expect((ended.returncode, ended.stdout, ended.stderr), (0, "12\n", ""))
-
-
-def what_tests_share_is_built():
+def setUpModule():
     """The library, and the extension of the Python client, before tests run side by side."""
     library()
     build_extension()
 
 
-TESTS_OF_TEXTS = [
-    wrong_uses_of_the_python_client_change_nothing,
-    calls_without_a_table_are_refused,
-    names_are_never_a_piece_of_a_script,
-    values_of_all_types_are_stored_exactly_or_refused,
-    texts_are_keys_as_they_are,
-    keys_of_two_columns_have_two_values,
-    messages_that_are_alike_differ_by_their_values,
-    the_reason_is_that_of_the_least_refusal,
-    out_of_memory_says_what_was_carried_out,
-    a_class_with_replies_of_its_own_runs_by_them,
-    a_closed_session_raises,
-    a_session_goes_through_a_pool_of_threads,
-    a_session_works_in_the_threads_of_asyncio,
-    a_call_during_another_one_is_refused,
-    interrupts_leave_a_session_free,
-    threads_without_a_lock_get_their_own_replies_or_a_fault,
-    a_session_that_another_thread_drops_is_closed,
-    usage_has_names_and_is_refused_without_a_tree,
-    refusals_say_what_to_do,
-    reads_of_another_form_are_refused,
-    names_that_are_no_text_are_refused,
-    a_load_names_the_line_of_its_file,
-    a_csv_file_of_any_size_is_put_in_batches,
-    a_csv_file_is_cut_by_lines_where_it_has_no_quotes,
-    rows_come_back_from_a_csv_file_as_they_were,
-    a_csv_file_that_is_not_written_leaves_nothing,
-    exceptions_can_be_pickled,
-    a_session_says_what_it_has,
-    a_missing_library_is_named,
-    scripts_of_any_form_are_cut_as_they_are_run,
-    integers_of_numpy_are_ints,
-    the_page_loads_a_large_file_as_it_says,
-]
-TESTS = []
-BUILDS = [what_tests_share_is_built]
+class Exceptions(TestCase):
+    @both_ways
+    def test_refusals_say_what_to_do(self):
+        """Fields of exceptions: the row of the call, its column, its value, and how many rows were applied before."""
+        client = betable()
+        with client.Session() as session:
+            session.run("table 16 1024 256 1 id:int city:text qty:int\n")
+            fault = fault_of(lambda: session.put(((n, "a", 1 if n != 25 else 2**63) for n in range(40)), most=10))
+            found = fault.row, fault.column, fault.value, fault.taken, fault.line, fault.number, fault.name, fault.item
+            self.assertEqual(found, (26, "qty", 2**63, 20, 1, 6, "BadField", 6))
+            self.assertIn("row 26: column 3 'qty' (int): '9223372036854775808' is over the largest int", str(fault))
+            self.assertIn("(20 rows of this call were applied before it, in earlier batches)", str(fault))
+            self.assertEqual(len(session.scan()), 20)
+            fault = fault_of(lambda: session.put(((n, "a", 1 if n != 125 else "x") for n in range(100, 140)), most=10))
+            self.assertEqual((type(fault), fault.row, fault.column, fault.value, fault.taken), (client.RowTypeError, 26, "qty", "x", 20))
+            self.assertEqual(len(session.scan()), 40)
+            fault = fault_of(lambda: session.run("get 0\nbatch\nput 1,b,5\nput 2,c,y\nend\nget 1\n"))
+            self.assertEqual((fault.line, fault.item, fault.column, fault.value, len(fault.replies)), (2, 2, "qty", "y", 3))
+            self.assertEqual(fault.replies[2].rows, [(1, "a", 1)])
+            fault = fault_of(lambda: session.batch([client.upsert(1, add={"qty": 2**63})]))
+            self.assertEqual((fault.row, fault.column, fault.value), (1, "qty", 2**63))
+
+    def test_reads_of_another_form_are_refused(self):
+        """Their kinds of rows are asked for although they have none."""
+        client = betable()
+        for text in ("sums", "sums primary", "sums primary 1", "sums primary x qty", "sums primary 1x qty", "sums primary -1 qty", "scan", "scan x"):
+            with self.subTest(text=text):
+                with client.Session() as session:
+                    session.run(f"{TABLE}\n")
+                    fault = fault_of(lambda: session.run(f"{text}\ngo\nbatch\nput 1,a,2\nend\n"))
+                    self.assertEqual((type(fault), fault.replies[1:], session.get(1)), (client.Refused, [["batch 1"]], (1, "a", 2)))
+
+    def test_names_that_are_no_text_are_refused(self):
+        client = betable()
+        for text in (
+            b"batch\nups 1,set,\xff,2\nend\n",
+            b"sums primary 1 \xff\ngo\n",
+            b"scan \xff\ngo\n",
+            b"index \xff on qty\n",
+            b"index a on \xff\n",
+            b"\xff\n",
+        ):
+            with self.subTest(text=text):
+                with client.Session() as session:
+                    session.run(f"{TABLE}\n")
+                    self.assertEqual(type(fault_of(lambda: session.run(text))), client.Refused)
+
+    def test_the_reason_is_that_of_the_least_refusal(self):
+        """Of a batch with a line of the wrong length and then a value that is none, the second one is what the refusal names."""
+        client = betable()
+        with client.Session() as session:
+            session.run("table 16 64 16 1 id:int city:text\n")
+            fault = fault_of(lambda: session.run("batch\nput 1\nput x,a\nput y,b\nend\n"))
+            self.assertEqual((fault.number, fault.item, fault.column, fault.value), (6, 2, "id", "x"))
+            fault = fault_of(lambda: session.run("load\nid,city\n1\nx,a\n.\n"))
+            self.assertEqual((fault.number, fault.item, fault.value), (6, 2, "x"))
+
+    @both_ways
+    def test_out_of_memory_says_what_was_carried_out(self):
+        client = betable()
+        with client.Session() as session:
+            session.run("table 16 64 16 1 id:int city:text\n")
+            session.put([(1, "a")])
+            library = library_that_runs(session, b"get 1\n")
+            fault = fault_of(lambda: session.run("get 1\nindex by_city on city\nbuild by_city 9\n"))
+            self.assertEqual((type(fault), fault.replies, fault.is_cut, fault.is_lost, fault.taken), (client.OutOfMemory, b"row 1,a\n", False, False, 0))
+            # Perhaps the index was made, so its columns are known.
+            library.end(session)
+            session.run("index by_city on city\nbuild by_city 9\n")
+            self.assertEqual(session.scan("by_city"), [("a", 1)])
+            library = library_without_memory(session)
+            fault = fault_of(lambda: session.put([(2, "b")]))
+            self.assertEqual((type(fault), fault.replies, str(fault)), (client.OutOfMemory, b"", "betable: out of memory"))
+            library.end(session)
+            self.assertEqual(session.scan(), [(1, "a")])
+
+    @both_ways
+    def test_a_class_with_replies_of_its_own_runs_by_them(self):
+        given = []
+
+        class Shown(betable().Session):
+            def replies(self, script):
+                given.append(script)
+                return b"none\n" if script == b"get 1\n" else super().replies(script)
+
+        with Shown() as session:
+            session.run(SCHEMA)
+            session.put(ROWS)
+            self.assertEqual([reply.rows for reply in session.run("get 2\nget 3\n")], [[ROWS[1]], [ROWS[2]]])
+            self.assertEqual((list(session.run("get 1\n")[0]), given), (["none"], [SCHEMA.encode(), b"get 2\nget 3\n", b"get 1\n"]))
+
+    @both_ways
+    def test_a_closed_session_raises(self):
+        session = filled()
+        for _ in range(2):
+            session.close()
+            self.assertEqual({type(fault_of(lambda: call(session))) for call in CALLS}, {ValueError})
+        self.assertIsNone(betable().Session().__enter__().close())
+
+    @both_ways
+    def test_a_session_goes_through_a_pool_of_threads(self):
+        """Each call is made by some thread of a pool, which holds a lock, and the last thread closes the session."""
+        client, lock, threads = betable(), threading.Lock(), set()
+        session = client.Session()
+
+        def made():
+            session.table("thread:int count:int", keys=1, fanout=4, buffer=8, leaf=4)
+            session.index("by_count", "count")
+
+        def counted(number):
+            with lock:
+                threads.add(threading.get_ident())
+                key, before = number % 7, session.get(number % 7) or (number % 7, 0)
+                session.upsert(key, add={"count": 1})
+                self.assertEqual((session.get(key), session.run(f"get {key}\n")[0].rows), ((key, before[1] + 1), [(key, before[1] + 1)]))
+                session.put([(1_000 + number, number)])
+                self.assertEqual(sum(total for _, total, _ in session.sums("by_count", 1, "count")), sum(row[1] for row in session.scan()))
+            time.sleep(0.001)
+
+        with ThreadPoolExecutor(8) as pool:
+            pool.submit(made).result()
+            list(pool.map(counted, range(350)))
+            self.assertEqual([row for row in session.scan(stop=(1_000,))], [(key, 50) for key in range(7)])
+            self.assertEqual(len(session.scan("by_count")), 357)
+            pool.submit(session.close).result()
+        self.assertEqual((len(threads) > 1, type(fault_of(session.scan))), (True, ValueError))
+
+    @both_ways
+    def test_a_session_works_in_the_threads_of_asyncio(self):
+        async def all_at_once():
+            session, lock = await asyncio.to_thread(betable().Session), asyncio.Lock()
+
+            async def called(function, *given):
+                async with lock:
+                    return await asyncio.to_thread(function, *given)
+
+            await called(session.table, "id:int qty:int")
+            await asyncio.gather(*(called(session.put, [(number, number)]) for number in range(100)))
+            self.assertEqual(await called(session.scan), [(number, number) for number in range(100)])
+            await called(session.close)
+
+        asyncio.run(all_at_once())
+
+    @both_ways
+    def test_a_call_during_another_one_is_refused(self):
+        """Of another thread, and of the same one, while the library carries out a script or sums. The call that was first ends as it should."""
+        for name, call in (("betable_run", lambda: session.run("get 1\n")[0].rows), ("betable_sums", lambda: session.sums("by_city", 1, "id"))):
+            session = filled()
+            wanted, begun, ended, found = call(), threading.Event(), threading.Event(), []
+
+            def waits(handle, given, length, *fault):
+                found.append(fault_of(lambda: session.get(1)))
+                begun.set()
+                self.assertEqual(ended.wait(60), True)
+                return getattr(library.library, name)(handle, ctypes.string_at(given, length), length, *fault)
+
+            function = getattr(session._library, name)
+            data = [ctypes.c_void_p if kind is ctypes.c_char_p else kind for kind in function.argtypes]
+            library = OtherLibrary(session, {name: ctypes.CFUNCTYPE(function.restype, *data)(waits)})
+            thread = threading.Thread(target=lambda: found.append(call()))
+            thread.start()
+            self.assertEqual(begun.wait(60), True)
+            faults = [fault_of(lambda: one(session)) for one in [*CALLS, lambda session: session.close()]]
+            ended.set()
+            thread.join()
+            library.end(session)
+            self.assertEqual({type(fault) for fault in [*faults, found[0]]}, {RuntimeError})
+            self.assertIn("one call at a time", str(faults[0]))
+            self.assertEqual((found[1:], session.scan()), ([wanted], ROWS))
+
+    def test_interrupts_leave_a_session_free(self):
+        """Ctrl-C, at many places of calls by the extension and by ctypes: no call takes the session for good."""
+        for pure in "01":
+            with self.subTest(pure=pure):
+                code = INTERRUPTED.format(path=str(TOP / "clients/python"))
+                settings = {**os.environ, "BETABLE_LIBRARY": library(), "BETABLE_PURE": pure}
+                ended = subprocess.run([sys.executable, "-B", "-c", code], capture_output=True, text=True, env=settings)
+                self.assertEqual((ended.returncode, ended.stderr), (0, ""))
+                count, rest = ended.stdout.split(" ", 1)
+                self.assertEqual((int(count) > 1_400, rest), (True, "[(0, 0), (1, 1)] None\n"))
+
+    @both_ways
+    def test_threads_without_a_lock_get_their_own_replies_or_a_fault(self):
+        session, wrong, refused, rows = betable().Session(), [], [], 2_000
+        session.table("id:int qty:int")
+        session.put([(number, number) for number in range(rows)])
+        is_over, interval = time.monotonic() + 0.7, sys.getswitchinterval()
+
+        def reads(first):
+            key = first
+            while time.monotonic() < is_over:
+                key = (key + 7) % rows
+                for call, wanted in (
+                    (lambda: session.run(f"get {key}\nscan primary\nfrom {key}\nto {key + 1}\ngo\n")[1].rows, [(key, key)]),
+                    (lambda: session.get(key), (key, key)),
+                    (lambda: session.scan("primary", (key,), (key + 1,)), [(key, key)]),
+                    (lambda: session.sums("primary", 1, "qty", (key,), (key + 1,)), [(1, key, key)]),
+                ):
+                    try:
+                        found = call()
+                    except RuntimeError as fault:
+                        refused.append(fault)
+                        continue
+                    except Exception as fault:
+                        found = fault
+                    if found != wanted:
+                        wrong.append((found, wanted))
+
+        threads = [threading.Thread(target=reads, args=[first]) for first in range(4)]
+        sys.setswitchinterval(1e-6)
+        try:
+            for thread in threads:
+                thread.start()
+        finally:
+            for thread in threads:
+                thread.join()
+            sys.setswitchinterval(interval)
+        self.assertEqual((wrong[:3], len(refused) > 0, session.get(5)), ([], True, (5, 5)))
+
+    @both_ways
+    def test_a_session_that_another_thread_drops_is_closed(self):
+        sessions, closed = [filled()], []
+        close = sessions[0]._library.betable_close
+        OtherLibrary(sessions[0], {"betable_close": lambda handle: closed.append((threading.get_ident(), close(handle)))})
+        thread = threading.Thread(target=sessions.clear)
+        thread.start()
+        number = thread.ident
+        thread.join()
+        self.assertEqual(closed, [(number, 0)])
+
+    def test_usage_has_names_and_is_refused_without_a_tree(self):
+        client = betable()
+        with filled() as session, client.Session() as other:
+            self.assertEqual([(use.rows, use.messages, use.height) for use in (session.usage(), session.usage("by_city"))], [(3, 0, 1)] * 2)
+            faults = [fault_of(call) for call in (lambda: session.usage("nothing"), other.usage, lambda: session.usage(5), lambda: session.usage("a b"))]
+            self.assertEqual([type(fault) for fault in faults], [client.Refused, client.Refused, TypeError, ValueError])
+            self.assertEqual([fault.name for fault in faults[:2]], ["NoSuchTree", "NoTable"])
+
+    def test_a_load_names_the_line_of_its_file(self):
+        client = betable()
+        with tempfile.TemporaryDirectory() as folder, client.Session() as session:
+            session.run("table 16 64 16 1 id:int city:text\n")
+            path = Path(folder) / "cities.csv"
+            cases = [
+                (b"id,city\n1,Oslo\n\n2,Bergen,x\n", client.Refused, f"{path}, line 4: 3 fields, and a record has 2 (id, city)"),
+                (b"id,city\n1,Oslo\nx,Bergen\n", client.Refused, f"{path}, line 3: column 1 'id' (int): 'x' is no"),
+                (b"id,town\n1,Oslo\n", client.Refused, f"{path}, line 1: column 2 'city': the header has 'town' there"),
+                (b"id,city\n1,Oslo\n1,Bergen\n", client.Refused, "refused 14 DuplicateKey 2"),
+                (b"id,city\n1,Oslo\n.\n2,Bergen\n", ValueError, f"{path}, line 3: a line that is a point alone would end the load"),
+                (b"id,city\n1,\xff\n", client.Refused, f"{path}, line 2: column 2 'city' (text): byte 1 of"),
+                (b"\x1f\x8b\x08\0\0\0", ValueError, f"{path} is compressed by gzip"),
+                (b"", client.Refused, "the block has no header"),
+            ]
+            for text, kind, said in cases:
+                with self.subTest(text=text):
+                    path.write_bytes(text)
+                    fault = fault_of(lambda: session.load_csv(path))
+                    self.assertEqual(type(fault), kind)
+                    self.assertIn(said, str(fault))
+                    self.assertEqual(session.scan(), [])
+            path.write_bytes(b'\xef\xbb\xbfid,city\r\n2,"a\nb"\r\n1,Oslo')
+            self.assertEqual((session.load_csv(str(path)), session.scan()), (2, [(1, "Oslo"), (2, "a\nb")]))
+
+    @both_ways
+    def test_a_csv_file_of_any_size_is_put_in_batches(self):
+        """With records at every place of the blocks in which it is read, beside a load of the same file."""
+        client, calls = betable(), []
+        module = sys.modules["betable.csv_input"]
+        block = module.BLOCK
+        texts = ["Oslo", '"Bergen, west"', '"a ""b"""', '5" wide', "", "æ", ".", "end"]
+        text = (
+            "\ufeffid,city\n" + "".join(f"{number},{texts[number % 8]}" + ("\r\n", "\n", "\n\n", "\r")[number // 8 % 4] for number in range(300)) + "300,last"
+        )
+        with tempfile.TemporaryDirectory() as folder, client.Session() as loaded:
+            path = Path(folder) / "cities.csv"
+            path.write_text(text, newline="")
+            size = path.stat().st_size
+            loaded.table("id:int city:text")
+            reader = sys.modules["betable.calls"]
+            try:
+                reader.BLOCK = 1_000
+                self.assertEqual(
+                    (loaded.load_csv(path, lambda *call: calls.append(call)), calls),
+                    (301, [(min(read, size), size) for read in range(1_000, size + 1_000, 1_000)]),
+                )
+            finally:
+                reader.BLOCK = block
+            try:
+                for module.BLOCK in (1, 7, 50, 51, 52, 53, 1_000, block):
+                    for most in (1, 7, 301, client.MOST_MESSAGES):
+                        with self.subTest(module=module.BLOCK, most=most):
+                            with client.Session() as session:
+                                session.table("id:int city:text")
+                                calls.clear()
+                                self.assertEqual(session.put_csv(str(path), lambda *call: calls.append(call), most), 301)
+                                self.assertTrue(session.scan() == loaded.scan())
+                                self.assertEqual((calls[-1], {total for _, total in calls}, calls), ((size, size), {size}, sorted(calls)))
+                                self.assertGreaterEqual(len(calls), 301 // most)
+            finally:
+                module.BLOCK = block
+            with client.Session() as session:
+                session.table("id:int city:text")
+                session.put([(1, "old"), (900, "old")])
+                self.assertEqual((session.put_csv(path), session.get(1), session.get(900)), (301, (1, "Bergen, west"), (900, "old")))
+                before = session.scan()
+                cases = [
+                    ("id,city\n1,a\n\n2,b,x\n", client.Refused, f"{path}, line 4: 3 fields, and a put has 2 (id, city)"),
+                    ('id,city\n1,a\nx,"b"\n', client.Refused, f"{path}, line 3: column 1 'id' (int): 'x' is no"),
+                    ('id,city\n1,a\n3,"b\nc"\n', client.RowValueError, f"{path}, line 3: a field has a line break, which only load_csv takes"),
+                    ('id,city\n1,a\n\n3,"b\rc"\n', client.RowValueError, f"{path}, line 4: a field has a line break, which only load_csv takes"),
+                    ('id,city\n1,a\n3,"b\n', client.RowValueError, f"{path}, line 3: a field has a line break"),
+                    ("id,town\n1,a\n", client.RowValueError, f"{path}, line 1: the header is 'id,town', and the columns are id,city"),
+                    ("\n\n1,a\n", client.RowValueError, f"{path}, line 3: the header is '1,a', and the columns are id,city"),
+                    ("", client.RowValueError, f"{path}: the header is '', and the columns are id,city"),
+                ]
+                for given, kind, said in cases:
+                    with self.subTest(given=given):
+                        path.write_text(given, newline="")
+                        fault = fault_of(lambda: session.put_csv(path))
+                        self.assertEqual(type(fault), kind)
+                        self.assertIn(said, str(fault))
+                        self.assertEqual(session.scan(), before)
+                path.write_text("id,city\n" + "".join(f"{number},a\n" for number in range(2_000, 2_025)) + "x,b\n")
+                fault = fault_of(lambda: session.put_csv(path, most=10))
+                self.assertEqual((type(fault), fault.taken, fault.column), (client.Refused, 19, "id"))
+                self.assertIn(f"{path}, line 27: column 1 'id' (int): 'x' is no", str(fault))
+                self.assertEqual(len(session.scan("primary", (2_000,))), 19)
+                path.write_bytes(b"\x1f\x8b\x08\0")
+                self.assertIn("is compressed by gzip", str(fault_of(lambda: session.put_csv(path))))
+                self.assertEqual([type(fault_of(lambda: session.put_csv(path, None, most))) for most in (0, "1")], [ValueError, TypeError])
+
+    @both_ways
+    def test_a_csv_file_is_cut_by_lines_where_it_has_no_quotes(self):
+        """With the same records, and the same lines of faults, as a load has. Where a block has a quote or a carriage return, its records are found one by
+        one."""
+        client, module = betable(), sys.modules["betable.csv_input"]
+        block, cut, cuts = module.BLOCK, module._records, []
+        plain = "\ufeffid,city\n" + "".join(f"{number},city {number % 9}\n" + "\n" * (number % 3 == 0) for number in range(200))
+        quoted = "".join(f'{number},"a ""b"", {number}"\r\n\r\n' for number in range(200, 240))
+        after = "".join(f"{number},{'x' * (number % 60)}\n" for number in range(240, 400))
+        module._records = lambda *given: cuts.append(given[0]) or cut(*given)
+        try:
+            with tempfile.TemporaryDirectory() as folder:
+                path = Path(folder) / "cities.csv"
+                for text, count in (
+                    (plain, 200),
+                    (plain + quoted, 240),
+                    (plain + quoted + after, 400),
+                    (plain.removesuffix("\n"), 200),
+                    (plain.replace("\n", "\r"), 200),
+                ):
+                    path.write_text(text, newline="")
+                    for module.BLOCK in (1, 30, 64, 1_000, block):
+                        with self.subTest(module=module.BLOCK, count=count):
+                            cuts.clear()
+                            with client.Session() as session, client.Session() as loaded:
+                                session.table("id:int city:text")
+                                loaded.table("id:int city:text")
+                                self.assertEqual((session.put_csv(path, most=50), loaded.load_csv(path)), (count, count))
+                                self.assertTrue(session.scan() == loaded.scan())
+                            self.assertEqual(bool(cuts), '"' in text or "\r" in text)
+                            if module.BLOCK < 1_000 and text.endswith(after):
+                                # After the quotes it is cut by lines again.
+                                self.assertEqual(any(b"399," in one for one in cuts), False)
+                    wrong = text + "\n\nx,y\n"
+                    path.write_text(wrong, newline="")
+                    line = wrong[: wrong.index("x,y")].count("\n") + 1
+                    for module.BLOCK in (1, 30, 1_000, block):
+                        with client.Session() as session:
+                            session.table("id:int city:text")
+                            fault = fault_of(lambda: session.put_csv(path, most=50))
+                            self.assertEqual(type(fault), client.Refused)
+                            self.assertIn(f"{path}, line {line}: column 1 'id' (int): 'x' is no", str(fault))
+                            self.assertEqual((fault.taken, len(session.scan())), ((count + 1) // 50 * 50 - 1, (count + 1) // 50 * 50 - 1))
+        finally:
+            module.BLOCK, module._records = block, cut
+
+    @both_ways
+    def test_rows_come_back_from_a_csv_file_as_they_were(self):
+        """Of more rows than a page has, with all that needs quotes, in the order of the tree. What `put_csv` takes has no line breaks."""
+        client, module = betable(), sys.modules["betable.calls"]
+        texts = ["", ".", "..", " x ", "a,b", '"', 'say "so"', "\ufeff", "\ufeffx", "æ", "\0", "end", "put 1", "'", "#", "\t"]
+        breaks = ["a\nb", "\r\n", "\n\n", 'x"\n,"y', "a\rb", "\n"]
+        page = module.CSV_ROWS
+        with tempfile.TemporaryDirectory() as folder:
+            path = Path(folder) / "rows.csv"
+            try:
+                for module.CSV_ROWS in (1, 7, page):
+                    for given, calls in ((texts, ("load_csv", "put_csv")), (texts + breaks, ("load_csv",))):
+                        for columns, rows in (
+                            ("t:text", [(text,) for text in given]),
+                            ("t:text n:int f:flag b:bytes", [(text, place - 3, place % 2 == 1, bytes(range(place))) for place, text in enumerate(given)]),
+                            ("n:int t:text", []),
+                        ):
+                            with client.Session() as session:
+                                session.table(columns)
+                                session.load(rows)
+                                self.assertEqual(session.to_csv(path), len(rows))
+                                wanted = session.scan()
+                            for call in calls:
+                                with self.subTest(columns=columns, call=call):
+                                    with client.Session() as session:
+                                        session.table(columns)
+                                        self.assertEqual(getattr(session, call)(path), len(rows))
+                                        self.assertEqual(session.scan(), wanted)
+                            path.unlink()
+            finally:
+                module.CSV_ROWS = page
+            path.write_bytes(b'id,city\r\n\r\n2,"a ""b"", c"\r\n\r\n\r\n1,Oslo\r\n3,\r\n')
+            with client.Session() as session, client.Session() as again:
+                for one in (session, again):
+                    one.table("id:int city:text")
+                session.index("by_city", on="city")
+                self.assertEqual((session.put_csv(path), session.to_csv(f"{folder}/a.csv")), (3, 3))
+                self.assertEqual(Path(folder, "a.csv").read_bytes(), b'id,city\n1,Oslo\n2,"a ""b"", c"\n3,""\n')
+                self.assertEqual((again.put_csv(f"{folder}/a.csv"), again.scan()), (3, session.scan()))
+                self.assertEqual(session.to_csv(Path(folder, "b.csv"), "by_city", ("O",), ("a",)), 1)
+                self.assertEqual(Path(folder, "b.csv").read_bytes(), b"city,id\nOslo,1\n")
+
+    @both_ways
+    def test_a_csv_file_that_is_not_written_leaves_nothing(self):
+        client = betable()
+        with tempfile.TemporaryDirectory() as folder, client.Session() as session, client.Session() as other:
+            path = Path(folder) / "rows.csv"
+            session.table("id:int city:text")
+            session.put([(number, "x") for number in range(9)])
+            session.index("building", on="city", build=False)
+            path.write_bytes(b"before\n")
+            for call, kind, said in (
+                (lambda: session.to_csv(path), FileExistsError, f"{path} is there already"),
+                (lambda: session.to_csv(f"{folder}/none/rows.csv"), FileNotFoundError, "none/rows.csv.part"),
+                (lambda: session.to_csv(f"{folder}/a", "none"), client.Refused, "no tree is named 'none'"),
+                (lambda: session.to_csv(f"{folder}/b", "building"), client.Refused, "refused 11 Building"),
+                (lambda: session.to_csv(f"{folder}/c", "primary", 5), client.RowTypeError, "a bound is a tuple"),
+                (lambda: other.to_csv(f"{folder}/d"), client.Refused, "refused 3 NoTable"),
+            ):
+                with self.subTest(said=said):
+                    fault = fault_of(call)
+                    self.assertEqual(type(fault), kind)
+                    self.assertIn(said, str(fault))
+            self.assertEqual(([one.name for one in Path(folder).iterdir()], path.read_bytes()), (["rows.csv"], b"before\n"))
+
+    def test_exceptions_can_be_pickled(self):
+        client = betable()
+        faults = [
+            client.Refused(3, 6, "BadField", 2, [["none"]], reason="why", column="qty", value=2**63, row=7, taken=5),
+            client.OutOfMemory(b"table 1\n", True, True, 4),
+            client.RowTypeError("why", row=2, column="city", value=b"x", taken=1),
+            client.RowValueError("why"),
+            fault_of(lambda: filled().run("get 1\nscan primary\ngo\nnothing\n")),
+        ]
+        for fault in faults:
+            again = pickle.loads(pickle.dumps(fault))
+            self.assertEqual((type(again), str(again), again.__dict__), (type(fault), str(fault), fault.__dict__))
+        self.assertEqual(pickle.loads(pickle.dumps(faults[-1])).replies[1].rows, [*ROWS])
+
+    @both_ways
+    def test_a_session_says_what_it_has(self):
+        client = betable()
+        session = client.Session()
+        self.assertEqual(repr(session), "<betable.Session, open, without a table>")
+        session.run("table 16 64 16 1 id:int city:text\n")
+        session.put([(1, "a")])
+        session.run("index by_city on city\n")
+        self.assertEqual(repr(session), "<betable.Session, open, 2 columns, indexes: by_city (building)>")
+        session.run("build by_city 10\n")
+        self.assertEqual(repr(session), "<betable.Session, open, 2 columns, indexes: by_city (complete)>")
+        session.close()
+        self.assertEqual(repr(session), "<betable.Session, closed>")
+
+    def test_a_missing_library_is_named(self):
+        code = "import betable\nbetable.Session()"
+        with tempfile.TemporaryDirectory() as folder:
+            environment = {**os.environ, "PYTHONPATH": str(TOP / "clients/python"), "BETABLE_LIBRARY": folder}
+            ended = subprocess.run([sys.executable, "-B", "-c", code], capture_output=True, text=True, env=environment)
+        self.assertEqual(ended.returncode, 1)
+        self.assertIn("FileNotFoundError", ended.stderr)
+        for part in (folder, "bin/build_c", "BETABLE_LIBRARY"):
+            self.assertIn(part, ended.stderr)
+
+    @both_ways
+    def test_scripts_of_any_form_are_cut_as_they_are_run(self):
+        """Replies of `run`, beside those of a session that gets each command by itself: texts with line breaks and quotes, and words of replies inside of
+        texts."""
+        client = betable()
+        texts = ["rows 1", "a\nrows 2\nrow x", 'q"\nsums 3\n"', "end\nend", "\nrow 1,x\nrows 1", "refused 1 Syntax"]
+        with client.Session() as session, client.Session() as other:
+            for one in (session, other):
+                one.run("table 4 64 16 1 id:int city:text\n")
+                one.load(list(enumerate(texts)))
+                one.run("index by_city on city\nbuild by_city 10\n")
+            commands = [
+                "scan primary\ngo\n",
+                "get 1\n",
+                "nothing\n",
+                "scan by_city\ngo\n",
+                "image primary\n",
+                "sums by_city 1 id\ngo\n",
+                "get 9\n",
+                "scan nope\ngo\n",
+                "drain primary\n",
+            ]
+            dice = random.Random(3)
+            for _ in range(50):
+                chosen = dice.choices(commands, k=dice.randrange(6))
+                script = "\n".join(chosen).encode()
+                replies, places = session._replies_with_places(script)
+                alone = [(reply, reply.startswith(b"refused ")) for reply in map(other.replies, chosen)]
+                for some in (places, None):
+                    self.assertEqual([found[1:] for found in client.replies.answered(client.language.commands(script), replies, some)], alone)
+            rows = session.run("scan primary\ngo\n")[0].rows
+            self.assertEqual((rows, session.scan()), (list(enumerate(texts)), list(enumerate(texts))))
+            sums = session.run("sums by_city 1 id\ngo\n")[0].rows
+            self.assertEqual((sums, sums), (session.sums("by_city", 1, "id"), [(1, texts.index(text), text) for text in sorted(texts)]))
+
+    @both_ways
+    def test_integers_of_numpy_are_ints(self):
+        try:
+            import numpy
+        except ImportError:
+            print("NumPy is not installed")
+            return
+        client = betable()
+        with client.Session() as session:
+            session.run("table 16 64 16 1 id:int city:text ok:flag\n")
+            self.assertEqual(session.put([(numpy.int64(5), numpy.str_("a"), True)]), 1)
+            self.assertEqual(session.scan(), [(5, "a", True)])
+            for row in ((numpy.float64(5), "a", True), (5, "a", numpy.bool_(True)), (numpy.bool_(True), "a", True), (5, numpy.bytes_(b"a"), True)):
+                self.assertEqual(type(fault_of(lambda: session.put([row]))), client.RowTypeError)
+
+    def test_the_page_loads_a_large_file_as_it_says(self):
+        """The lines of docs/HOW_TO.md on a file that is too large for a script, unchanged, on a small one."""
+        shell, python = (TOP / "docs/HOW_TO.md").read_text().split("## A large CSV file\n")[1].split("\n## ")[0].split("```sh\n")[1].split("```python\n")
+        betable()
+        with tempfile.TemporaryDirectory() as folder:
+            line = shell.split("\n```")[0].replace("tools/", f"{TOP}/tools/").replace("examples/", f"{TOP}/examples/")
+            ended = subprocess.run(["sh", "-c", line], cwd=folder, capture_output=True, text=True)
+            self.assertEqual(ended.returncode, 0)
+            self.assertIn("table 16 1024 256 1 id:int city:text qty:int", ended.stdout + ended.stderr)
+            code = python.split("```")[0] + "    print(len(session.scan()))\n"
+            environment = {**os.environ, "PYTHONPATH": str(TOP / "clients/python")}
+            ended = subprocess.run([sys.executable, "-B", "-c", code], cwd=folder, capture_output=True, text=True, env=environment)
+            self.assertEqual((ended.returncode, ended.stdout, ended.stderr), (0, "12\n", ""))

@@ -3,9 +3,9 @@
 import re
 import tempfile
 from pathlib import Path
+from unittest import TestCase
 
-from common import expect, expect_within, run, run_forked, TOP
-
+from .common import run, run_forked, TOP
 
 # Two crates, and a function `answer` with the clauses that the list begins with. No definition named `unused` counts.
 LISTED = {
@@ -143,84 +143,22 @@ Of the libraries:
 """
 
 
-def reading_list(*words, file="crates.txt", old="", new=""):
+def reading_list(test, *words, file="crates.txt", old="", new=""):
     """The status, output and errors of tools/reading_list on the two crates, with a text of a file changed."""
     with tempfile.TemporaryDirectory() as folder:
         for name, text in LISTED.items():
             path = Path(folder) / name
             path.parent.mkdir(parents=True, exist_ok=True)
             path.write_text(text)
-        expect_within(old, LISTED[file])
+        test.assertIn(old, LISTED[file])
         (Path(folder) / file).write_text(LISTED[file].replace(old, new))
         return run_forked("tools/reading_list", "--top", folder, *words, "upper/src/run.rt:answer")
 
 
-def reading_list_of_the_theorem_is_made():
-    """In lines of at most 160 letters."""
-    status, text, errors = run("tools/reading_list")
-    expect((status, errors), (0, ""))
-    expect([line for line in text.splitlines() if len(line) > 160], [])
-    expect(int(text.split()[0]) > 400, True)
-
-
-def reading_list_follows_each_form_of_a_name():
-    """Fields, constructors, blocks, helpers, names passed on, renamed or after a module, ghost members, models; and no bound name."""
-    status, text, errors = reading_list()
-    expect((status, errors), (0, ""))
-    expect(text.strip().splitlines(), LIST.strip().splitlines())
-
-
-def reading_list_finds_a_changed_definition():
-    """Each of these changes one name, and with it the list."""
-    answers, weights = "crates/upper/specs/Answers.antt", "crates/lower/specs/Weights.antt"
-    listed = "- `lower/specs/Weights`: `weight_of`, `more`, `Row`, `Cell`, `total`\n"
-    for file, old, new, expected in (
-        ("crates/upper/src/run.rt", "≡ LIMIT", "≡ spec.unused", listed.replace("\n", ", `unused`\n")),
-        ("crates/upper/src/run.rt", "spec.weight_of unused ≡ LIMIT", "unused ≡ spec.total", listed),
-        ("crates/upper/specs/Holds.antt", "pub row : Row", "pub row : ℕ", listed.replace(" `Row`, `Cell`,", "")),
-        ("crates/lower/src/text.rt", "Value = { Letters }", "Value = { Letters × Texts }", None),
-        ("crates/lower/specs/Shown.antt", ", weight_of}", "}", None),
-        (answers, "total xs = zero", "total xs = unused (λ unused. weight)", "`is_kind`, `unused`\n"),
-        (answers, "total xs = zero", "total xs = (λ unused. zero, unused)", "`is_kind`, `unused`\n"),
-        (answers, "check step = is_light (entry step)", "check step = true", "- `upper/specs/Answers`: `answer_of`, `total`\n"),
-        (answers, "else total rest", "else totals rest", None),
-        (weights, "suc (total n)", "suc n", listed.replace(", `total`", "")),
-        (weights, "suc (total n)", "unused", listed.replace("total", "unused")),
-        (weights, "suc (total n)", "Left", "`Row`, `Side`, `Cell`\n"),
-        (weights, "  more n", "  unfolding unused\n  more n", listed.replace("\n", ", `unused`\n")),
-        (weights, "Short : Cell", "Short : Row", listed.replace("`Cell`, ", "")),
-        (weights, "Cell = records", "Cell = (unused : Row) × weight_of unused", listed),
-    ):
-        status, text, errors = reading_list(file=file, old=old, new=new)
-        expect(status, 0 if expected else 1)
-        expect_within(expected or "reading_list: ", text + errors)
-
-
-def reading_list_follows_a_member_to_the_trait_above():
-    run_file = "crates/upper/src/run.rt"
-    source = LISTED[run_file]
-    changed = source.replace("V: Merge", "V: Ordered").replace("{LIMIT, Merge}", "{LIMIT, Ordered}")
-    status, text, errors = reading_list(file=run_file, old=source, new=changed)
-    expect((status, errors), (0, ""))
-    expect(text.strip().splitlines(), LIST.strip().splitlines())
-
-
-def reading_list_names_what_nothing_explains():
-    status, text, errors = reading_list(file="crates/lower/specs/Weights.antt", old="suc (total n)", new="suc (totals n)")
-    expect((status, text, errors), (1, "", "reading_list: lower/specs/Weights: more: nothing explains totals\n"))
-
-
-def reading_list_names_two_definitions_of_one_name():
-    status, text, errors = reading_list("--doubles")
-    expect((status, errors, text.splitlines()[0]), (1, "", "total: lower/specs/Weights, upper/specs/Answers"))
-    status, text, errors = reading_list("--doubles", file="crates/lower/specs/Weights.antt", old="total", new="count")
-    expect((status, text.splitlines()), (0, ["0 names stand for two definitions"]))
-
-
-def definitions_of(*roots):
+def definitions_of(test, *roots):
     """The definitions that the clauses of these functions rest on, by file, as bt_shell/specs/Runs. Where none is given, those of the theorem."""
     status, text, errors = run_forked("tools/reading_list", *roots)
-    expect((status, errors), (0, ""))
+    test.assertEqual((status, errors), (0, ""))
     entries = re.split(r"^- ", text.partition("Types and constants")[0], flags=re.MULTILINE)[1:]
     return {names[0]: names[1:] for names in (re.findall(r"`([^`]+)`", entry) for entry in entries)}
 
@@ -234,40 +172,78 @@ def steps_of_reading():
         yield int(re.match(r"\*\*(\d+) lines\.\*\*", step).group(1)), files
 
 
-def steps_of_reading_have_each_file_of_the_list_once():
-    expect(sorted(file for _, files in steps_of_reading() for file in files), sorted(definitions_of()))
+class ReadingList(TestCase):
+    def test_reading_list_of_the_theorem_is_made(self):
+        """In lines of at most 160 letters."""
+        status, text, errors = run("tools/reading_list")
+        self.assertEqual((status, errors), (0, ""))
+        self.assertEqual([line for line in text.splitlines() if len(line) > 160], [])
+        self.assertGreater(int(text.split()[0]), 400)
 
+    def test_reading_list_follows_each_form_of_a_name(self):
+        """Fields, constructors, blocks, helpers, names passed on, renamed or after a module, ghost members, models; and no bound name."""
+        status, text, errors = reading_list(self)
+        self.assertEqual((status, errors), (0, ""))
+        self.assertEqual(text.strip().splitlines(), LIST.strip().splitlines())
 
-def steps_of_reading_have_their_numbers_of_lines():
-    for count, files in steps_of_reading():
-        expect((files, count), (files, sum(len((TOP / f"crates/{file}.antt").read_text().splitlines()) for file in files)))
+    def test_reading_list_finds_a_changed_definition(self):
+        """Each of these changes one name, and with it the list."""
+        answers, weights = "crates/upper/specs/Answers.antt", "crates/lower/specs/Weights.antt"
+        listed = "- `lower/specs/Weights`: `weight_of`, `more`, `Row`, `Cell`, `total`\n"
+        for file, old, new, expected in (
+            ("crates/upper/src/run.rt", "≡ LIMIT", "≡ spec.unused", listed.replace("\n", ", `unused`\n")),
+            ("crates/upper/src/run.rt", "spec.weight_of unused ≡ LIMIT", "unused ≡ spec.total", listed),
+            ("crates/upper/specs/Holds.antt", "pub row : Row", "pub row : ℕ", listed.replace(" `Row`, `Cell`,", "")),
+            ("crates/lower/src/text.rt", "Value = { Letters }", "Value = { Letters × Texts }", None),
+            ("crates/lower/specs/Shown.antt", ", weight_of}", "}", None),
+            (answers, "total xs = zero", "total xs = unused (λ unused. weight)", "`is_kind`, `unused`\n"),
+            (answers, "total xs = zero", "total xs = (λ unused. zero, unused)", "`is_kind`, `unused`\n"),
+            (answers, "check step = is_light (entry step)", "check step = true", "- `upper/specs/Answers`: `answer_of`, `total`\n"),
+            (answers, "else total rest", "else totals rest", None),
+            (weights, "suc (total n)", "suc n", listed.replace(", `total`", "")),
+            (weights, "suc (total n)", "unused", listed.replace("total", "unused")),
+            (weights, "suc (total n)", "Left", "`Row`, `Side`, `Cell`\n"),
+            (weights, "  more n", "  unfolding unused\n  more n", listed.replace("\n", ", `unused`\n")),
+            (weights, "Short : Cell", "Short : Row", listed.replace("`Cell`, ", "")),
+            (weights, "Cell = records", "Cell = (unused : Row) × weight_of unused", listed),
+        ):
+            status, text, errors = reading_list(self, file=file, old=old, new=new)
+            self.assertEqual(status, 0 if expected else 1)
+            self.assertIn(expected or "reading_list: ", text + errors)
 
+    def test_reading_list_follows_a_member_to_the_trait_above(self):
+        run_file = "crates/upper/src/run.rt"
+        source = LISTED[run_file]
+        changed = source.replace("V: Merge", "V: Ordered").replace("{LIMIT, Merge}", "{LIMIT, Ordered}")
+        status, text, errors = reading_list(self, file=run_file, old=source, new=changed)
+        self.assertEqual((status, errors), (0, ""))
+        self.assertEqual(text.strip().splitlines(), LIST.strip().splitlines())
 
-def sum_of_the_steps_of_reading_is_that_of_the_document():
-    steps = list(steps_of_reading())
-    expect_within(f"{sum(count for count, _ in steps):,} lines in {sum(len(files) for _, files in steps)} files", (TOP / "docs/VERIFYING.md").read_text())
+    def test_reading_list_names_what_nothing_explains(self):
+        status, text, errors = reading_list(self, file="crates/lower/specs/Weights.antt", old="suc (total n)", new="suc (totals n)")
+        self.assertEqual((status, text, errors), (1, "", "reading_list: lower/specs/Weights: more: nothing explains totals\n"))
 
+    def test_reading_list_names_two_definitions_of_one_name(self):
+        status, text, errors = reading_list(self, "--doubles")
+        self.assertEqual((status, errors, text.splitlines()[0]), (1, "", "total: lower/specs/Weights, upper/specs/Answers"))
+        status, text, errors = reading_list(self, "--doubles", file="crates/lower/specs/Weights.antt", old="total", new="count")
+        self.assertEqual((status, text.splitlines()), (0, ["0 names stand for two definitions"]))
 
-def names_of_the_theorem_are_defined_in_their_files():
-    run_file = "bt_shell/src/script_run.rt"
-    files = definitions_of(*(f"{run_file}:{name}" for name in ("replies_to", "run_script", "run_commands")))
-    named = re.findall(r"^\| .+ \| `(\w+)` \| (\S+) \|$", (TOP / "docs/THEOREM.md").read_text(), re.MULTILINE)
-    expect(len(named) > 30, True)
-    expect([(name, file) for name, file in named if name not in files.get(file, [])], [])
+    def test_steps_of_reading_have_each_file_of_the_list_once(self):
+        self.assertEqual(sorted(file for _, files in steps_of_reading() for file in files), sorted(definitions_of(self)))
 
+    def test_steps_of_reading_have_their_numbers_of_lines(self):
+        for count, files in steps_of_reading():
+            with self.subTest(files=files):
+                self.assertEqual(count, sum(len((TOP / f"crates/{file}.antt").read_text().splitlines()) for file in files))
 
-# Those that ask for no program.
-TESTS_OF_TEXTS = [
-    reading_list_of_the_theorem_is_made,
-    reading_list_follows_each_form_of_a_name,
-    reading_list_finds_a_changed_definition,
-    reading_list_follows_a_member_to_the_trait_above,
-    reading_list_names_what_nothing_explains,
-    reading_list_names_two_definitions_of_one_name,
-    steps_of_reading_have_each_file_of_the_list_once,
-    steps_of_reading_have_their_numbers_of_lines,
-    sum_of_the_steps_of_reading_is_that_of_the_document,
-    names_of_the_theorem_are_defined_in_their_files,
-]
+    def test_sum_of_the_steps_of_reading_is_that_of_the_document(self):
+        steps = list(steps_of_reading())
+        self.assertIn(f"{sum(count for count, _ in steps):,} lines in {sum(len(files) for _, files in steps)} files", (TOP / "docs/VERIFYING.md").read_text())
 
-TESTS: list[object] = []
+    def test_names_of_the_theorem_are_defined_in_their_files(self):
+        run_file = "bt_shell/src/script_run.rt"
+        files = definitions_of(self, *(f"{run_file}:{name}" for name in ("replies_to", "run_script", "run_commands")))
+        named = re.findall(r"^\| .+ \| `(\w+)` \| (\S+) \|$", (TOP / "docs/THEOREM.md").read_text(), re.MULTILINE)
+        self.assertGreater(len(named), 30)
+        self.assertEqual([(name, file) for name, file in named if name not in files.get(file, [])], [])

@@ -1,6 +1,6 @@
 """Checks of a log on a server, which layers.py runs by the Python that has the modules of the servers.
 
-    server_logs.py redis|postgresql
+    python3 -m tools.tests.server_logs redis|postgresql
 
 It starts the server, takes scripts, keys and rights from it, and shows how replicas notice."""
 
@@ -12,17 +12,18 @@ import sys
 import time
 from contextlib import closing
 from types import SimpleNamespace
+from unittest import TestCase
 
-from common import SECONDS, expect, expect_within, imported, type_of_fault
-from layers import TABLE, betable, raised
+from .common import SECONDS, imported, type_of_fault
+from .layers import TABLE, betable, raised
 
 
 def opened(server, name, **options):
     return betable().cluster.replicas.Replicas(server.url, name, **{"patience": SECONDS, **options})
 
 
-def unusable(part, call):
-    expect_within(part, str(raised(betable().cluster.logs.UnusableLog, call)))
+def unusable(test, part, call):
+    test.assertIn(part, str(raised(betable().cluster.logs.UnusableLog, call)))
 
 
 def redis_of(server):
@@ -43,7 +44,7 @@ FIRST_CALLS = [
 ]  # fmt: skip
 
 
-def lost_scripts(server):
+def lost_scripts(test, server):
     """An older copy of the server's files takes their place. What replaces the lost scripts has equal replies, or others."""
     copy = f"{server.folder}.copy"
     logs = [(f"lost{number}", 1 + number % 2, call) for number, call in enumerate(FIRST_CALLS)]
@@ -66,15 +67,15 @@ def lost_scripts(server):
         one, two = pairs[name]
         for number in range(4):
             two.put([(100 + number, "new", 1)])
-        expect((type_of_fault(lambda: call(one)), type_of_fault(one.scan)), (betable().cluster.replicas.Diverged,) * 2)
+        test.assertEqual((type_of_fault(lambda: call(one)), type_of_fault(one.scan)), (betable().cluster.replicas.Diverged,) * 2)
         one.close()
         with opened(server, name) as again:
-            expect(([row[1] for row in again.scan()], again.position, two.catch_up()), (["new"] * 4, 6, 6))
-            expect((again.put([(5, "again", 1)]), two.get(5)), (1, (5, "again", 1)))
+            test.assertEqual(([row[1] for row in again.scan()], again.position, two.catch_up()), (["new"] * 4, 6, 6))
+            test.assertEqual((again.put([(5, "again", 1)]), two.get(5)), (1, (5, "again", 1)))
         two.close()
 
 
-def trimmed_scripts(server):
+def trimmed_scripts(test, server):
     with opened(server, "trimmed") as one, opened(server, "trimmed") as two:
         one.run(TABLE)
         two.catch_up()
@@ -82,21 +83,21 @@ def trimmed_scripts(server):
         one.checkpoint()
         # The log takes no checkpoint that is not of its past.
         checkpoint = one._log.checkpoint()
-        expect([one._log.keep(checkpoint._replace(position=4, chain=chain, text=b"wrong")) for chain in (checkpoint.chain, b"")], [False, False])
-        expect(one._log.checkpoint(), checkpoint)
+        test.assertEqual([one._log.keep(checkpoint._replace(position=4, chain=chain, text=b"wrong")) for chain in (checkpoint.chain, b"")], [False, False])
+        test.assertEqual(one._log.checkpoint(), checkpoint)
         one.trim()
-        expect(two.once("id", "batch\nups 1,add,qty,1\nend\nget 1\n"), b"batch 1\nrow 1,a,2\n")
+        test.assertEqual(two.once("id", "batch\nups 1,add,qty,1\nend\nget 1\n"), b"batch 1\nrow 1,a,2\n")
         with opened(server, "trimmed") as three:
-            expect((three.once("id", "batch\nups 1,add,qty,1\nend\nget 1\n"), three.position, three.scan()), (b"batch 1\nrow 1,a,2\n", 4, one.scan()))
+            test.assertEqual((three.once("id", "batch\nups 1,add,qty,1\nend\nget 1\n"), three.position, three.scan()), (b"batch 1\nrow 1,a,2\n", 4, one.scan()))
 
 
-def other_engine(server):
+def other_engine(test, server):
     module = betable().cluster.replicas
     engine = module.ENGINE
     with opened(server, "engine") as one:
         one.run(TABLE)
         module.ENGINE = engine + 1
-        unusable("close all replicas, and update", lambda: opened(server, "engine"))
+        unusable(test, "close all replicas, and update", lambda: opened(server, "engine"))
         module.ENGINE = engine
         one.checkpoint()
         module.ENGINE = engine + 1
@@ -104,13 +105,13 @@ def other_engine(server):
             new.put([(1, "a", 1)])
             module.ENGINE = engine
             for call in (lambda: one.replies("drain primary\n"), one.scan, lambda: opened(server, "engine")):
-                unusable("use a version of this package with that engine", call)
+                unusable(test, "use a version of this package with that engine", call)
             module.ENGINE = engine + 1
-            expect((new.scan(), new.catch_up()), ([(1, "a", 1)], 3))
+            test.assertEqual((new.scan(), new.catch_up()), ([(1, "a", 1)], 3))
     module.ENGINE = engine
 
 
-def changed_script(server):
+def changed_script(test, server):
     with opened(server, "changed") as one:
         one.run(TABLE)
         one.put([(1, "a", 1)])
@@ -123,55 +124,55 @@ def changed_script(server):
                 client.xadd("{changed}:log", {key: value.replace(b"put 1,a", b"put 1,x") for key, value in values.items()}, name)
         else:
             rows_of(server, "UPDATE changed_log SET script = 'batch\nput 1,x,1\nend\n' WHERE position = 2")
-        unusable("script 2 is missing, or was changed", lambda: opened(server, "changed"))
+        unusable(test, "script 2 is missing, or was changed", lambda: opened(server, "changed"))
         one.checkpoint()
         with opened(server, "changed") as new:
-            expect((new.scan(), one.scan()), ([(1, "a", 1), (2, "b", 1)],) * 2)
+            test.assertEqual((new.scan(), one.scan()), ([(1, "a", 1), (2, "b", 1)],) * 2)
 
 
-def redis_format(server):
+def redis_format(test, server):
     """A log of the first format, which had other fields and no end."""
     client = redis_of(server)
     client.xadd("{old}:log", {"request": "r", "script": TABLE, "seen": 0, "checksum": 0}, "1-0")
     client.set("{old}:request:r", 1)
     before = {key: client.dump(key) for key in client.keys("{old}*")}
-    unusable("load them into a log of another name", lambda: opened(server, "old"))
-    expect({key: client.dump(key) for key in client.keys("{old}*")}, before)
+    unusable(test, "load them into a log of another name", lambda: opened(server, "old"))
+    test.assertEqual({key: client.dump(key) for key in client.keys("{old}*")}, before)
     client.hset("{newer}:end", mapping={"format": 3, "engine": 1, "position": 0, "chain": ""})
-    unusable("it has format 3", lambda: opened(server, "newer"))
+    unusable(test, "it has format 3", lambda: opened(server, "newer"))
     client.set("{other}:log", "text")
-    unusable("WRONGTYPE", lambda: opened(server, "other"))
+    unusable(test, "WRONGTYPE", lambda: opened(server, "other"))
 
 
-def redis_keys(server):
+def redis_keys(test, server):
     """Keys that are gone: the parts of a checkpoint, the scripts after it, those up to it, and a request id."""
     client = redis_of(server)
     with opened(server, "keys") as one:
         one.run(TABLE)
         one.once("id", "batch\nups 1,add,qty,1\nend\n")
         client.delete("{keys}:request:id")
-        expect((one.once("id", "batch\nups 1,add,qty,1\nend\n"), one.scan()), (b"batch 1\n", [(1, "", 1)]))
+        test.assertEqual((one.once("id", "batch\nups 1,add,qty,1\nend\n"), one.scan()), (b"batch 1\n", [(1, "", 1)]))
         one.checkpoint()
         client.delete(*client.keys("{keys}:checkpoint:*"))
-        unusable("parts of its checkpoint at 4 are gone", lambda: opened(server, "keys"))
+        unusable(test, "parts of its checkpoint at 4 are gone", lambda: opened(server, "keys"))
         one.checkpoint()
         client.delete("{keys}:log")
         with opened(server, "keys") as two:
-            expect((two.position, two.put([(2, "b", 2)]), one.scan()), (5, 1, [(1, "", 1), (2, "b", 2)]))
+            test.assertEqual((two.position, two.put([(2, "b", 2)]), one.scan()), (5, 1, [(1, "", 1), (2, "b", 2)]))
         client.delete("{keys}:log")
-        unusable("script 6 is missing", lambda: opened(server, "keys"))
-        expect((one.put([(3, "c", 3)]), one.checkpoint()), (1, 8))
+        unusable(test, "script 6 is missing", lambda: opened(server, "keys"))
+        test.assertEqual((one.put([(3, "c", 3)]), one.checkpoint()), (1, 8))
         with opened(server, "keys") as two:
-            expect(two.scan(), one.scan())
+            test.assertEqual(two.scan(), one.scan())
 
 
-def redis_settings(server):
+def redis_settings(test, server):
     """Settings by which the server removes keys, and users whose rights are limited."""
     client = redis_of(server)
     client.config_set("maxmemory-policy", "volatile-lru")
     opened(server, "settings").close()
     client.config_set("maxmemory", "100mb")
-    unusable("set maxmemory-policy to noeviction", lambda: opened(server, "settings"))
+    unusable(test, "set maxmemory-policy to noeviction", lambda: opened(server, "settings"))
     for rights in (["+@read", "+@write", "+@scripting"], ["+@read", "+@scripting"]):
         client.acl_setuser("limited", enabled=True, nopass=True, keys=["{settings}:*"], commands=rights)
         server_of_user = SimpleNamespace(url=server.url.replace("//", "//limited:x@"))
@@ -181,66 +182,66 @@ def redis_settings(server):
                 one.run(TABLE)
                 one.checkpoint()
                 one.trim()
-                expect((one.put([(1, "a", 1)]), one.catch_up(0.1)), (1, 3))
-        unusable("give its user the keys {another}:*", lambda url=server_of_user: opened(url, "another"))
+                test.assertEqual((one.put([(1, "a", 1)]), one.catch_up(0.1)), (1, 3))
+        unusable(test, "give its user the keys {another}:*", lambda url=server_of_user: opened(url, "another"))
         client.acl_deluser("limited")
     client.config_set("maxmemory", 0)
 
 
-def stopped_redis(server):
+def stopped_redis(test, server):
     """A server that is stopped while a replica is open: a call ends after its patience."""
     with opened(server, "silence", patience=1) as one:
         one.run(TABLE)
         server.process.send_signal(signal.SIGSTOP)
         try:
             begin = time.monotonic()
-            expect((type_of_fault(one.scan), time.monotonic() - begin < 8), (betable().cluster.logs.Unreachable, True))
+            test.assertEqual((type_of_fault(one.scan), time.monotonic() - begin < 8), (betable().cluster.logs.Unreachable, True))
         finally:
             server.process.send_signal(signal.SIGCONT)
-        expect(one.scan(), [])
+        test.assertEqual(one.scan(), [])
 
 
-def silent_server(server):
+def silent_server(test, server):
     with socket.create_server(("127.0.0.1", 0)) as silent:
         begin = time.monotonic()
         url = server.url.replace(str(server.port), str(silent.getsockname()[1]))
         fault = type_of_fault(lambda: betable().cluster.replicas.Replicas(url, patience=1))
-        expect((fault, time.monotonic() - begin < 8), (betable().cluster.logs.Unreachable, True))
+        test.assertEqual((fault, time.monotonic() - begin < 8), (betable().cluster.logs.Unreachable, True))
 
 
-def postgresql_format(server):
+def postgresql_format(test, server):
     """A log of the first format, which had other columns."""
     rows_of(server, "CREATE TABLE old_end(position bigint NOT NULL)")
     rows_of(server, "INSERT INTO old_end VALUES (0)")
     tables = "SELECT table_name, column_name FROM information_schema.columns WHERE table_name LIKE 'old%' ORDER BY 1, 2"
-    unusable("load them into a log of another name", lambda: opened(server, "old"))
-    expect((rows_of(server, tables), rows_of(server, "SELECT * FROM old_end")), ([("old_end", "position")], [(0,)]))
+    unusable(test, "load them into a log of another name", lambda: opened(server, "old"))
+    test.assertEqual((rows_of(server, tables), rows_of(server, "SELECT * FROM old_end")), ([("old_end", "position")], [(0,)]))
     opened(server, "newer").close()
     rows_of(server, "UPDATE newer_end SET format = 3")
-    unusable("it has format 3", lambda: opened(server, "newer"))
+    unusable(test, "it has format 3", lambda: opened(server, "newer"))
 
 
-def postgresql_names(server):
+def postgresql_names(test, server):
     """Names that are words of SQL."""
     for name in ("order", "user", "end", "a" * 32):
         with opened(server, name) as one:
-            expect((one.replies(TABLE), one.catch_up(0.01)), (b"table 3\n", 1))
+            test.assertEqual((one.replies(TABLE), one.catch_up(0.01)), (b"table 3\n", 1))
 
 
-def postgresql_rights(server):
+def postgresql_rights(test, server):
     rows_of(server, "CREATE USER limited")
     user = SimpleNamespace(url=server.url.replace("postgres@", "limited@"))
-    unusable("let its user create tables in the schema", lambda: opened(user, "rights"))
+    unusable(test, "let its user create tables in the schema", lambda: opened(user, "rights"))
     opened(server, "rights").close()
-    unusable("SELECT, INSERT, UPDATE and DELETE on rights_end, rights_log, rights_checkpoint", lambda: opened(user, "rights"))
+    unusable(test, "SELECT, INSERT, UPDATE and DELETE on rights_end, rights_log, rights_checkpoint", lambda: opened(user, "rights"))
     rows_of(server, "GRANT SELECT, INSERT, UPDATE, DELETE ON rights_end, rights_log, rights_checkpoint TO limited")
     with opened(user, "rights") as one:
         one.run(TABLE)
         one.checkpoint()
         one.trim()
-        expect(one.put([(1, "a", 1)]), 1)
+        test.assertEqual(one.put([(1, "a", 1)]), 1)
     rows_of(server, "DROP TABLE rights_log")
-    unusable('relation "rights_log" does not exist', lambda: opened(server, "rights"))
+    unusable(test, 'relation "rights_log" does not exist', lambda: opened(server, "rights"))
 
 
 OF_ALL = [lost_scripts, trimmed_scripts, other_engine, changed_script]
@@ -252,4 +253,4 @@ CHECKS = {
 if __name__ == "__main__":
     with imported("tools/crash/replicas").server(sys.argv[1]) as server:
         for check in CHECKS[sys.argv[1]]:
-            check(server)
+            check(TestCase(), server)

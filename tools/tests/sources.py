@@ -2,9 +2,10 @@
 
 import re
 from collections import Counter
+from unittest import TestCase
 
-from common import expect, TOP
-from documents import other_words
+from .common import TOP
+from .documents import other_words
 
 
 def sources(*endings):
@@ -17,23 +18,6 @@ def comments(text):
         found = re.match(r"\s*(?:///?|//!|--)(?:\s|$)(.*)", line) or re.search(r"\s(?://|--)\s([^\"]*)$", line)
         if found:
             yield number, found[1]
-
-
-def lines_of_proofs_are_at_most_200_letters_long():
-    """Except for those with a text in quotes, which a line end would change."""
-    long = [f"{path.relative_to(TOP)}:{number}" for path in sources("antt") for number, line in enumerate(path.read_text().splitlines(), 1)
-            if len(line) > 200 and '"' not in line]  # fmt: skip
-    expect(long, [])
-
-
-def words_of_comments_are_plain():
-    expect([f"{path.relative_to(TOP)}:{number}: {found}: {instead}" for path in sources("rt", "antt") for number, comment in comments(path.read_text())
-            for found, instead in other_words(comment)], [])  # fmt: skip
-
-
-def comments_of_a_source_are_found():
-    given = '// a\n    /// b\nlet x = 1; // c\nlet y = "// d";\n-- e\nf = g -- h\n//! i\n//\nj --k\n'
-    expect(list(comments(given)), [(1, "a"), (2, "b"), (3, "c"), (5, "e"), (6, "h"), (7, "i"), (8, "")])
 
 
 WORD = re.compile(r"[^\s(){}\[\],.;:«»|λ]+")
@@ -69,16 +53,6 @@ def uncited(texts):
             for number, name, own in lemmas(text) if named[name] == own]  # fmt: skip
 
 
-def each_lemma_is_cited():
-    expect(uncited({path.relative_to(TOP): path.read_text() for path in sources("rt", "antt")}), [])
-
-
-def a_lemma_that_nothing_cites_is_found():
-    given = "use Rattle.a.proofs.A.{left}\n\nleft : a\nleft = refl\n\n  where\n\npub right : (n : ℕ) → b\nright zero = elim n [\n  | one\n]\nright n = right n -- right\n\nused : c\nused = d\n"
-    texts = {TOP / "crates/a/proofs/A.antt": given, TOP / "crates/a/src/a.rt": "// used\nuse a::used;\n", TOP / "crates/a/proofs/a/Answers.antt": "goal : used\n"}
-    expect(uncited({path.relative_to(TOP): text for path, text in texts.items()}), ["crates/a/proofs/A.antt:3: left", "crates/a/proofs/A.antt:8: right"])
-
-
 def private_lemmas(crate, text, is_file):
     """The modules of proofs that a source of this crate cites of another one, outside of what that one offers. What the prover makes of a type is no file."""
     for other, module in re.findall(r"Rattle\.(\w+)\.proofs\.([\w.]+)", text):
@@ -87,20 +61,42 @@ def private_lemmas(crate, text, is_file):
             yield f"{other}.{module}"
 
 
-def lemmas_of_other_crates_are_offered():
-    def is_file(crate, module):
-        return (TOP / "crates" / crate / "proofs" / f"{module.replace('.', '/')}.antt").exists()
+class Sources(TestCase):
+    def test_lines_of_proofs_are_at_most_200_letters_long(self):
+        """Except for those with a text in quotes, which a line end would change."""
+        long = [f"{path.relative_to(TOP)}:{number}" for path in sources("antt") for number, line in enumerate(path.read_text().splitlines(), 1)
+                if len(line) > 200 and '"' not in line]  # fmt: skip
+        self.assertEqual(long, [])
 
-    expect([f"{path.relative_to(TOP)}: {module}" for path in sources("rt", "antt")
-            for module in private_lemmas(path.relative_to(TOP).parts[1], path.read_text(), is_file)], [])  # fmt: skip
+    def test_words_of_comments_are_plain(self):
+        self.assertEqual([f"{path.relative_to(TOP)}:{number}: {found}: {instead}" for path in sources("rt", "antt") for number, comment in comments(path.read_text())
+                for found, instead in other_words(comment)], [])  # fmt: skip
 
+    def test_comments_of_a_source_are_found(self):
+        given = '// a\n    /// b\nlet x = 1; // c\nlet y = "// d";\n-- e\nf = g -- h\n//! i\n//\nj --k\n'
+        self.assertEqual(list(comments(given)), [(1, "a"), (2, "b"), (3, "c"), (5, "e"), (6, "h"), (7, "i"), (8, "")])
 
-def a_lemma_that_is_not_offered_is_found():
-    given = "use Rattle.a.proofs.A.{x}\nuse Rattle.b.proofs.B.{y}\nuse Rattle.b.proofs.offered.B.{z}\nuse Rattle.b.proofs.key.TheLaws.{w}\n"
-    expect(list(private_lemmas("a", given, lambda _, module: "The" not in module)), ["b.B"])
+    def test_each_lemma_is_cited(self):
+        self.assertEqual(uncited({path.relative_to(TOP): path.read_text() for path in sources("rt", "antt")}), [])
 
+    def test_a_lemma_that_nothing_cites_is_found(self):
+        given = "use Rattle.a.proofs.A.{left}\n\nleft : a\nleft = refl\n\n  where\n\npub right : (n : ℕ) → b\nright zero = elim n [\n  | one\n]\nright n = right n -- right\n\nused : c\nused = d\n"
+        texts = {
+            TOP / "crates/a/proofs/A.antt": given,
+            TOP / "crates/a/src/a.rt": "// used\nuse a::used;\n",
+            TOP / "crates/a/proofs/a/Answers.antt": "goal : used\n",
+        }
+        self.assertEqual(
+            uncited({path.relative_to(TOP): text for path, text in texts.items()}), ["crates/a/proofs/A.antt:3: left", "crates/a/proofs/A.antt:8: right"]
+        )
 
-# Need no program.
-TESTS_OF_TEXTS = [lines_of_proofs_are_at_most_200_letters_long, each_lemma_is_cited, a_lemma_that_nothing_cites_is_found, words_of_comments_are_plain,
-                  comments_of_a_source_are_found, lemmas_of_other_crates_are_offered, a_lemma_that_is_not_offered_is_found]  # fmt: skip
-TESTS = []
+    def test_lemmas_of_other_crates_are_offered(self):
+        def is_file(crate, module):
+            return (TOP / "crates" / crate / "proofs" / f"{module.replace('.', '/')}.antt").exists()
+
+        self.assertEqual([f"{path.relative_to(TOP)}: {module}" for path in sources("rt", "antt")
+                for module in private_lemmas(path.relative_to(TOP).parts[1], path.read_text(), is_file)], [])  # fmt: skip
+
+    def test_a_lemma_that_is_not_offered_is_found(self):
+        given = "use Rattle.a.proofs.A.{x}\nuse Rattle.b.proofs.B.{y}\nuse Rattle.b.proofs.offered.B.{z}\nuse Rattle.b.proofs.key.TheLaws.{w}\n"
+        self.assertEqual(list(private_lemmas("a", given, lambda _, module: "The" not in module)), ["b.B"])
