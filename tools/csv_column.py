@@ -3,6 +3,7 @@
 import re
 import shlex
 from collections import Counter
+from datetime import date
 from decimal import Decimal
 from typing import Callable, Iterable, Iterator, Sequence, TypeAlias
 
@@ -26,9 +27,20 @@ YES_NO = re.compile(r"(?:(?:yes|no|y|n|t|f|on|off)?\n)*+", re.IGNORECASE)
 EXPONENT = r"(?:[eE][+-]?[0-9]{1,3})?"
 DECIMALS = {False: re.compile(rf"(?:(?:-?[0-9]+(?:\.[0-9]+)?{EXPONENT})?\n)*+"), True: re.compile(rf"(?:(?:-?[0-9]+(?:[.,][0-9]+)?{EXPONENT})?\n)*+")}
 FRACTION = re.compile(r"[.,][0-9]*[1-9]")
+# A date with the year last, and the time that may follow it.
+DATE = re.compile(r"([0-9]{1,2})([./-])([0-9]{1,2})\2([0-9]{4})((?:,? [0-9]{1,2}:[0-9]{2}.*)?)")
+DATES = re.compile(r"(?>(?>[0-9]{1,2}([./-])[0-9]{1,2}\1[0-9]{4}(?:,? [0-9]{1,2}:[0-9]{2}[^\n]*)?)?\n)*+")
 
 # The words that --flag takes, in letters of either case.
 TRUE_WORDS, FALSE_WORDS = ("true", "yes", "y", "t", "on", "1"), ("false", "no", "n", "f", "off", "0")
+
+# Words for true and false in other languages.
+FLAGS_ELSEWHERE = (
+    ("wahr", "falsch"), ("ja", "nein"), ("vrai", "faux"), ("oui", "non"), ("verdadero", "falso"), ("sí", "no"), ("si", "no"), ("verdadeiro", "falso"),
+    ("sim", "não"), ("vero", "falso"), ("waar", "onwaar"), ("ja", "nee"), ("ja", "nei"), ("ja", "nej"), ("sant", "usant"), ("sann", "usann"), ("sand", "falsk"),
+    ("sant", "falskt"), ("tosi", "epätosi"), ("kyllä", "ei"), ("prawda", "fałsz"), ("tak", "nie"), ("pravda", "nepravda"), ("ano", "ne"), ("igaz", "hamis"),
+    ("igen", "nem"), ("doğru", "yanlış"), ("evet", "hayır"), ("истина", "ложь"), ("да", "нет"), ("αληθές", "ψευδές"), ("真", "假"), ("是", "否"),
+)  # fmt: skip
 
 # Words for no value, and those that are no texts among texts.
 NULL_WORDS = frozenset(map(bytes.decode, language.NULL_WORDS))
@@ -51,17 +63,24 @@ class Column:
         self.wanted: str | None = None
         self.filling: str | None = None
         self.digits: int | None = None
+        self.date: str | None = None
         self.null_words: frozenset[str] = frozenset()
         self.flag_words: dict[str, str] | None = None
         self.is_cut = self.is_mended = self.is_trimmed = self.has_decimal_commas = False
         self.values: list[str] | None = None  # of a key column all of them
-        self.could_be = {"int", "digits", "decimal", "flag", "yes or no"}
+        self.could_be = {"int", "digits", "decimal", "flag", "yes or no", "date"}
         self.count = self.empty = self.cut = self.mended = self.decimals = 0
         self.has_fraction = False
-        # The first record, and its field, that is empty, is a word for no value, is no plain int, or is neither a number nor a flag.
+        # The first record, and its field, that is empty, is a word for no value, is no plain int, is a date, or is neither a number nor a flag.
         self.first_empty = self.first_null = 0
         self.odd_int: tuple[int, str] | None = None
-        self.odd_one: tuple[int, str, bool] | None = None
+        self.first_date: tuple[int, str] | None = None
+        self.odd_one: tuple[int, str] | None = None
+        # How many fields are neither numbers nor flags among those that are, and what the others could be. Which order the dates may have.
+        self.odd, self.others_could_be = 0, set[str]()
+        self.orders = {"D{0}M{0}Y", "M{0}D{0}Y"}
+        # The different words of a column, as long as they are two.
+        self.two_words: dict[str, str] | None = {}
         self.nulls: Counter[str] = Counter()
         self.taken: Counter[str] = Counter()
         self.flags: dict[str, str] = {}
@@ -87,6 +106,8 @@ class Column:
             values = self.as_flags(values, self.flag_words)
         if self.digits is not None:
             values = self.scaled(values, self.digits, first)
+        if self.date is not None:
+            values = self.dated(values, self.date, first)
         joined = "\n".join(values) + "\n"
         self.learn(values, joined, first)
         if is_filled:
@@ -132,6 +153,22 @@ class Column:
         if len(number) > 18 and fault_of("int", number):
             self.fault(record, f"is {shown(value)}, and {shown(number)[1:-1]} as an int, which does not fit 64 bits")
         return number
+
+    def dated(self, values: list[str], form: str, first: int) -> list[str]:
+        """Dates with the year first; what is none stays as it is, and so does an empty field."""
+        return [value and self.dated_value(value, form, record) for record, value in enumerate(values, first)]
+
+    def dated_value(self, value: str, form: str, record: int) -> str:
+        found = DATE.fullmatch(value)
+        if found and found[2] == form[1]:
+            day, month = (found[1], found[3]) if form.startswith("D") else (found[3], found[1])
+            try:
+                return date(int(found[4]), int(month), int(day)).isoformat() + found[5]
+            except ValueError:
+                pass
+        hint = f" (--null {self.setting(value)} takes such as empty)" if value in NULL_WORDS else ""
+        self.fault(record, f"is {shown(value)}, and no date of the form {form}{hint}")
+        return value
 
     def fitting_texts(self, values: list[str], joined: str, first: int) -> list[str]:
         """Texts without what cannot be loaded, if that is asked for."""
@@ -179,17 +216,25 @@ class Column:
                 self.check(values, self.wanted, first)
         elif self.wanted == "bytes":
             self.check(values, self.wanted, first)
-        elif self.digits is None:
+        elif self.digits is None and self.date is None:
             words = NULL_WORDS.intersection(values)
             if words:
                 self.first_null = self.first_null or first + next(place for place, value in enumerate(values) if value in words)
                 self.nulls.update(value for value in values if value in words)
                 values = ["" if value in words else value for value in values]
                 joined = "\n".join(values) + "\n"
-            if self.could_be:
-                before = self.could_be
-                self.could_be = self.kinds_of(values, joined) if joined.count("\n") == len(values) else set()
-                self.find_odd_ones(before, values, first)
+            if self.could_be or self.others_could_be:
+                before = self.could_be or self.others_could_be
+                found = self.kinds_of(before, values, joined) if joined.count("\n") == len(values) else set()
+                if not found:
+                    self.others_could_be = self.find_odd_ones(before, values, first)
+                elif self.odd:
+                    self.others_could_be = found
+                self.could_be = set() if self.odd else found
+                if "int" in before - found and "decimal" in found:
+                    self.odd_int = next((first + place, value) for place, value in enumerate(values) if value and not is_plain_int(value))
+            if self.two_words is not None:
+                self.find_words(values)
 
     def check(self, values: list[str], kind: str, first: int) -> None:
         """Finds the values that are not of the requested kind."""
@@ -212,30 +257,55 @@ class Column:
         """What an option is given that takes words of this column, as a shell reads it."""
         return shlex.quote(f"{self.name}={','.join(words)}")
 
-    def kinds_of(self, values: list[str], joined: str) -> set[str]:
+    def find_words(self, values: list[str]) -> None:
+        """Keeps the words of a column that has no more than two, in letters of either case."""
+        for value in set(values) - {""}:
+            if self.two_words is not None and value.lower() not in self.two_words:
+                self.two_words = {**self.two_words, value.lower(): value} if len(self.two_words) < 2 else None
+
+    def kinds_of(self, before: set[str], values: list[str], joined: str) -> set[str]:
         """Of the kinds that the column could be those that all these values could be."""
-        found = {kind for kind, form in (("flag", FLAGS), ("yes or no", YES_NO)) if kind in self.could_be and form.fullmatch(joined)}
-        if "int" in self.could_be and (SMALL_INTS.fullmatch(joined) or INTS.fullmatch(joined) and not has_large_int(values)):
+        found = {kind for kind, form in (("flag", FLAGS), ("yes or no", YES_NO)) if kind in before and form.fullmatch(joined)}
+        if "date" in before and DATES.fullmatch(joined) and all(map(self.is_date, values)):
+            found.add("date")
+            if self.first_date is None and any(values):
+                self.first_date = next((first, value) for first, value in enumerate(values, self.count + 1) if value)
+        if "int" in before and (SMALL_INTS.fullmatch(joined) or INTS.fullmatch(joined) and not has_large_int(values)):
             return found | {"int", "digits", "decimal"}
-        if "digits" in self.could_be and DIGITS.fullmatch(joined):
+        if "digits" in before and DIGITS.fullmatch(joined):
             return found | {"digits", "decimal"}
-        if "decimal" in self.could_be and DECIMALS[self.has_decimal_commas].fullmatch(joined):
+        if "decimal" in before and DECIMALS[self.has_decimal_commas].fullmatch(joined):
             if re.search(rf"[eE]|[.,][0-9]{{{self.decimals + 1}}}", joined):
                 self.decimals = max(self.decimals, max(map(places_of, values)))
             self.has_fraction = self.has_fraction or "e" in joined or "E" in joined or FRACTION.search(joined) is not None
             found.add("decimal")
         return found
 
-    def find_odd_ones(self, before: set[str], values: list[str], first: int) -> None:
-        """Keeps the first field that is no plain int. If most are numbers or flags, or would be without blanks around them, keeps the first that is neither."""
-        if "int" in before - self.could_be and "decimal" in self.could_be:
-            self.odd_int = next((first + place, value) for place, value in enumerate(values) if value and not is_plain_int(value))
-        if not self.could_be:
-            are_flags = "decimal" not in before or any(is_flag(value) for value in values if value)
-            is_right = is_flag if are_flags else self.is_decimal
-            odd = [place for place, value in enumerate(values) if not is_right(value)]
-            if self.count + len(values) - self.empty - self.nulls.total() > 2 * len(odd) or all(is_right(values[place].strip()) for place in odd):
-                self.odd_one = first + odd[0], values[odd[0]], are_flags
+    def find_odd_ones(self, before: set[str], values: list[str], first: int) -> set[str]:
+        """What the column could be without the fields that are neither numbers nor flags, if most are, or would be without blanks around them; the first of
+        those fields is kept."""
+        are_flags = "decimal" not in before or any(is_flag(value) for value in values if value)
+        if before == {"date"}:
+            return set()
+        is_right = is_flag if are_flags else self.is_decimal
+        odd = [place for place, value in enumerate(values) if not is_right(value)]
+        filled = self.count + len(values) - self.empty - self.nulls.total()
+        if filled <= 2 * (self.odd + len(odd)) and not all(is_right(values[place].strip()) for place in odd):
+            return set()
+        self.odd_one = self.odd_one or (first + odd[0], values[odd[0]])
+        self.odd += len(odd)
+        rest = [value if is_right(value) else "" for value in values]
+        return self.kinds_of(before, rest, "\n".join(rest) + "\n")
+
+    def is_date(self, value: str) -> bool:
+        """Whether a value is a date with the year last, or empty, in an order that those before may have too."""
+        if not value:
+            return True
+        found = DATE.fullmatch(value)
+        if found is None:
+            return False
+        self.orders = {order for order in self.orders if is_day(*((found[1], found[3]) if order.startswith("D") else (found[3], found[1])), found[4])}
+        return bool(self.orders)
 
     def is_decimal(self, value: str) -> bool:
         """Whether a value is a decimal number, an int, or empty."""
@@ -268,6 +338,8 @@ class Column:
             yield f"{self.name}: flags, {' and '.join(f'{flag} for {words}' for flag, words in found.items() if words)}"
         if self.digits is not None:
             yield f"{self.name}: decimals, stored as ints {f'times {10**self.digits}' if self.digits else 'without digits after the point'}"
+        elif self.date is not None:
+            yield f"{self.name}: dates, stored with the year first"
         elif not self.wanted and self.kind() == "text":
             yield from self.reasons_for_text(place)
         if self.cut:
@@ -293,15 +365,45 @@ class Column:
             yield f"{name}: yes and no{', but ' + gaps if gaps else ''}, kept as text; --flag {name} {options}makes flags of them"
         elif self.odd_int and "decimal" in self.could_be:
             yield self.reason_for_numbers(place, gaps, self.odd_int)
+        elif "date" in self.could_be and self.first_date:
+            yield self.reason_for_dates(place, *self.first_date)
+        elif pair := self.words_elsewhere():
+            options = f"with {self.options_for_gaps('false')} " if gaps else ""
+            yield f"{name}: {shown(pair[0])} and {shown(pair[1])}, kept as text; --flag {self.setting(*pair)} {options}makes flags of them"
         elif self.odd_one:
-            record, value, are_flags = self.odd_one
-            trim = "; --trim drops spaces around fields" if value.strip() != value else ""
-            neither = "true nor false" if are_flags else "an int nor a decimal"
-            yield f"{name}: text, as {place(record)} has {shown(value)}, which is neither {neither}{trim}"
+            yield self.reason_for_odd_ones(place, *self.odd_one)
         elif words := [word for word in self.nulls if word in SURE_NULL_WORDS]:
             number = sum(self.nulls[word] for word in words)
             are = f"{counted(number, 'field is', 'fields are')} {listed(map(shown, words), 'or')}"
             yield f"{name}: {are}, kept as text; --null {self.setting(*words)} takes such as empty"
+
+    def reason_for_odd_ones(self, place: Place, record: int, value: str) -> str:
+        """Why a column of numbers or flags is text: one field, or some, that are none."""
+        others = self.others_could_be
+        are_flags = "flag" in others
+        said = f"{self.name}: text, as {place(record)} has {shown(value)}, which is neither {'true nor false' if are_flags else 'an int nor a decimal'}"
+        if value.strip() != value:
+            return f"{said}; --trim drops spaces around fields"
+        right = self.count - self.empty - self.nulls.total() - self.odd
+        if not others or right < 9 * self.odd:
+            return said
+        kind, option = ("flags", "--kind {}=flag") if are_flags else ("ints", "--kind {}=int") if "int" in others else ("decimals", f"--scale {{}}={self.decimals}")
+        more = f", and {counted(self.odd - 1, 'other record has', 'other records have')} such" if self.odd > 1 else ""
+        return f"{said}{more}; {right:,} records have {kind}, and {option.format(self.name)} names those that have none"
+
+    def reason_for_dates(self, place: Place, record: int, value: str) -> str:
+        """Why dates with the year last are not in their order, and the option that puts the year first."""
+        separator = "".join(letter for letter in value[:3] if not letter.isdigit())[:1]
+        options = [f"--date {self.name}={order.format(separator)}" for order in sorted(self.orders)]
+        order = "year last" if len(options) > 1 else "day first" if "=D" in options[0] else "month first"
+        either = options[0] if len(options) == 1 else f"{options[0]}, or {options[1]} if the month is first,"
+        where = f"the first {shown(value, 30)} in {place(record)}"
+        return f"{self.name}: dates with the {order}, {where}, kept as text: their order is not that of the days; {either} puts the year first"
+
+    def words_elsewhere(self) -> tuple[str, str] | None:
+        """The two words of the column, if they are true and false in another language."""
+        found = self.two_words or {}
+        return next(((found[yes], found[no]) for yes, no in FLAGS_ELSEWHERE if found.keys() == {yes, no}), None)
 
     def reason_for_numbers(self, place: Place, gaps: str, odd: tuple[int, str]) -> str:
         """Why a column of numbers is text: numbers that are too large, leading zeros, or decimals."""
@@ -360,6 +462,14 @@ def without_exponent(number: str) -> str:
 def places_of(value: str) -> int:
     """How many digits a decimal number has after its point."""
     return len(without_exponent(value.replace(",", ".")).partition(".")[2])
+
+
+def is_day(day: str, month: str, year: str) -> bool:
+    try:
+        date(int(year), int(month), int(day))
+    except ValueError:
+        return False
+    return True
 
 
 def has_large_int(values: list[str]) -> bool:

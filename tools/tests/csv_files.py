@@ -258,9 +258,10 @@ class CsvFiles(TestCase):
 
     def test_from_csv_names_the_field_that_makes_a_text_of_numbers(self):
         """Also far down in the file, for each way in which a column of ints becomes another."""
+        others_are_ints = "3,999 records have ints, and --kind n=int names those that have none"
         for odd, said in (
-            ("x1", "n: text, as record 2501 (line 2502) has 'x1', which is neither an int nor a decimal"),
-            ("1 000", "n: text, as record 2501 (line 2502) has '1 000', which is neither an int nor a decimal"),
+            ("x1", f"n: text, as record 2501 (line 2502) has 'x1', which is neither an int nor a decimal; {others_are_ints}"),
+            ("1 000", f"n: text, as record 2501 (line 2502) has '1 000', which is neither an int nor a decimal; {others_are_ints}"),
             ("007", "n: digits of which an int would lose the zeros, the first '007' in record 2501 (line 2502), kept as text; --kind n=int makes it int"),
             ("9223372036854775808", "n: numbers that do not fit 64 bits, the first '9223372036854775808' in record 2501 (line 2502), kept as text"),
             ("0.25", "n: decimals, the first '0.25' in record 2501 (line 2502), kept as text; --scale n=2 makes ints of hundredths"),
