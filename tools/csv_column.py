@@ -387,7 +387,9 @@ class Column:
         right = self.count - self.empty - self.nulls.total() - self.odd
         if not others or right < 9 * self.odd:
             return said
-        kind, option = ("flags", "--kind {}=flag") if are_flags else ("ints", "--kind {}=int") if "int" in others else ("decimals", f"--scale {{}}={self.decimals}")
+        kind, option = ("ints", "--kind {}=int") if "int" in others else ("decimals", f"--scale {{}}={self.decimals}")
+        if are_flags:
+            kind, option = "flags", "--kind {}=flag"
         more = f", and {counted(self.odd - 1, 'other record has', 'other records have')} such" if self.odd > 1 else ""
         return f"{said}{more}; {right:,} records have {kind}, and {option.format(self.name)} names those that have none"
 

@@ -32,9 +32,9 @@ class Dates(unittest.TestCase):
         self.assertIn("\n0,29.02.2024\n", script)
 
     def test_the_order_of_day_and_month_is_never_guessed(self) -> None:
-        either = "v: dates with the year last, the first '03/04/2024' in record 1 (line 2)"
+        either = "v: dates with the year last, the first '03/04/2024' in record 1 (line 2), kept as text"
         for values, wanted in (
-            (["03/04/2024", "12/12/2024"], f"{either}, kept as text: their order is not that of the days; --date v=D/M/Y, or --date v=M/D/Y if the month is first,"),
+            (["03/04/2024", "12/12/2024"], f"{either}: their order is not that of the days; --date v=D/M/Y, or --date v=M/D/Y if the month is first,"),
             (["03/04/2024", "12/13/2024"], "v: dates with the month first"),
             (["03/04/2024", "13/12/2024 23:59:01"], "v: dates with the day first"),
         ):
@@ -54,9 +54,9 @@ class Dates(unittest.TestCase):
     def test_the_option_refuses_each_field_that_is_no_date(self) -> None:
         status, script, said = from_csv(column(["29.02.2023", "1.3.2024", "n/a", "1/3/2024"]), "--date", "v=D.M.Y")
         self.assertEqual((status, script), (2, ""))
-        for part in ("record 1 (line 2) is '29.02.2023', and no date of the form D.M.Y", "record 3 (line 4) is 'n/a', and no date of the form D.M.Y (--null v=n/a",
-                     "record 4 (line 5) is '1/3/2024'"):  # fmt: skip
-            self.assertIn(part, said)
+        self.assertIn("record 1 (line 2) is '29.02.2023', and no date of the form D.M.Y", said)
+        self.assertIn("record 3 (line 4) is 'n/a', and no date of the form D.M.Y (--null v=n/a", said)
+        self.assertIn("record 4 (line 5) is '1/3/2024'", said)
 
     def test_a_wrong_form_says_what_to_write(self) -> None:
         for words in (["v=D.M/Y"], ["v=Y-M-D"], ["v=D.M.Y", "--kind", "v=int"], ["v=D.M.Y", "--scale", "v=1"]):
@@ -67,11 +67,12 @@ class Dates(unittest.TestCase):
 
 class Flags(unittest.TestCase):
     def test_words_for_true_and_false_in_other_languages_name_the_option(self) -> None:
-        for words, setting in ((["WAHR", "FALSCH"], "v=WAHR,FALSCH"), (["nein", "Ja"], "v=Ja,nein"), (["VRAI", "FAUX"], "v=VRAI,FAUX"), (["нет", "да"], "v=да,нет")):
-            said = from_csv(column(words * 3))[2]
+        found = {("WAHR", "FALSCH"): "v=WAHR,FALSCH", ("nein", "Ja"): "v=Ja,nein", ("VRAI", "FAUX"): "v=VRAI,FAUX", ("нет", "да"): "v=да,нет"}
+        for words, setting in found.items():
+            said = from_csv(column([*words] * 3))[2]
             self.assertIn("kept as text; --flag ", said)
             self.assertIn(f"{setting}' makes flags of them" if not setting.isascii() else f"{setting} makes flags of them", said)
-            status, script, _ = from_csv(column(words * 3), "--flag", setting)
+            status, script, _ = from_csv(column([*words] * 3), "--flag", setting)
             self.assertEqual((status, script.count("true"), script.count("false")), (0, 3, 3))
 
     def test_empty_fields_among_them_need_a_value(self) -> None:
@@ -89,7 +90,8 @@ class WrongRecords(unittest.TestCase):
         values = [str(number) for number in range(2_999)]
         for place in (0, 700, 1_000, 2_998):
             said = from_csv(column([*values[:place], "12 Stk", *values[place:]]))[2]
-            self.assertIn(f"v: text, as record {place + 1} (line {place + 2}) has '12 Stk', which is neither an int nor a decimal; 2,999 records have ints", said)
+            where = f"v: text, as record {place + 1} (line {place + 2}) has '12 Stk', which"
+            self.assertIn(f"{where} is neither an int nor a decimal; 2,999 records have ints", said)
             self.assertIn(", and --kind v=int names those that have none\n", said)
 
     def test_several_are_counted_and_empty_fields_are_not(self) -> None:

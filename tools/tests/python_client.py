@@ -879,11 +879,11 @@ class Exceptions(TestCase):
                 self.assertEqual((session.put_csv(path), session.get(1), session.get(900)), (301, (1, "Bergen, west"), (900, "old")))
                 before = session.scan()
                 cases = [
-                    ("id,city\n1,a\n\n2,b,x\n", client.Refused, f"{path}, line 4: 3 fields, and a put has 2 (id, city)"),
+                    ("id,city\n1,a\n\n2,b,x\n", client.Refused, f"{path}, line 4: 3 fields, and a record has 2 (id, city)"),
                     ('id,city\n1,a\nx,"b"\n', client.Refused, f"{path}, line 3: column 1 'id' (int): 'x' is no"),
-                    ('id,city\n1,a\n3,"b\nc"\n', client.RowValueError, f"{path}, line 3: a field has a line break, which only load_csv takes"),
-                    ('id,city\n1,a\n\n3,"b\rc"\n', client.RowValueError, f"{path}, line 4: a field has a line break, which only load_csv takes"),
-                    ('id,city\n1,a\n3,"b\n', client.RowValueError, f"{path}, line 3: a field has a line break"),
+                    ('id,city\n1,a\n3,"b\nc"\n', client.RowValueError, f"{path}, line 3: 'b\\nc' has a line break"),
+                    ('id,city\n1,a\n\n3,"b\rc"\n', client.RowValueError, f"{path}, line 4: 'b\\rc' has a line break"),
+                    ('id,city\n1,a\n3,"b\n', client.Refused, f"{path}, line 3: the quoted field that begins in line 3 is not closed"),
                     ("id,town\n1,a\n", client.RowValueError, f"{path}, line 1: the header is 'id,town', and the columns are id,city"),
                     ("\n\n1,a\n", client.RowValueError, f"{path}, line 3: the header is '1,a', and the columns are id,city"),
                     ("", client.RowValueError, f"{path}: the header is '', and the columns are id,city"),

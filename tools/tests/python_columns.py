@@ -238,7 +238,7 @@ class PythonColumns(TestCase):
             self.assertEqual((session.get(1), session.get(2), session.delete(2)), ((1, "city, 1", True, b"\1", 6), None, None))
             wrong = [
                 (lambda: session.table(COLUMNS), "Refused", "refused 4 TableExists"),
-                (lambda: session.table("id"), "ValueError", "a kind is one of int, text, flag, bytes, and not ''"),
+                (lambda: session.table("id"), "ValueError", "a column is its name, a colon and its kind, and not 'id': write 'id:int city:text'"),
                 (lambda: session.table([("id", "integer")]), "ValueError", "a kind is one of int, text, flag, bytes, and not 'integer'"),
                 (lambda: session.table([("id", "int x:int")]), "ValueError", "a kind is one of"),
                 (lambda: session.table([("id\nget 1", "int")]), "ValueError", "a column: "),

@@ -15,8 +15,8 @@ from itertools import islice
 from typing import Any, NamedTuple, NoReturn
 
 from . import language
-from .csv_input import BLOCK, Part, parts
-from .errors import OutOfMemory, Refused, RowTypeError, RowValueError
+from .csv_input import BLOCK, Part, WrongRecords, has_line_breaks, parts, rows_of_records, several_are_wrong, wrong_records, wrong_records_of_load
+from .errors import OutOfMemory, Refused, RowTypeError, RowValueError, WrongRecord
 from .faults import MEANINGS, Fault, faults_of_refusal
 from .forms import head_faults, name_fault
 from .language import Command, State, Table
@@ -109,6 +109,8 @@ class Calls(ABC):
         several batches; each batch is applied whole or not at all. Rows may be given by columns too: a dict from the names of all columns to their values."""
         if isinstance(rows, Mapping):
             return self._put_columns(rows, most)
+        if hasattr(rows, "columns") and hasattr(rows, "to_numpy"):
+            raise TypeError("a data frame would give the names of its columns: write put_frame(frame)")
         given = as_iterator(rows, "rows", "[(1, ..), (2, ..)]")
         return self._in_batches(given, most, put_lines)
 
@@ -126,6 +128,11 @@ class Calls(ABC):
 
     def delete(self, *key: Any) -> None:
         """Removes the row of a key, if there is one."""
+        if key and all(isinstance(value, (tuple, list)) for value in key):
+            advice = "the values of a key are given one by one, as delete(*key)"
+            if len(key) > 1:
+                advice = "there is no delete of a range: scan it, and batch a delete of each row"
+            raise RowTypeError(f"{shown(key[0])} is of type {type(key[0]).__name__}: {advice}", value=key[0])
         self.batch([delete(*key)])
 
     def load(self, rows: Iterable[Any]) -> int:
@@ -144,7 +151,7 @@ class Calls(ABC):
     def load_csv(self, path: str | os.PathLike[str], progress: Callable[[int, int], object] | None = None) -> int:
         """Fills a table that has no rows with the records of a CSV file, which is UTF-8 and has a header of the table's columns, and returns how many. The
         bytes of the file are in memory once, and are handed over as they are. `put_csv` takes a file that is larger than memory allows. While the file is read,
-        `progress` is called with the bytes that were read, and those of the file. The load itself is one call."""
+        `progress` is called with the bytes that were read, and those of the file. The load itself is one call. If records are wrong, `Refused` names all."""
         self._table()
         written = BytesIO()
         written.write(b"load\n")
@@ -163,23 +170,30 @@ class Calls(ABC):
             raise ValueError(f"{os.fspath(path)}, line {line}: a line that is a point alone would end the load")
         return self._loaded(script, os.fspath(path))
 
-    def put_csv(self, path: str | os.PathLike[str], progress: Callable[[int, int], object] | None = None, most: int = MOST_MESSAGES) -> int:
-        """Puts the records of a CSV file of any size, which is UTF-8 and has a header of the table's columns, in batches as `put` does, and returns their
-        number. No more than a few batches of them are in memory. After each batch `progress` is called with the bytes that were read, and those of the file."""
+    def put_csv(
+        self, path: str | os.PathLike[str], progress: Callable[[int, int], object] | None = None, most: int = MOST_MESSAGES,
+        rejects: str | os.PathLike[str] | None = None,
+    ) -> int:  # fmt: skip
+        """Puts the records of a CSV file of any size, which is UTF-8 and has a header of the table's columns, in batches as `put` does, and returns how many
+        were put. No more than a few batches of them are in memory. After each batch `progress` is called with the bytes that were read, and those of the file.
+
+        If a record is wrong, its batch and those after it are not put, and `Refused` names all records of the file that are wrong. With the path of a new file
+        as `rejects`, the wrong records are written there, after the header, and all others are put."""
         _check_most(most)
         table, taken, is_first = self._table(), 0, True
-        with open(path, "rb") as file:
+        with open(path, "rb") as file, WrongRecords(os.fsdecode(path), None if rejects is None else os.fsdecode(rejects)) as wrong:
             size = os.fstat(file.fileno()).st_size
             _refuse_gzip(file.read(2), path)
             file.seek(0)
             for part in parts(file, most):
                 if is_first:
                     _check_header(part, table, path)
-                    part, is_first = Part(part.records[1:], part.lines[1:], part.end), False
-                self._put_part(part, taken, path)
-                taken += len(part.records)
+                    wrong.header, is_first = part.records[0], False
+                    part = Part(part.records[1:], part.lines[1:], part.end)
+                taken += self._put_part(part, taken, wrong)
                 if progress is not None:
                     progress(part.end, size)
+            wrong.refuse()
         return taken
 
     def to_csv(self, path: str | os.PathLike[str], tree: str = "primary", start: Bound = None, stop: Bound = None) -> int:
@@ -275,12 +289,12 @@ class Calls(ABC):
         return pandas.DataFrame({name: numpy.asarray(values, dtype=ARRAY_TYPES[kinds[name]]) for name, values in columns.items()})
 
     def table(
-        self, columns: str | Iterable[tuple[str, str]], keys: int = 1, fanout: int = 16, buffer: int | str = 1024, leaf: int = 256
+        self, columns: str | Mapping[str, str] | Iterable[str | tuple[str, str]], keys: int = 1, fanout: int = 16, buffer: int | str = 1024, leaf: int = 256
     ) -> None:
-        """Makes the table. Its columns are pairs of a name and a kind, or a text such as "id:int city:text"; the first ones, as many as `keys`, are the key.
-        The other numbers are those of `table` in a script: a buffer is a number of messages, or of bytes, as in "65536b"."""
-        pairs = [word.partition(":")[::2] for word in columns.split()] if isinstance(columns, str) else list(columns)
-        words = [f"{checked_name(name, 'a column')}:{_checked_kind(kind)}" for name, kind in pairs]
+        """Makes the table. Its columns are a text such as "id:int city:text", a dict from names to kinds, or a list of "id:int" or of pairs of a name and a
+        kind. The first ones, as many as `keys`, are the key. The other numbers are those of `table` in a script: a buffer is a number of messages, or of bytes,
+        as in "65536b"."""
+        words = [f"{checked_name(name, 'a column')}:{_checked_kind(kind)}" for name, kind in _columns_given(columns)]
         if isinstance(buffer, str) and not language.BUFFER.fullmatch(buffer.encode()):
             raise ValueError(f"a buffer is a number of messages, or of bytes, as in '65536b', and not {shown(buffer)}")
         numbers = [_checked_number(fanout, "a fanout"), buffer if isinstance(buffer, str) else _checked_number(buffer, "a buffer")]
@@ -290,8 +304,8 @@ class Calls(ABC):
     def index(
         self, name: str, on: str | Sequence[str], include: str | Sequence[str] = (), where: tuple[str, str, Any] | None = None, build: bool = True
     ) -> None:
-        """Makes an index on columns, which includes others, and builds it. `where` selects rows by a column, an operator (=, < or >=) and a value. Without
-        `build` the index is made only, and the command `build` reads the rows in steps."""
+        """Makes an index on columns, which includes others, and builds it: a list of names, or a text of them with commas between. `where` selects rows by a
+        column, an operator (=, < or >=) and a value. Without `build` the index is made only, and the command `build` reads the rows in steps."""
         parts = [f"index {checked_name(name, 'an index')} on {_checked_names(on)}"]
         if include:
             parts.append(f"include {_checked_names(include)}")
@@ -347,21 +361,44 @@ class Calls(ABC):
         name, operator, value = where
         checked_name(name, "a column")
         if operator not in (operators := [one.decode() for one in language.OPERATORS]):
-            raise ValueError(f"an operator is one of {', '.join(operators)}, and not {shown(operator)}")
+            known = {">": f"of ints '> {value}' is '>= {value + 1}'", "<=": f"of ints '<= {value}' is '< {value + 1}'"} if type(value) is int else {}
+            advice = f": {known[operator]}" if operator in known else ": write '='" if operator == "==" else ""
+            raise ValueError(f"an operator is one of {', '.join(operators)}, and not {shown(operator)}{advice}")
         column = next((one for one in columns_of(self._table().columns) if one.name == name), None)
         return f"{name} {operator} {record([value]) if column is None else line_field(value, column, None)}"
 
-    def _put_part(self, part: Part, taken: int, path: str | os.PathLike[str]) -> None:
-        """Puts the records of a part of a CSV file."""
-        script = b"batch\nput %b\nend\n" % b"\nput ".join(part.records) if part.records else b"batch\nend\n"
-        if script.count(b"\n") > len(part.records) + 2 or b"\r" in script:
-            line, record = next(one for one in zip(part.lines, part.records) if b"\n" in one[1] or b"\r" in one[1])
-            raise RowValueError(f"{os.fspath(path)}, line {line}: a field has a line break, which only load_csv takes", value=record, taken=taken)
+    def _put_part(self, part: Part, taken: int, wrong: WrongRecords) -> int:
+        """Puts the records of a part of a CSV file that are not wrong, and returns how many. Once nothing more is put, they are only looked at."""
+        table, faults = self._table(), None
+        if wrong.has_ended or has_line_breaks(part.records):
+            faults = wrong_records(part, table)
+        elif part.records:
+            script = b"batch\nput %b\nend\n" % b"\nput ".join(part.records)
+            try:
+                reply = self.replies(script)
+            except OutOfMemory as fault:
+                raise OutOfMemory(fault.replies, fault.is_cut, fault.is_lost, taken) from None
+            if reply.startswith(b"refused "):
+                faults = wrong_records(part, table)
+                if not faults:
+                    self._refuse_if_refused(script, reply, taken, None, wrong.path, part.lines)
+        if faults:
+            part = wrong.add(part, faults, taken)
+            return 0 if wrong.has_ended else self._put_part(part, taken, wrong)
+        if wrong.has_ended:
+            return 0
+        if faults is not None:
+            self._put_values(part, table, taken, wrong.path)
+        return len(part.records)
+
+    def _put_values(self, part: Part, table: Table, taken: int, path: str) -> None:
+        """Puts records as rows of values, since texts of them have line breaks, which no script has."""
         try:
-            reply = self.replies(script)
-        except OutOfMemory as fault:
-            raise OutOfMemory(fault.replies, fault.is_cut, fault.is_lost, taken) from None
-        self._refuse_if_refused(script, reply, taken, None, os.fspath(path), part.lines)
+            self._apply_after(rows_of_records(part.records, table), table, taken, put_lines)
+        except RowValueError as fault:
+            place = (fault.row or taken + 1) - taken - 1
+            reason = f"{path}, line {part.lines[place]}: {fault.reason}"
+            raise RowValueError(reason, column=fault.column, value=fault.value, taken=taken) from None
 
     def _put_columns(self, rows: Mapping[Any, Any], most: int) -> int:
         """Puts rows that are given by columns, `most` at a time."""
@@ -425,7 +462,7 @@ class Calls(ABC):
     ) -> None:
         if reply.startswith(b"refused "):
             command = next(language.commands(script))
-            raise refusal(command, reply, self.state, [Reply(reply.decode(), command.head.word)], taken, rows, path, lines)
+            raise refusal(command, reply, self.state, [Reply(reply.decode(), command.head.word)], taken, rows, path, lines, is_of_script=False)
 
 
 def put_lines(rows: list[Any], table: Table, taken: int) -> str:
@@ -518,15 +555,46 @@ def _checked_number(number: Any, what: str) -> str:
     return str(number)
 
 
+def _columns_given(columns: Any) -> list[tuple[Any, Any]]:
+    """The columns of a table, each its name and its kind."""
+    if isinstance(columns, str):
+        columns = columns.split()
+    elif isinstance(columns, Mapping):
+        return list(columns.items())
+    found = []
+    for column in as_iterator(columns, "the columns of a table", EXAMPLE_OF_COLUMNS):
+        if isinstance(column, str) and ":" in column:
+            name, _, kind = column.partition(":")
+            found.append((name, kind))
+        elif isinstance(column, (tuple, list)) and len(column) == 2:
+            found.append((column[0], column[1]))
+        else:
+            raise ValueError(f"a column is its name, a colon and its kind, and not {shown(column)}: write {EXAMPLE_OF_COLUMNS}")
+    return found
+
+
+EXAMPLE_OF_COLUMNS = "'id:int city:text'"
+# Kinds of other programs, and what to write for them.
+OTHER_KINDS = {
+    **dict.fromkeys(("integer", "bigint", "int64", "int32", "long", "timestamp", "datetime"), "write int, for times as seconds"),
+    **dict.fromkeys(("float", "float64", "double", "real", "decimal", "numeric"), "write int, for decimals in a fixed unit, as cents"),
+    **dict.fromkeys(("str", "string", "varchar", "char", "date", "json"), "write text"),
+    **dict.fromkeys(("bool", "boolean"), "write flag"),
+    **dict.fromkeys(("blob", "binary", "uuid"), "write bytes"),
+}
+
+
 def _checked_kind(kind: Any) -> str:
     if not isinstance(kind, str) or kind not in VALUES:
-        raise ValueError(f"a kind is one of {', '.join(VALUES)}, and not {shown(kind)}")
+        name = kind.__name__ if isinstance(kind, type) else str(kind)
+        advice = f": {OTHER_KINDS[name.lower()]}" if name.lower() in OTHER_KINDS else ""
+        raise ValueError(f"a kind is one of {', '.join(VALUES)}, and not {shown(kind)}{advice}")
     return kind
 
 
 def _checked_names(names: Any) -> str:
     """The names of columns, in a list of a script."""
-    return ",".join(checked_name(name, "a column") for name in ([names] if isinstance(names, str) else names))
+    return ",".join(checked_name(name, "a column") for name in (re.split(", *", names) if isinstance(names, str) else names))
 
 
 def _shown_condition(index: language.Index, kinds: dict[bytes, bytes]) -> tuple[str, str, Value] | None:
@@ -624,7 +692,7 @@ def _given_value(row: Any, column: str, columns: list[Column], otherwise: Any) -
 
 def refusal(
     command: Command, reply: bytes, state: State, replies: list[Reply], taken: int = 0, rows: list[Any] | None = None, path: str | None = None,
-    lines: Sequence[int] = (),
+    lines: Sequence[int] = (), is_of_script: bool = True,
 ) -> Refused:  # fmt: skip
     """The exception of a command that was refused, with the reason. Of a batch of records of a file, `lines` are theirs in the file."""
     number, name, *rest = reply.decode().split()[1:]
@@ -636,11 +704,22 @@ def refusal(
     if fault is not None and fault.place:
         reason = f"{fault.place}: {reason}"
     row = taken + item if item is not None and rows is not None else None
+    if int(number) == 3 and not is_of_script:
+        reason = "There is no table yet. Make it first, as by table('id:int city:text')"
     if rows is not None and item is not None and column is not None:
         value = _given_value(rows[item - 1], column, layout(state.table).columns, value)
-    if path is not None:
+    wrong: list[WrongRecord] = []
+    wrong_count = 0
+    if path is not None and command.head.word == b"load" and int(number) in (6, 7):
+        wrong, wrong_count = wrong_records_of_load(faults_of_refusal(command, int(number), state), command.head.number)
+    if wrong_count > 1 and path is not None:
+        reason = several_are_wrong(path, wrong_count)
+    elif path is not None:
         line = fault.line - 1 if fault is not None and fault.line is not None else None
         if lines and line is not None:
             line = lines[line - 1]
         reason = f"{path}{'' if line is None else f', line {line}'}: {reason}"
-    return Refused(command.head.number, int(number), name, item, replies, reason=reason, column=column, value=value, row=row, taken=taken)
+    return Refused(
+        command.head.number, int(number), name, item, replies, reason=reason, column=column, value=value, row=row, taken=taken, wrong=wrong,
+        wrong_count=wrong_count, is_of_script=is_of_script,
+    )  # fmt: skip

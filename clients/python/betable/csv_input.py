@@ -1,14 +1,24 @@
-"""CSV files that are put in batches: their records, in parts that a batch can take, as they are in the file."""
+"""CSV files that are put in batches: their records, in parts that a batch can take, as they are in the file, and which of them are no rows of a table."""
 
 from __future__ import annotations
 
-from collections.abc import Iterator, Sequence
+import os
+from bisect import bisect_right
+from collections.abc import Iterable, Iterator, Sequence
+from itertools import accumulate
+from types import TracebackType
 from typing import BinaryIO, NamedTuple
 
-from .language import MARK, RECORD
+from .errors import Refused, WrongRecord
+from .faults import Fault, faults_of_records
+from .language import KINDS, MARK, RECORD, Table, broken_quotes, fields
+from .rows import VALUES, Value
 
 # The bytes of a file that are read at once.
 BLOCK = 1 << 22
+MOST_WRONG = 100  # records whose faults are kept
+# The refusals of a record that has another number of fields, and of one whose field is no value of its column.
+BAD_FIELD, BAD_LENGTH = (6, "BadField"), (7, "BadLength")
 
 
 class Part(NamedTuple):
@@ -67,3 +77,113 @@ def _records(text: bytes, line: int, is_last: bool) -> tuple[list[bytes], Sequen
         at = match.start()
         lines.append(line)
     return [match[0] for match in found], lines, end
+
+
+# ---- records that are no rows ----
+
+
+def has_line_breaks(records: Sequence[bytes]) -> bool:
+    """Whether a text of a record has a line break."""
+    together = b"".join(records)
+    return b"\n" in together or b"\r" in together
+
+
+def wrong_records(part: Part, table: Table) -> dict[int, Fault]:
+    """Why records are no rows of a table: the first fault of each that is none, by its place in the part."""
+    records = [record.removeprefix(MARK) for record in part.records]
+    found: dict[int, Fault] = {}
+    for place, record in enumerate(records):
+        # A text with a line break may be the rest of the file after a quote that was forgotten.
+        if b"\n" in record and (broken := next(broken_quotes(record, part.lines[place]), None)):
+            found[place] = Fault(str(broken))
+    first_lines = list(accumulate((1 + record.count(b"\n") for record in records), initial=1))
+    for fault in faults_of_records(b"\n".join(records) + b"\n", 1, 0, table):
+        found.setdefault(bisect_right(first_lines, fault.line or 1) - 1, fault)
+    return dict(sorted(found.items()))
+
+
+def rows_of_records(records: Iterable[bytes], table: Table) -> list[tuple[Value, ...]]:
+    """The rows that records are, none of which is wrong."""
+    columns = zip(*[fields(record.removeprefix(MARK)) for record in records])
+    return list(zip(*[_values_of(values, kind) for values, kind in zip(columns, table.kinds)]))
+
+
+def _values_of(values: Iterable[bytes], kind: bytes) -> list[Value]:
+    printed, value = KINDS[kind].printed, VALUES[kind.decode()]
+    return [value(printed(field).decode()) for field in values]
+
+
+def wrong_records_of_load(faults: Iterable[Fault], line_before: int) -> tuple[list[WrongRecord], int]:
+    """The first wrong records of a load, and how many there are, by its faults in order. The file begins after a line of the script."""
+    found: list[WrongRecord] = []
+    count, line = 0, None
+    for fault in faults:
+        if fault.line is not None and fault.line != line:
+            count, line = count + 1, fault.line
+            if count <= MOST_WRONG:
+                found.append(_wrong_record(fault, line - line_before))
+    return found, count
+
+
+def several_are_wrong(path: str, count: int) -> str:
+    return f"{path}: {count:,} records are wrong"
+
+
+def _wrong_record(fault: Fault, line: int) -> WrongRecord:
+    column, value = (None if one is None else one.decode(errors="replace") for one in (fault.column, fault.value))
+    return WrongRecord(line, column, value, f"{fault.place}: {fault.what()}" if fault.place else fault.what())
+
+
+class WrongRecords:
+    """The wrong records of a CSV file: the first faults, and how many records have one. With the path of another file, they go to that."""
+
+    def __init__(self, path: str, rejects: str | None) -> None:
+        self.path, self.rejects, self.count = path, rejects, 0
+        self.header = b""
+        # The refusal of the first one, its place in its part, and how many were put before it.
+        self._first: tuple[tuple[int, str], int, int] | None = None
+        self._faults: list[WrongRecord] = []
+        self._file: BinaryIO | None = None
+        if rejects is not None and os.path.lexists(rejects):
+            raise FileExistsError(f"{rejects} is there already: wrong records are written to a new file")
+
+    def __enter__(self) -> WrongRecords:
+        return self
+
+    def __exit__(self, kind: type[BaseException] | None, fault: BaseException | None, trace: TracebackType | None) -> None:
+        if self._file is not None:
+            self._file.close()
+
+    @property
+    def has_ended(self) -> bool:
+        """Whether a record was wrong, and wrong ones do not go to a file, so that nothing more is put."""
+        return self.count > 0 and self.rejects is None
+
+    def add(self, part: Part, wrong: dict[int, Fault], taken: int) -> Part:
+        """Takes the wrong records of a part, of which `taken` records of the file were put, and returns the others."""
+        for place, fault in wrong.items():
+            number = BAD_LENGTH if fault.column is None else BAD_FIELD
+            self._first = self._first or (number, place + 1, taken)
+            if len(self._faults) < MOST_WRONG:
+                self._faults.append(_wrong_record(fault, part.lines[place]))
+        self.count += len(wrong)
+        if self.rejects is not None:
+            if self._file is None:
+                self._file = open(self.rejects, "xb")
+                self._file.write(self.header + b"\n")
+            self._file.write(b"".join([part.records[place] + b"\n" for place in wrong]))
+            self._file.flush()
+        right = [place for place in range(len(part.records)) if place not in wrong]
+        return Part([part.records[place] for place in right], [part.lines[place] for place in right], part.end)
+
+    def refuse(self) -> None:
+        """Raises what was wrong, if something was, and it did not go to a file."""
+        if not self.has_ended or self._first is None:
+            return
+        (number, name), item, taken = self._first
+        first = self._faults[0]
+        reason = f"{self.path}, line {first.line}: {first.reason}" if self.count == 1 else several_are_wrong(self.path, self.count)
+        raise Refused(
+            1, number, name, item, reason=reason, column=first.column, value=first.value, taken=taken, wrong=self._faults, wrong_count=self.count,
+            is_of_script=False,
+        )  # fmt: skip

@@ -2,14 +2,27 @@
 
 from __future__ import annotations
 
-from typing import Any
+from collections.abc import Sequence
+from typing import Any, NamedTuple
 
 from .language import counted
+
+MOST_SHOWN = 10  # wrong records in a message
 
 
 def before(taken: int) -> str:
     """The end of a message of a call that had applied earlier batches."""
     return f" ({counted(taken, 'row')} of this call {'was' if taken == 1 else 'were'} applied before it, in earlier batches)" if taken else ""
+
+
+class WrongRecord(NamedTuple):
+    """A record of a CSV file that is no row of the table: the line in which it begins, the name of the column at fault and its field, or None where no single
+    field is, and the reason in words."""
+
+    line: int
+    column: str | None
+    value: str | None
+    reason: str
 
 
 class Refused(Exception):
@@ -18,7 +31,8 @@ class Refused(Exception):
     `line` is the line of the script where the command begins, counted from 1; `number` and `name` are those of the refusal, and `item` is its item or None.
     `reason` says why in words. `column` and `value` are those at fault, or None where no single value is; `row` is the number of the row or the message in
     the call, counted from 1, or None. `taken` is how many rows of the call were applied before it, in earlier batches, and `replies` are the replies to all
-    commands of the script.
+    commands of the script. Of a CSV file `wrong` has its first wrong records, at most a hundred, and
+    `wrong_count` is the number of all.
     """
 
     def __init__(
@@ -34,12 +48,19 @@ class Refused(Exception):
         value: Any = None,
         row: int | None = None,
         taken: int = 0,
+        wrong: Sequence[WrongRecord] = (),
+        wrong_count: int = 0,
+        is_of_script: bool = True,
     ) -> None:
         self.line, self.number, self.name, self.item, self.replies = line, number, name, item, replies
         self.reason, self.column, self.value, self.row, self.taken = reason, column, value, row, taken
-        refusal = f"line {line}: refused {number} {name}" + ("" if item is None else f" {item}")
+        self.wrong, self.wrong_count = list(wrong), wrong_count
+        refusal = (f"line {line}: " if is_of_script else "") + f"refused {number} {name}" + ("" if item is None else f" {item}")
         place = "" if row is None else f"row {row}: "
-        super().__init__(refusal + (f": {place}{reason}" if reason else "") + before(taken))
+        lines = [f"\n  line {one.line}: {one.reason}" for one in self.wrong[:MOST_SHOWN]] if wrong_count > 1 else []
+        if lines and wrong_count > len(lines):
+            lines.append(f"\n  and {wrong_count - len(lines):,} more")
+        super().__init__(refusal + (f": {place}{reason}" if reason else "") + before(taken) + "".join(lines))
 
     def __reduce__(self) -> tuple[Any, ...]:
         return _unpickled, (type(self), self.args, self.__dict__)

@@ -238,12 +238,17 @@ def number_faults(command: Command) -> Iterator[Fault]:
 
 def load_faults(command: Command, table: Table) -> Iterator[Fault]:
     """The faults of the records of a load, after its header."""
-    block, columns, names = command.block, table.columns, spelled(table.names)
+    block = command.block
     header = RECORD.search(block, len(MARK) if block.startswith(MARK) else 0)
     if header is None:
         return
-    number = command.head.number + 1 + block.count(b"\n", 0, header.end())
-    for number, raw in doubtful(block, number, header.end(), SurePatterns(table, block).records(), RECORD):
+    yield from faults_of_records(block, command.head.number + 1 + block.count(b"\n", 0, header.end()), header.end(), table)
+
+
+def faults_of_records(text: bytes, number: int, at: int, table: Table) -> Iterator[Fault]:
+    """The faults of the records of a CSV text, from a place in it on that has this line number."""
+    columns, names = table.columns, spelled(table.names)
+    for number, raw in doubtful(text, number, at, SurePatterns(table, text).records(), RECORD):
         count = len(fields(raw))
         if count != len(columns):
             yield record_length_fault(raw, count, columns, names, number)

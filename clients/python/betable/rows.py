@@ -143,6 +143,8 @@ def _advice(value: Any, name: str, kind: str) -> str:
             return "write int(value), or keep it in a smaller unit, as cents, with round(value * 100)"
         if hasattr(value, "isoformat"):
             return "write int(value.timestamp()), or make it a column of kind text with value.isoformat()"
+        if name == "datetime64":
+            return "write value.astype('datetime64[s]').astype('int64'), also of a whole array"
     elif kind == "text":
         if isinstance(value, (bytes, bytearray, memoryview)):
             return "write value.decode(), or make it a column of kind bytes"
