@@ -124,29 +124,69 @@ def event_of(script: bytes, answer: Answer) -> str:
     return f"id: {answer.number}\ndata: {json.dumps(said)}\n\n"
 
 
-def csv_rows(answer: Answer, is_sums: bool) -> Iterator[bytes]:
-    """Rows as CSV. A group is its count, its sum, and the values that it is of."""
-    for lines in line_blocks(answer.replies):
-        if is_sums:
-            lines = [line.replace(" ", ",", 2) for line in lines]
-        yield "".join(line + "\n" for line in lines).encode()
+class RowsAnswer:
+    """How rows are written: what comes before them, the rows of each answer of the engine, and what comes after them. A group has its count and its sum before
+    the values that it is of."""
+
+    content_type = ""
+
+    def __init__(self, answer: Answer, is_sums: bool, is_cut: bool) -> None:
+        self.is_sums, self.is_cut = is_sums, is_cut
+        self.names = (["count", "sum"] if is_sums else []) + [name for name, _ in answer.columns]
+
+    def begin(self) -> bytes:
+        return b""
+
+    def rows(self, answer: Answer) -> Iterator[bytes]:
+        raise NotImplementedError
+
+    def end(self) -> bytes:
+        return b""
 
 
-def json_rows(answer: Answer, is_sums: bool) -> Iterator[bytes]:
+class CsvRows(RowsAnswer):
+    """Rows as CSV."""
+
+    content_type = "text/csv; charset=utf-8; header=absent"
+
+    def rows(self, answer: Answer) -> Iterator[bytes]:
+        for lines in line_blocks(answer.replies):
+            if self.is_sums:
+                lines = [line.replace(" ", ",", 2) for line in lines]
+            yield "".join(line + "\n" for line in lines).encode()
+
+
+class CsvRowsWithHeader(CsvRows):
+    """Rows as CSV after a line with the names of the columns."""
+
+    content_type = "text/csv; charset=utf-8; header=present"
+
+    def begin(self) -> bytes:
+        return f"{','.join(self.names)}\n".encode()
+
+
+class JsonRows(RowsAnswer):
     """Rows as JSON. Bytes are in hexadecimal digits, as in a script."""
-    kinds = tuple(kind for _, kind in answer.columns)
-    names = (["count", "sum"] if is_sums else []) + [name for name, _ in answer.columns]
-    yield f'{{"columns": {json.dumps(names)}, "more": {json.dumps(answer.is_cut)}, "rows": ['.encode()
+
+    content_type = "application/json"
     comma = ""
-    for lines in line_blocks(answer.replies):
-        counts: list[list[int]] = [[] for _ in lines]
-        if is_sums:
-            groups = [line.split(" ", 2) for line in lines]
-            counts, lines = [[int(count), int(total)] for count, total, _ in groups], [values for _, _, values in groups]
-        rows = ([*count, *(value.hex() if isinstance(value, bytes) else value for value in row)] for count, row in zip(counts, rows_of(lines, kinds)))
-        yield (comma + ",\n".join(_json_text(row) for row in rows)).encode()
-        comma = ",\n"
-    yield b"]}\n"
+
+    def begin(self) -> bytes:
+        return f'{{"columns": {json.dumps(self.names)}, "more": {json.dumps(self.is_cut)}, "rows": ['.encode()
+
+    def rows(self, answer: Answer) -> Iterator[bytes]:
+        kinds = tuple(kind for _, kind in answer.columns)
+        for lines in line_blocks(answer.replies):
+            counts: list[list[int]] = [[] for _ in lines]
+            if self.is_sums:
+                groups = [line.split(" ", 2) for line in lines]
+                counts, lines = [[int(count), int(total)] for count, total, _ in groups], [values for _, _, values in groups]
+            rows = ([*count, *(value.hex() if isinstance(value, bytes) else value for value in row)] for count, row in zip(counts, rows_of(lines, kinds)))
+            yield (self.comma + ",\n".join(_json_text(row) for row in rows)).encode()
+            self.comma = ",\n"
+
+    def end(self) -> bytes:
+        return b"]}\n"
 
 
 def trees_of(state: State) -> dict[str, Any]:

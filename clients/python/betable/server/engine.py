@@ -20,7 +20,7 @@ from pathlib import Path
 from typing import Any, BinaryIO, NamedTuple
 
 from ..durable.table import FAULTS, ReplyDamaged, RequestReused, ScriptTooLong, open as open_table
-from ..errors import Refused
+from ..errors import Refused, RowError
 from ..language import State, counted
 from ..packed import Usage
 from ..replies import reply_end
@@ -40,12 +40,13 @@ LAST_WORDS = {b"row ": b"rows", b"sum ": b"sums"}
 
 
 class Page(NamedTuple):
-    """Rows of a tree: from a key to before another, and after the key of a row. Each is given by the fields of its values, or is None."""
+    """Rows of a tree: from a key to before another, and after the key of a row. Each is given by the fields of its values, or is None. The key of a row may be
+    given by its values too, as `Answer` has it."""
 
     tree: str
     start: list[str] | None
     stop: list[str] | None
-    after: list[str] | None
+    after: list[str] | tuple[Value, ...] | None
 
 
 class Work(NamedTuple):
@@ -62,13 +63,15 @@ class Work(NamedTuple):
 
 class Answer(NamedTuple):
     """The replies to a script, and the number of the last script that the table had kept after it. `is_cut` says whether rows were left out, and `columns` are
-    the names and kinds of the rows' columns, if `most_rows` was given. A tree whose image is too large has its `usage` in place of replies."""
+    the names and kinds of the rows' columns, if `most_rows` was given. A page has the key of its last row as `last`. A tree whose image is too large has its
+    `usage` in place of replies."""
 
     replies: bytes
     number: int
     is_cut: bool = False
     columns: list[tuple[str, str]] = []
     usage: Usage | None = None
+    last: tuple[Value, ...] | None = None
 
 
 class Result(NamedTuple):
@@ -183,16 +186,21 @@ class Worker:
         except ValueError:
             return None
         try:
-            after = _key_values(page.after, there, len(there.key))
+            after = page.after if isinstance(page.after, tuple) else _key_values(page.after, there, len(there.key))
         except ValueError as fault:
             raise WrongKey(f"'after': {fault}") from None
         try:
             rows = self.table.scan(page.tree, start, stop, None if most == ALL_ROWS else most + 1, after)
+        except RowError as fault:
+            raise WrongKey(f"'after': {fault}") from None
         except Refused:
             return None
-        found = printed_records(rows[:most], there.kinds)
+        is_cut = len(rows) > most
+        rows = rows[:most]
+        found = printed_records(rows, there.kinds)
         replies = "".join([f"row {line}\n" for line in found]) + f"rows {len(found)}\n"
-        return Answer(replies.encode(), self.table.number, len(rows) > most, [(column.name, column.kind) for column in there.columns])
+        last = rows[-1][: len(there.key)] if rows else None
+        return Answer(replies.encode(), self.table.number, is_cut, [(column.name, column.kind) for column in there.columns], last=last)
 
 
 def _key_values(fields: list[str] | None, there: Layout, least: int = 1) -> tuple[Value, ...] | None:

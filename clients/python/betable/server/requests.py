@@ -108,12 +108,17 @@ def bounds_of(query: dict[str, list[str]]) -> str:
     return "".join(f"{word} {record_of(word, query[word])}\n" for word in ("from", "to") if word in query)
 
 
-def page_of(tree: str, query: dict[str, list[str]]) -> Page | None:
-    """The page that is asked for, or None for all rows of a range."""
+def flag_of(query: dict[str, list[str]], name: str) -> bool:
+    word = query.get(name, ["0"])[0]
+    if word not in ("0", "1"):
+        raise Problem(400, f"'{name}' is 1 or 0, and not '{word[:40]}'")
+    return word == "1"
+
+
+def page_of(tree: str, query: dict[str, list[str]]) -> Page:
+    """The page that is asked for."""
     if "after" in query:
         record_of("after", query["after"])
-    elif "limit" not in query:
-        return None
     return Page(tree, query.get("from"), query.get("to"), query.get("after"))
 
 

@@ -28,18 +28,20 @@ from ..errors import Refused
 from ..language import MOST_SCRIPT_BYTES, State, commands
 from ..replies import BLOCK_BYTES
 from .answers import (
-    content_policy, csv_rows, event_of, json_replies, json_rows, picture_of, refusal_of_rows, refused_count, start_event, too_large, trees_of,
+    CsvRows, CsvRowsWithHeader, JsonRows, RowsAnswer, content_policy, event_of, json_replies, picture_of, refusal_of_rows, refused_count, start_event,
+    too_large, trees_of,
 )  # fmt: skip
 from .connections import FILES_BESIDE, Connections, client_of, raised_limit_of_files
 from .engine import ALL_ROWS, Answer, Closed, Engine, Lost, Page, Result, Work, WrongKey
 from .notices import Notices
 from .requests import (
-    Problem, batch_of, bounds_of, changing_word, checked_name, host_name, is_json, is_loopback, number_of, page_of, problem_of, query_of, record_of, request_id,
-    tree_of,
+    Problem, batch_of, bounds_of, changing_word, checked_name, flag_of, host_name, is_json, is_loopback, number_of, page_of, problem_of, query_of, record_of,
+    request_id, tree_of,
 )  # fmt: skip
 
 Handler = Callable[[web.Request], Awaitable[web.StreamResponse]]
 MOST_EVENTS, MOST_WATCHERS = 256, 64  # that wait for a reader; readers
+PAGE_ROWS = 10_000  # of a page of all rows of a range
 EVENT_SECONDS = 15  # seconds after which a reader of events gets a comment, so that proxies keep the connection
 ENDING_SECONDS = 1  # seconds after which a server that is ending gives up a body whose next bytes do not arrive
 LEAST_TOKEN_BYTES = 16
@@ -333,27 +335,29 @@ class Service:
     # ---- endpoints: reads ----
 
     async def get_row(self, request: web.Request) -> web.StreamResponse:
-        query = query_of(request, "key", "format")
+        query = query_of(request, "key", "format", "header")
         if "key" not in query:
             raise Problem(400, "a key has a parameter 'key' for each of its columns")
         return await self.rows(request, f"get {record_of('key', query['key'])}\n", query)
 
     async def get_rows(self, request: web.Request) -> web.StreamResponse:
-        query, tree = query_of(request, "from", "to", "after", "limit", "format"), tree_of(request)
+        query, tree = query_of(request, "from", "to", "after", "limit", "format", "header"), tree_of(request)
         return await self.rows(request, f"scan {tree}\n{bounds_of(query)}go\n", query, page_of(tree, query))
 
     async def get_sums(self, request: web.Request) -> web.StreamResponse:
-        query = query_of(request, "columns", "of", "from", "to", "limit", "format")
+        query = query_of(request, "columns", "of", "from", "to", "limit", "format", "header")
         if "of" not in query:
             raise Problem(400, "'of' names the column whose sum is asked for")
         head = f"sums {tree_of(request)} {number_of(query, 'columns', 1)} {checked_name(query['of'][0])}\n"
         return await self.rows(request, f"{head}{bounds_of(query)}go\n", query)
 
     async def rows(self, request: web.Request, text: str, query: dict[str, list[str]], page: Page | None = None) -> web.StreamResponse:
-        """The rows of a `get`, of a `scan` or a page of it, or of `sums`, as CSV or as JSON."""
-        script, as_json = text.encode(), is_json(request, query.get("format", [""])[0])
+        """The rows of a `get`, of a `scan` or a page of it, or of `sums`, as CSV or as JSON. Without a limit the rows of a scan are read a page at a time."""
+        script, as_json, has_header = text.encode(), is_json(request, query.get("format", [""])[0]), flag_of(query, "header")
+        is_in_pages = page is not None and "limit" not in query
+        work = Work(script, None, PAGE_ROWS if is_in_pages else number_of(query, "limit", ALL_ROWS), page=page)
         with self.place():
-            answer = await self.engine.run(Work(script, None, number_of(query, "limit", ALL_ROWS), page=page))
+            answer = await self.engine.run(work)
         self.hold(request, len(answer.replies))
         if answer.replies.startswith(b"refused "):
             raise refusal(next(commands(script)), answer.replies, self.engine.state, [])
@@ -361,10 +365,27 @@ class Service:
             if answer.replies == b"none\n":
                 raise Problem(404, "no row has this key")
             answer = answer._replace(replies=answer.replies + b"rows 1\n")
-        parts = (json_rows if as_json else csv_rows)(answer, script.startswith(b"sums "))
-        content_type = "application/json" if as_json else "text/csv; charset=utf-8; header=absent"
-        headers = {"Content-Type": content_type, "Betable-More": "true" if answer.is_cut else "false"}
-        return await self.response_in_parts(request, made_in_turn(parts), headers)
+        is_cut = answer.is_cut and not is_in_pages
+        written = (JsonRows if as_json else CsvRowsWithHeader if has_header else CsvRows)(answer, script.startswith(b"sums "), is_cut)
+        headers = {"Content-Type": written.content_type, "Betable-More": "true" if is_cut else "false"}
+        return await self.response_in_parts(request, self.pages(request, work, answer, written, is_in_pages), headers)
+
+    async def pages(self, request: web.Request, work: Work, answer: Answer, written: RowsAnswer, is_in_pages: bool) -> AsyncIterator[bytes]:
+        """The rows of an answer, and those of the pages after it. Each page is read once the client has taken the one before, which is held no longer."""
+        yield written.begin()
+        while True:
+            async for part in made_in_turn(written.rows(answer)):
+                yield part
+            if not (is_in_pages and answer.is_cut):
+                break
+            assert work.page is not None and answer.last is not None
+            self.hold(request, -len(answer.replies))
+            work, columns = work._replace(page=work.page._replace(after=answer.last)), answer.columns
+            answer = await self.engine.run(work)
+            self.hold(request, len(answer.replies))
+            if answer.columns != columns:
+                raise WrongKey("the tree was dropped, or made again, while its rows were read")
+        yield written.end()
 
     async def get_trees(self, request: web.Request) -> web.StreamResponse:
         return json_response(trees_of(self.engine.state))
