@@ -6,6 +6,7 @@ use Rattle.bt_message.specs.Effects.{effect_of}
 use Rattle.bt_form.specs.inside.NodeKinds.{HasBins, tree_of}
 use Rattle.bt_read.specs.inside.ValuesSoFar.{option_of}
 use Rattle.bt_read.specs.inside.Together.{tree_values}
+use Rattle.bt_read.proofs.lemmas.code.LookupPath.{IsChildAt}
 use Rattle.bt_read.proofs.lemmas.code.PivotSearch.{pivots_rise}
 use Rattle.bt_read.proofs.offered.RowsOfChildren.{child_in_order, child_lower}
 use Rattle.bt_form.proofs.offered.code.SiblingParts.{pivot_within}
@@ -41,14 +42,21 @@ add_after-requires-clause-within g t c =
 pub loop-done-preserved : goal.loop-done-preserved
 loop-done-preserved g t c =
     let effect = effect_of g.V.Merge.terms.merged in
-    let here = c.kind.ensures.tree ∙ ap tree_of c.in-Inner.is in
+    let child : IsChildAt c.args.node.now c.index-nodes-place.result (concatenation c.in-Inner.bins) c.pivots-pivots.result.now c.first_run-place.result.0 = record {
+      siblings = c.in-Inner.children;
+      trees = c.nodes.result.now;
+      node_is = c.kind.ensures.tree ∙ ap tree_of c.in-Inner.is;
+      trees_are = c.nodes.ensures;
+      pivots_are = c.pivots-pivots.ensures.pivots;
+      some = c.pivots-pivots.ensures.some;
+      at = c.index-nodes-place.is;
+    } in
     let lie = subst (λ ps. LieBetween ps c.in-Inner.bins) (sym c.pivots-pivots.ensures.pivots) (subst HasBins c.in-Inner.is c.kind.ensures.divided) in
     let keys = c.args.keys.now in
     let done = c.loop-done.done in
     let own = c.first_run-place.result.1.now in
     record {
-      wanted = next_run effect c.in-Inner.children c.in-Inner.bins c.args.node.now c.nodes.result.now c.pivots-pivots.result.now c.first_run-place.result.0 c.index-nodes-place.result
-          here c.nodes.ensures c.pivots-pivots.ensures.pivots c.pivots-pivots.ensures.some lie c.index-nodes-place.is
+      wanted = next_run effect c.in-Inner.bins child lie
           (λ k. k.now) (drop done keys) own (drop (done + length own) keys) (map option_of c.loop-done.values.items)
           (map option_of c.add_after.new.values.items) (map option_of c.in_ok-below-in-Inner.below.items) _
           c.first_run-place.ensures.belong (from_there keys own done (c.first_run-place.ensures.own ∙ ap (take (length own)) c.later_keys.ensures))

@@ -13,9 +13,6 @@ use Rattle.bt_form.specs.Messages.{Messages, between, rows_after, value_after, w
 use Rattle.bt_form.specs.Portions.{Divide, Portion, rows_of, value_in}
 use Rattle.bt_form.specs.Trees.{Siblings, Tree, height, inner, nodes, pivots_of}
 use Rattle.bt_read.specs.inside.Bounds.{next_bound}
-use Rattle.bt_form.specs.declared.node.NodeKind.{NodeKind}
-use Rattle.bt_form.specs.declared.node.NodeKind.TheVariants.{Inner}
-use Rattle.bt_form.specs.inside.NodeKinds.{HasBins, tree_of}
 use Rattle.bt_read.specs.inside.Lookups.{first_place, pivots_up_to}
 use Rattle.bt_read.specs.inside.Openings.{children_left, pivots_in}
 use Rattle.bt_read.proofs.lemmas.code.ChildBounds.{belongs, next_begins, next_below, next_from, next_within}
@@ -69,52 +66,6 @@ pub record FirstChild {V D : Type 0} (portion : Portion V (Message V D)) : Type 
   pub own_is : own ≡ between low high (get_or bins place [])
   pub own_sorted : IsSorted own
   pub merged_is : merged ≡ with_messages above own
-
--- from what the code knows about it
-abbrev pub first_child : {V D : Type 0} {portion : Portion V (Message V D)} {low to next high : Option Key} {tree child
-    : Tree V (Message V D)} {newer above own merged : Messages (Message V D)} {kind : NodeKind V D}
-    {xs : Siblings V (Message V D)} {bins : List (Messages (Message V D))} {ts : List (Tree V (Message V D))} {ps : List Key} {place : ℕ} →
-    portion_of low to tree newer ≡ portion → IsInOrder tree × IsSorted newer × AllWithin low to newer → tree ≡ tree_of kind → HasBins kind → kind ≡ Inner xs bins →
-    ts ≡ map (λ x. x.1) xs → ps ≡ pivots_of xs → 1 ≤ length xs → place ≡ first_place low ps → place ≤ length ps → next ≡ next_bound to place ps
-    → high ≡ option_or next to → child ≡ get_or ts place child →
-    above ≡ between None high newer → own ≡ between low high (get_or bins place []) → IsSorted own → merged ≡ with_messages above own → FirstChild portion
-first_child {low = low} {to = to} {next = next} {high = high} {tree = tree} {child = child} {newer = newer} {above = above} {own = own} {merged = merged} {xs =
-    xs} {bins = bins} {ts = ts} {ps = ps} {place = place}
-    seen meets tree_is divided kind_is items pivots some begins bound next_is high_is at above_is own_is own_sorted merged_is = record {
-      low = low;
-      to = to;
-      tree = tree;
-      newer = newer;
-      xs = xs;
-      bins = bins;
-      ts = ts;
-      ps = ps;
-      place = place;
-      child = child;
-      next = next;
-      high = high;
-      above = above;
-      own = own;
-      merged = merged;
-      seen = seen;
-      order = meets.0;
-      sorted = meets.1;
-      within = meets.2;
-      here = tree_is ∙ ap tree_of kind_is;
-      lie = subst (λ ps. LieBetween ps bins) (sym pivots) (subst HasBins kind_is divided);
-      items = items;
-      pivots = pivots;
-      some = some;
-      begins = begins;
-      bound = bound;
-      next_is = next_is;
-      high_is = high_is;
-      at = at;
-      above_is = above_is;
-      own_is = own_is;
-      own_sorted = own_sorted;
-      merged_is = merged_is;
-    }
 
 module _ {V D : Type 0} {portion : Portion V (Message V D)} (f : FirstChild portion) where
   there : f.place < length f.ts

@@ -119,12 +119,19 @@ module _ {M : Type 0} where
             first_stays o (n ∷ ns) os (e, later) ∙ sym (ap (λ zs. zs ++ o ∷ with_messages (n ∷ from o.0 ns) os) none.0 ∙ ap (λ zs. o ∷ with_messages (n ∷ zs) os) none.1)
       ] refl
 
-  pub merge_step : (o : Key × M) (os older newer left start moved done wanted : Messages M) → older ≡ o ∷ os → IsSorted newer → start ++ with_messages newer older ≡ wanted →
-      moved ≡ start ++ before o.0 newer → left ≡ from o.0 newer → done ≡ moved ++ o ∷ [] → done ++ with_messages left os ≡ wanted
-  merge_step o os older newer left start moved done wanted here sorted so_far move rest push =
-      ap (λ zs. zs ++ with_messages left os) push ∙ append_assoc moved (o ∷ []) (with_messages left os)
-      ∙ ap (λ zs. zs ++ o ∷ with_messages left os) move ∙ append_assoc start (before o.0 newer) (o ∷ with_messages left os)
-      ∙ ap (λ zs. start ++ (before o.0 newer ++ o ∷ with_messages zs os)) rest
+  -- the newer messages before an older one, and then that one, are moved to the merged ones
+  pub record AreMoved (o : Key × M) (newer left start done : Messages M) : Type 0 where
+    pub moved : Messages M
+    pub moved_are : moved ≡ start ++ before o.0 newer
+    pub left_are : left ≡ from o.0 newer
+    pub pushed : done ≡ moved ++ o ∷ []
+
+  pub merge_step : (o : Key × M) (os : Messages M) {older newer left start done wanted : Messages M} → older ≡ o ∷ os → IsSorted newer → start ++ with_messages newer older ≡ wanted →
+      AreMoved o newer left start done → done ++ with_messages left os ≡ wanted
+  merge_step o os {newer = newer} {left = left} {start = start} here sorted so_far move =
+      ap (λ zs. zs ++ with_messages left os) move.pushed ∙ append_assoc move.moved (o ∷ []) (with_messages left os)
+      ∙ ap (λ zs. zs ++ o ∷ with_messages left os) move.moved_are ∙ append_assoc start (before o.0 newer) (o ∷ with_messages left os)
+      ∙ ap (λ zs. start ++ (before o.0 newer ++ o ∷ with_messages zs os)) move.left_are
       ∙ ap (λ zs. start ++ zs) (sym (merged_at o os newer sorted)) ∙ ap (λ zs. start ++ with_messages newer zs) (sym here) ∙ so_far
 
   pub merge_end : (older newer start wanted : Messages M) → older ≡ [] → IsSorted newer → start ++ with_messages newer older ≡ wanted → start ++ newer ≡ wanted

@@ -27,6 +27,16 @@ past k at Less e t l = absurd (true≢false (ap is_lt e ∙ l))
 past k at Equal e t l = absurd (true≢false t)
 past k at Greater e t l = ap is_lt (total_keys.antisymm k at ∙ ap ordering_reverse (sym e))
 
+-- an inner node, with the trees, pivots and messages below it, and the child at a place
+pub record IsChildAt {V D : Type 0} (node child : Tree V (Message V D)) (buffer : Messages (Message V D)) (ps : List Key) (place : ℕ) : Type 0 where
+  pub siblings : Siblings V (Message V D)
+  pub trees : List (Tree V (Message V D))
+  pub node_is : node ≡ inner (nodes siblings) buffer
+  pub trees_are : trees ≡ map (λ y. y.1) siblings
+  pub pivots_are : ps ≡ map (λ y. y.0) (drop 1 siblings)
+  pub some : 1 ≤ length siblings
+  pub at : child ≡ get_or trees place child
+
 module _ {V D : Type 0} (effect : Option V → Message V D → Option V) where
   -- ---- children
 
@@ -46,16 +56,14 @@ module _ {V D : Type 0} (effect : Option V → Message V D → Option V) where
   child_at k (x ∷ xs) d some = one_child k x xs d
 
   -- the value at a key in an inner node, from the value in that child
-  pub along : (k : Key) (xs : Siblings V (Message V D)) (buffer : Messages (Message V D)) (node : Tree V (Message V D)) (ts : List (Tree V (Message V D))) (ps
-      : List Key) (place : ℕ) (child : Tree V (Message V D)) (old : Option V) →
-      node ≡ inner (nodes xs) buffer → ts ≡ map (λ y. y.1) xs → ps ≡ map (λ y. y.0) (drop 1 xs) → 1 ≤ length xs → place ≡ pivots_up_to k ps
-      → child ≡ get_or ts place child → old ≡ tree_value effect k child →
-      value_after effect k buffer old ≡ tree_value effect k node
-  along k xs buffer node ts ps place child old here items pivots some is at below =
+  pub along : (k : Key) {node child : Tree V (Message V D)} {buffer : Messages (Message V D)} {ps : List Key} {place : ℕ} {old : Option V} → IsChildAt node child buffer ps place →
+      place ≡ pivots_up_to k ps → old ≡ tree_value effect k child → value_after effect k buffer old ≡ tree_value effect k node
+  along k {child = child} {buffer = buffer} c is below =
+      let trees = map (λ y. y.1) c.siblings in
       ap (value_after effect k buffer)
-      (below ∙ ap (tree_value effect k) (at ∙ ap (λ ys. get_or ys place child) items ∙ ap (λ i. get_or (map (λ y. y.1) xs) i child) (is ∙ ap (pivots_up_to k) pivots))
-      ∙ sym (child_at k xs child some))
-      ∙ sym (ap (tree_value effect k) here)
+      (below ∙ ap (tree_value effect k) (c.at ∙ ap (λ ys. get_or ys _ child) c.trees_are ∙ ap (λ i. get_or trees i child) (is ∙ ap (pivots_up_to k) c.pivots_are))
+      ∙ sym (child_at k c.siblings child c.some))
+      ∙ sym (ap (tree_value effect k) c.node_is)
 
   -- ---- messages
 

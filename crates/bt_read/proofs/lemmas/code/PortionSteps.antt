@@ -15,6 +15,7 @@ use Rattle.bt_form.specs.Flushes.{holds}
 use Rattle.bt_form.specs.Portions.{Chained, Portion, Divide, HaveThere, all_rows, owners, owns, rows_of}
 use Rattle.bt_keycode.proofs.offered.Order.{before_chain}
 use Rattle.bt_read.proofs.lemmas.code.LentMessages.{value_past}
+use Rattle.bt_read.proofs.lemmas.code.Together.{IsAdded, one_after}
 use Rattle.bt_read.proofs.lemmas.lookups.HeldValues.{tree_value-held}
 use Rattle.bt_form.proofs.offered.rows.Values.{find-rows}
 use Rattle.bt_form.proofs.offered.rows.Between.{earlier_below, later_from, outside_upper, same_upper}
@@ -148,18 +149,12 @@ module _ {V D : Type 0} (effect : Option V → Message V D → Option V) (newer 
       ∙ ap (λ vs. value_after effect j newer old ∷ vs) (values_past k ks olds (rises_past k j ks rising))
 
   -- one more key has its value, and the messages up to it are taken off
-  pub value_more : {K H : Type 0} (key : K → Key) (value : H → Option V) (rest others : List K) (k : K) (olds later : List H) (old : H) (now : Option V) (left
-      : Messages (Message V D)) (values more wanted : List (Option V)) →
-      rest ≡ k ∷ others → olds ≡ old ∷ later → now ≡ value_after effect (key k) newer (value old) → left ≡ messages_past (key k) newer → more ≡ values ++ now ∷ [] → AreRising (map key rest) →
-      values ++ values_after effect newer (map key rest) (map value olds) ≡ wanted → more ++ values_after effect left (map key others) (map value later) ≡ wanted
-  value_more key value rest others k olds later old now left values more wanted rest_is olds_is now_is left_is more_is rising so_far =
-      ap (λ ms. more ++ values_after effect ms (map key others) (map value later)) left_is
-      ∙ ap (λ vs. more ++ vs) (values_past (key k) (map key others) (map value later) (subst (λ ks. AreRising (map key ks)) rest_is rising))
-      ∙ ap (λ vs. vs ++ values_after effect newer (map key others) (map value later)) more_is
-      ∙ append_assoc values (now ∷ []) (values_after effect newer (map key others) (map value later))
-      ∙ ap (λ v. values ++ v ∷ values_after effect newer (map key others) (map value later)) now_is
-      ∙ sym (ap (λ ks. values ++ values_after effect newer (map key ks) (map value olds)) rest_is ∙ ap (λ os. values ++ values_after effect newer (key k ∷ map key others) (map value os)) olds_is)
-      ∙ so_far
+  pub value_more : {keys rest : List Key} {olds later values new wanted : List (Option V)} {left : Messages (Message V D)} (added : IsAdded effect newer keys rest olds later values new) →
+      left ≡ messages_past added.key newer → AreRising keys → values ++ values_after effect newer keys olds ≡ wanted → new ++ values_after effect left rest later ≡ wanted
+  value_more {rest = rest} {later = later} {new = new} added left_is rising so_far =
+      ap (λ ms. new ++ values_after effect ms rest later) left_is
+      ∙ ap (λ vs. new ++ vs) (values_past added.key rest later (subst AreRising added.keys_are rising))
+      ∙ sym (one_after effect newer added) ∙ so_far
 
   none_left : (ks : List Key) → values_after effect newer ks [] ≡ []
   none_left [] = refl

@@ -13,12 +13,12 @@ use Rattle.bt_message.specs.declared.message.Message.{Message}
 use Rattle.bt_form.specs.Fits.{Lies}
 use Rattle.bt_form.specs.Flushes.{holds}
 use Rattle.bt_read.specs.inside.Lookups.{pivots_up_to, tree_value}
-use Rattle.bt_form.specs.Messages.{Messages, Rows, from, value_after}
-use Rattle.bt_form.specs.Trees.{Siblings, Tree, inner, leaf, nodes}
+use Rattle.bt_form.specs.Messages.{Messages, Rows, value_after}
+use Rattle.bt_form.specs.Trees.{Tree, leaf}
 use Rattle.bt_read.specs.inside.Bounds.{where_before}
 use Rattle.bt_read.specs.inside.Together.{AllBelong, count_between, values_after, tree_values}
 use Rattle.bt_read.proofs.lemmas.code.ChildBounds.{belongs}
-use Rattle.bt_read.proofs.lemmas.code.LookupPath.{along, all_left}
+use Rattle.bt_read.proofs.lemmas.code.LookupPath.{IsChildAt, along}
 use Rattle.bt_read.proofs.lemmas.lookups.BinOfKey.{value-bin}
 use Rattle.bt_read.proofs.lemmas.lookups.HeldValues.{tree_value-held}
 
@@ -54,22 +54,19 @@ belong first ps place next here is (k ∷ ks) h =
     (belongs (Some first) None next next ps place k here (is ∙ unlimited (slice_get ps place)) (or_nothing next) h.0, belong first ps place next here is ks h.1)
 
 -- the first key with those after it that belong to its child
-pub run_belongs : {K : Type 0} (key : K → Key) (first : K) (keys others own : List K) (ps : List Key) (place c count : ℕ) (next : Option Key) → 0 < length keys
-    → first ≡ get_or keys 0 first → others ≡ drop 1 keys →
-    place ≡ pivots_up_to (key first) ps → next ≡ slice_get ps place → c ≡ count_between (Some (key first)) next (map key others) → count ≡ c + 1
-    → own ≡ take count keys → AllBelong ps place (map key own)
-run_belongs key first [] others own ps place c count next some is following here next_is c_is count_is own_is = absurd (omega (arith, some))
-run_belongs key first (k ∷ ks) others own ps place c count next some is following here next_is c_is count_is own_is =
-    let more : count ≡ suc c = omega (arith, count_is) in
-    let counted = c_is ∙ ap (λ zs. count_between (Some (key first)) next (map key zs)) following in
-    let between = subst (λ n. AreBetween (Some (key first)) next (take n (map key ks))) (sym counted) (first_between (Some (key first)) next (map key ks)) in
-    let own_keys : map key own ≡ key first ∷ take c (map key ks) =
-    ap (map key) (own_is ∙ ap (λ n. take n (k ∷ ks)) more) ∙ ap (λ j. key j ∷ map key (take c ks)) (sym is) ∙ ap (λ zs. key first ∷ zs) (sym (take-map key c ks)) in
-    subst (AllBelong ps place) (sym own_keys) (here, belong (key first) ps place next here next_is (take c (map key ks)) between)
+pub run_belongs : {K : Type 0} (key : K → Key) (first : K) (keys : List K) (ps : List Key) (place count : ℕ) {next : Option Key} → 0 < length keys → first ≡ get_or keys 0 first
+    → place ≡ pivots_up_to (key first) ps → next ≡ slice_get ps place → count ≡ count_between (Some (key first)) next (map key (drop 1 keys))
+    → AllBelong ps place (map key (take (count + 1) keys))
+run_belongs key first [] ps place count some is here next_is count_is = absurd (omega (arith, some))
+run_belongs key first (k ∷ ks) ps place count {next} some is here next_is count_is =
+    let more : count + 1 ≡ suc count = omega arith in
+    let between = subst (λ n. AreBetween (Some (key first)) next (take n (map key ks))) (sym count_is) (first_between (Some (key first)) next (map key ks)) in
+    let own_keys : map key (take (count + 1) (k ∷ ks)) ≡ key first ∷ take count (map key ks) =
+    ap (λ n. map key (take n (k ∷ ks))) more ∙ ap (λ j. key j ∷ map key (take count ks)) (sym is) ∙ ap (λ zs. key first ∷ zs) (sym (take-map key count ks)) in
+    subst (AllBelong ps place) (sym own_keys) (here, belong (key first) ps place next here next_is (take count (map key ks)) between)
 
-module _ {V D : Type 0} (effect : Option V → Message V D → Option V) (xs : Siblings V (Message V D)) (bins : List (Messages (Message V D))) (node : Tree V (Message V D))
-    (ts : List (Tree V (Message V D))) (ps : List Key) (place : ℕ) (child : Tree V (Message V D)) (here : node ≡ inner (nodes xs) (concatenation bins)) (items : ts ≡ map (λ y. y.1) xs)
-    (pivots : ps ≡ map (λ y. y.0) (drop 1 xs)) (some : 1 ≤ length xs) (lie : LieBetween ps bins) (at : child ≡ get_or ts place child) where
+module _ {V D : Type 0} (effect : Option V → Message V D → Option V) (bins : List (Messages (Message V D))) {node child : Tree V (Message V D)} {ps : List Key} {place : ℕ}
+    (there : IsChildAt node child (concatenation bins) ps place) (lie : LieBetween ps bins) where
   -- the values there after the bin of a child
   values_above : (ks : List Key) → AllBelong ps place ks → values_after effect (get_or bins place []) ks (tree_values effect ks child) ≡ tree_values effect ks node
   values_above [] h = refl
@@ -77,7 +74,7 @@ module _ {V D : Type 0} (effect : Option V → Message V D → Option V) (xs : S
       ap (λ v. v ∷ values_after effect (get_or bins place []) ks (tree_values effect ks child))
       (ap (λ i. value_after effect k (get_or bins i []) (tree_value effect k child)) h.0
       ∙ value-bin effect k ps bins (tree_value effect k child) lie
-      ∙ along effect k xs (concatenation bins) node ts ps place child (tree_value effect k child) here items pivots some h.0 at refl)
+      ∙ along effect k there h.0 refl)
       ∙ ap (λ vs. tree_value effect k node ∷ vs) (values_above ks h.1)
 
   -- the values of the first keys, which go down together, and those of the others
@@ -94,16 +91,23 @@ module _ {V D : Type 0} (effect : Option V → Message V D → Option V) (xs : S
       ∙ ap (λ ks. tree_values effect ks node) (sym (map-append key own later) ∙ ap (map key) parts))
       ∙ so_far
 
+-- the first of the keys that are left gets its value, which is the one below after the messages
+pub record IsAdded {V D : Type 0} (effect : Option V → Message V D → Option V) (ms : Messages (Message V D)) (keys rest : List Key) (olds later values new : List (Option V)) : Type 0 where
+  pub key : Key
+  pub old : Option V
+  pub now : Option V
+  pub keys_are : keys ≡ key ∷ rest
+  pub olds_are : olds ≡ old ∷ later
+  pub now_is : now ≡ value_after effect key ms old
+  pub new_are : new ≡ values ++ now ∷ []
+
 -- one more value, and one key fewer
-pub one_after : {V D K H : Type 0} (effect : Option V → Message V D → Option V) (bin ms : Messages (Message V D)) (key : K → Key) (value : H
-    → Option V) (rest others : List K) (k : K) (olds : List H) (old now : H) (values new : List H) (wanted : List (Option V)) →
-    rest ≡ k ∷ others → ms ≡ from (key k) bin → value now ≡ value_after effect (key k) ms (value old) → new ≡ values ++ now ∷ [] →
-    wanted ≡ map value values ++ values_after effect bin (map key rest) (map value (old ∷ olds)) → wanted ≡ map value new ++ values_after effect bin (map key others) (map value olds)
-one_after effect bin ms key value rest others k olds old now values new wanted is from_key is_now more so_far =
-    let later = values_after effect bin (map key others) (map value olds) in
-    so_far ∙ ap (λ ks. map value values ++ values_after effect bin (map key ks) (map value (old ∷ olds))) is
-    ∙ ap (λ v. map value values ++ v ∷ later) (all_left effect (key k) bin ms (value old) from_key ∙ sym is_now)
-    ∙ sym (append_assoc (map value values) (value now ∷ []) later) ∙ ap (λ vs. vs ++ later) (sym (map-append value values (now ∷ [])) ∙ ap (map value) (sym more))
+pub one_after : {V D : Type 0} (effect : Option V → Message V D → Option V) (ms : Messages (Message V D)) {keys rest : List Key} {olds later values new : List (Option V)} →
+    IsAdded effect ms keys rest olds later values new → values ++ values_after effect ms keys olds ≡ new ++ values_after effect ms rest later
+one_after effect ms {rest = rest} {olds = olds} {later = later} {values = values} added =
+    let others = values_after effect ms rest later in
+    ap (λ ks. values ++ values_after effect ms ks olds) added.keys_are ∙ ap (λ os. values ++ values_after effect ms (added.key ∷ rest) os) added.olds_are
+    ∙ ap (λ v. values ++ v ∷ others) (sym added.now_is) ∙ sym (append_assoc values (added.now ∷ []) others) ∙ ap (λ vs. vs ++ others) (sym added.new_are)
 
 -- without messages the values stay
 unchanged : {V D : Type 0} (effect : Option V → Message V D → Option V) (ks : List Key) (olds : List (Option V)) → length olds ≡ length ks → values_after effect [] ks olds ≡ olds

@@ -6,7 +6,7 @@ use Rattle.bt_message.specs.Effects.{effect_of}
 use Rattle.bt_form.specs.inside.NodeKinds.{HasBins, tree_of}
 use Rattle.bt_read.specs.inside.Lookups.{tree_value}
 use Rattle.bt_read.specs.inside.ValuesSoFar.{option_of}
-use Rattle.bt_read.proofs.lemmas.code.LookupPath.{along, along_reset, begins_at}
+use Rattle.bt_read.proofs.lemmas.code.LookupPath.{IsChildAt, along, along_reset, begins_at}
 use Rattle.bt_read.proofs.lemmas.code.PivotSearch.{pivots_rise}
 use Rattle.bt_read.proofs.offered.RowsOfChildren.{child_in_order, child_lower}
 use Rattle.bt_form.proofs.offered.code.SiblingParts.{pivot_within}
@@ -58,13 +58,19 @@ pub returns-in_ok-old-in-Inner : goal.returns-in_ok-old-in-Inner
 returns-in_ok-old-in-Inner g t c =
     let effect = effect_of g.V.Merge.terms.merged in
     let k = c.args.key.now in
-    let here = c.kind.ensures.tree ∙ ap tree_of c.in-Inner.is in
+    let child : IsChildAt c.args.node.now c.index-nodes-place.result (concatenation c.in-Inner.bins) c.pivots.result.now c.pivots_up_to-place.result = record {
+      siblings = c.in-Inner.children;
+      trees = c.nodes.result.now;
+      node_is = c.kind.ensures.tree ∙ ap tree_of c.in-Inner.is;
+      trees_are = c.nodes.ensures;
+      pivots_are = c.pivots.ensures.pivots;
+      some = c.pivots.ensures.some;
+      at = c.index-nodes-place.is;
+    } in
     let lie = subst (λ ps. LieBetween ps c.in-Inner.bins) (sym c.pivots.ensures.pivots) (subst HasBins c.in-Inner.is c.kind.ensures.divided) in
     let begins = begins-bin effect k c.pivots.result.now c.in-Inner.bins c.pivots_up_to-place.result c.since_reset-start.result.left
     c.since_reset-start.result.start lie c.pivots_up_to-place.ensures.count c.since_reset-start.ensures.value in
     let none : c.since_reset-start.result.start ≡ None = search rules in
     IfOk-weaker c.after_messages-in-Inner.result _ _ (λ value e. e
     ∙ begins_at effect k (concatenation c.in-Inner.bins) c.since_reset-start.result.left c.since_reset-start.result.start None (option_of c.in_ok-old-in-Inner.old) begins none
-    ∙ along effect k c.in-Inner.children (concatenation c.in-Inner.bins) c.args.node.now c.nodes.result.now c.pivots.result.now c.pivots_up_to-place.result
-    c.index-nodes-place.result (option_of c.in_ok-old-in-Inner.old)
-    here c.nodes.ensures c.pivots.ensures.pivots c.pivots.ensures.some c.pivots_up_to-place.ensures.count c.index-nodes-place.is c.in_ok-old-in-Inner.ensures) c.after_messages-in-Inner.ensures
+    ∙ along effect k child c.pivots_up_to-place.ensures.count c.in_ok-old-in-Inner.ensures) c.after_messages-in-Inner.ensures

@@ -9,7 +9,7 @@ use Rattle.bt_read.specs.inside.Together.{values_after}
 use Rattle.bt_read.proofs.lemmas.code.ChildBounds.{rest_rises}
 use Rattle.bt_read.proofs.lemmas.code.LentMessages.{past_in_order}
 use Rattle.bt_read.proofs.lemmas.code.PortionSteps.{value_more, values_end, values_held}
-use Rattle.bt_read.proofs.lemmas.code.Together.{first_of}
+use Rattle.bt_read.proofs.lemmas.code.Together.{IsAdded, first_of}
 use Rattle.bt_read.proofs.portions.Portion.values.Goals as goal
 
 pub loop-old-init : goal.loop-old-init
@@ -38,10 +38,18 @@ loop-old-preserved g c =
     let rising = c.loop-old.invariant.rising in
     let olds : c.loop-old.old-iterator.rest.items ≡ c.in-Some.old ∷ c.next.new.self.rest.items = search rules in
     let left = c.in_ok-held.ensures.left in
+    let added : IsAdded effect c.loop-old.newer (map (λ k. k.now) c.loop-old.rest.now) _ (map option_of c.loop-old.old-iterator.rest.items) (map option_of c.next.new.self.rest.items)
+    c.loop-old.values.items c.push.new.self.items = record {
+      key = c.key-item.result.now;
+      old = option_of c.in-Some.old;
+      now = c.in_ok-into_value.field-0;
+      keys_are = ap (map (λ k. k.now)) here;
+      olds_are = ap (map option_of) olds;
+      now_is = c.in_ok-into_value.ensures ∙ c.in_ok-held.ensures.value;
+      new_are = c.in_ok-push.ensures.items;
+    } in
     record {
-      values = value_more effect c.loop-old.newer (λ k. k.now) option_of c.loop-old.rest.now _ c.key-item.result c.loop-old.old-iterator.rest.items
-          c.next.new.self.rest.items c.in-Some.old c.in_ok-into_value.field-0 c.take_up_to.new.self
-          c.loop-old.values.items c.push.new.self.items _ here olds (c.in_ok-into_value.ensures ∙ c.in_ok-held.ensures.value) left c.in_ok-push.ensures.items rising c.loop-old.invariant.values;
+      values = value_more effect c.loop-old.newer added left rising c.loop-old.invariant.values;
       rising = rest_rises _ _ (subst (λ ks. AreRising (map (λ k. k.now) ks)) here rising);
       sorted = subst IsSorted (sym left) (past_in_order c.key-item.result.now c.loop-old.newer c.loop-old.invariant.sorted);
     }
