@@ -73,6 +73,18 @@ class Messages(unittest.TestCase):
             self.assertEqual(said, "refused 3 NoTable: There is no table yet. Make it first, as by table('id:int city:text')")
         self.assertIn("A 'table' command has to come first", self.said(lambda session: session.run("get 1\n"), client.Refused))
 
+    def test_a_rebuild_packs_one_tree_and_changes_no_row(self) -> None:
+        self.session.table("id:int qty:int", buffer=4, leaf=4, fanout=4)
+        self.session.index("by_qty", "qty")
+        self.session.put([(number * 37 % 101, number) for number in range(101)], most=5)
+        rows, before = self.session.scan(), [self.session.usage(tree) for tree in ("primary", "by_qty")]
+        self.assertGreater(before[0].messages, 0)
+        self.session.rebuild()
+        self.assertEqual((self.session.usage().rows, self.session.usage().messages, self.session.usage("by_qty")), (101, 0, before[1]))
+        self.session.rebuild("by_qty")
+        self.assertEqual((self.session.usage("by_qty").messages, self.session.scan()), (0, rows))
+        self.assertTrue(self.said(lambda session: session.rebuild("other"), client.Refused).startswith("refused 8 NoSuchTree: no tree is named 'other'"))
+
     def test_a_range_is_not_deleted_as_a_key(self) -> None:
         self.session.table("id:int qty:int")
         said = self.said(lambda session: session.delete((1,), (5,)), client.RowTypeError)

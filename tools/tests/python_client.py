@@ -321,6 +321,7 @@ class PythonClient(TestCase):
             "put": lambda s: s.put([(4, text, True, b"")]),
             "put_csv": lambda s: s.put_csv(text),
             "put_frame": None,
+            "rebuild": lambda s: s.rebuild(text),
             "replies": None,
             "run": None,
             "scan": lambda s: s.scan(text),

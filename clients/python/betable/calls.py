@@ -313,6 +313,12 @@ class Calls(ABC):
             parts.append(f"where {self._condition(where)}")
         self.run(" ".join(parts) + "\n" + (f"build {name} {10**language.MOST_DIGITS - 1}\n" if build else ""))
 
+    def rebuild(self, tree: str = "primary") -> None:
+        """Packs a tree again in the order of its keys, with all that is pending in it. Its rows stay as they are; after puts in random order reads take less
+        time."""
+        script = f"rebuild {checked_name(tree, 'a tree')}\n".encode()
+        self._refuse_if_refused(script, self.replies(script), 0, None)
+
     def trees(self) -> list[Tree]:
         """The tree of rows, if there is a table, and its indexes, in the order in which they were made."""
         table = self.state.table
