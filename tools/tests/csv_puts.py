@@ -1,5 +1,6 @@
 """Tests of CSV files with wrong records that the Python client puts or loads: all of them are told at once, or go to a file while the others are put."""
 
+import csv
 import pickle
 import random
 import tempfile
@@ -21,6 +22,9 @@ WRONG = [
     ("1,Oslo,true,2", None), ('1,"a ""b""",maybe', "open"), ("1.5,Oslo,true", "id"), (".", None),
 ]  # fmt: skip
 
+# Texts with line breaks, as they are in quotes.
+BREAKS = ["a\nb", "\n", "\n\n", 'a""\n""b', "a,\nb", "\r\n", "a\rb"]
+
 
 class Files(unittest.TestCase):
     """Each test has a folder, and a block of any size for the file to be read in."""
@@ -35,8 +39,8 @@ class Files(unittest.TestCase):
         self.path.write_bytes(text.encode("utf-8", "surrogateescape"))
 
     def sessions(self) -> Any:
-        """A session of the extension, and one that goes by ctypes."""
-        for kind in (client.session.Session, client.session.PureSession):
+        """A session of the extension, and one whose calls go by scripts."""
+        for kind in (client.session.Session, client.session.ScriptSession):
             session = kind()
             self.addCleanup(session.close)
             session.table(COLUMNS)
@@ -117,6 +121,49 @@ class AllWrongRecordsAreTold(Files):
             for session in self.sessions():
                 self.assertIn(f"line {line}: the quoted field that begins in line {line}", str(self.refusal(lambda: session.put_csv(self.path))))
                 self.assertEqual(session.scan(), [])
+
+
+class TextsWithLineBreaks(Files):
+    """The extension packs them, and a script has none."""
+
+    def session(self) -> Any:
+        if client.session._packed is None:
+            self.skipTest("the extension is not built")
+        session = client.session.Session()
+        self.addCleanup(session.close)
+        session.table(COLUMNS)
+        return session
+
+    def test_are_put_in_their_order_among_others(self) -> None:
+        dice = random.Random(85)
+        for _ in range(40):
+            text = [f"{dice.randrange(30)},{dice.choice(['Oslo', 'æ', '5 inch'])},{dice.choice(['true', 'FALSE'])}" for _ in range(dice.randrange(60))]
+            text += [f'{dice.randrange(30)},"{dice.choice(BREAKS)}",true' for _ in range(dice.randrange(9))]
+            dice.shuffle(text)
+            self.write("\ufeff" + HEADER + "".join(record + dice.choice(["\n", "\r\n", "\n\n"]) for record in text))
+            with self.path.open(encoding="utf-8-sig", newline="") as file:
+                rows = [(int(number), city, flag.lower() == "true") for number, city, flag in list(filter(None, csv.reader(file)))[1:]]
+            csv_input.BLOCK = dice.choice([1, 40, 1 << 22])
+            session = self.session()
+            self.assertEqual(session.put_csv(self.path, most=dice.choice([1, 7, 65_536])), len(rows))
+            self.assertEqual(session.scan(), sorted({row[0]: row for row in rows}.values()))
+
+    def test_a_script_refuses_them_with_their_line(self) -> None:
+        self.write(HEADER + '1,Oslo,true\n\n2,"a\nb",true\n')
+        with client.session.ScriptSession() as session:
+            session.table(COLUMNS)
+            with self.assertRaisesRegex(client.RowValueError, "column 'city': .*rows.csv, line 4: 'a.*b' has a line break"):
+                session.put_csv(self.path)
+            self.assertEqual(session.scan(), [])
+
+    def test_wrong_records_among_them_are_told_and_left_out(self) -> None:
+        self.write(HEADER + '1,"a\nb",true\n2,"c\n\nd",no\n"x\n",e,true\n3,f,true\n4,g\n')
+        session = self.session()
+        fault = self.refusal(lambda: session.put_csv(self.path))
+        self.assertEqual([(one.line, one.column, one.value) for one in fault.wrong], [(4, "open", "no"), (7, "id", "x\n"), (10, None, None)])
+        self.assertEqual(session.put_csv(self.path, rejects=self.rejects), 2)
+        self.assertEqual(session.scan(), [(1, "a\nb", True), (3, "f", True)])
+        self.assertEqual(self.rejects.read_bytes(), b'id,city,open\n2,"c\n\nd",no\n"x\n",e,true\n4,g\n')
 
 
 class WrongRecordsGoToAFile(Files):
