@@ -3,10 +3,13 @@
 import unittest
 from typing import Any
 
-from clients import betable, library
+from .clients import betable, library
 
-library()
 client: Any = betable()
+
+
+def setUpModule() -> None:
+    library()
 
 
 class Messages(unittest.TestCase):

@@ -8,9 +8,8 @@ import unittest
 from pathlib import Path
 from typing import Any
 
-from clients import betable, library
+from .clients import betable, library
 
-library()
 client: Any = betable()
 csv_input: Any = __import__("betable.csv_input").csv_input
 
@@ -24,6 +23,10 @@ WRONG = [
 
 # Texts with line breaks, as they are in quotes.
 BREAKS = ["a\nb", "\n", "\n\n", 'a""\n""b', "a,\nb", "\r\n", "a\rb"]
+
+
+def setUpModule() -> None:
+    library()
 
 
 class Files(unittest.TestCase):

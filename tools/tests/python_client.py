@@ -882,8 +882,6 @@ class Exceptions(TestCase):
                 cases = [
                     ("id,city\n1,a\n\n2,b,x\n", client.Refused, f"{path}, line 4: 3 fields, and a record has 2 (id, city)"),
                     ('id,city\n1,a\nx,"b"\n', client.Refused, f"{path}, line 3: column 1 'id' (int): 'x' is no"),
-                    ('id,city\n1,a\n3,"b\nc"\n', client.RowValueError, f"{path}, line 3: 'b\\nc' has a line break"),
-                    ('id,city\n1,a\n\n3,"b\rc"\n', client.RowValueError, f"{path}, line 4: 'b\\rc' has a line break"),
                     ('id,city\n1,a\n3,"b\n', client.Refused, f"{path}, line 3: the quoted field that begins in line 3 is not closed"),
                     ("id,town\n1,a\n", client.RowValueError, f"{path}, line 1: the header is 'id,town', and the columns are id,city"),
                     ("\n\n1,a\n", client.RowValueError, f"{path}, line 3: the header is '1,a', and the columns are id,city"),
@@ -963,7 +961,7 @@ class Exceptions(TestCase):
             try:
                 for module.CSV_ROWS in (1, 7, page):
                     of_breaks = ("load_csv",) if client.Session is client.session.ScriptSession else ("load_csv", "put_csv")
-                for given, calls in ((texts, ("load_csv", "put_csv")), (texts + breaks, of_breaks)):
+                    for given, calls in ((texts, ("load_csv", "put_csv")), (texts + breaks, of_breaks)):
                         for columns, rows in (
                             ("t:text", [(text,) for text in given]),
                             ("t:text n:int f:flag b:bytes", [(text, place - 3, place % 2 == 1, bytes(range(place))) for place, text in enumerate(given)]),

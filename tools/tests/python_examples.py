@@ -10,12 +10,15 @@ from importlib.util import module_from_spec, spec_from_file_location
 from pathlib import Path
 from typing import Any
 
-from clients import betable, library
+from .clients import betable, library
 
-library()
 client: Any = betable()
 TOP = Path(__file__).resolve().parents[2]
 EXAMPLES = TOP / "examples/python"
+
+
+def setUpModule() -> None:
+    library()
 
 
 def example(name: str) -> Any:

@@ -11,9 +11,14 @@ import unittest
 from http.client import HTTPConnection, IncompleteRead
 from typing import Any
 
-from service import most_memory, python, server, until
+from .clients import library
+from .service import most_memory, python, server, until
 
 TABLE = b"table 16 1024 256 2 city:text id:int note:text\nindex by_note on note\nbuild by_note 1\n"
+
+
+def setUpModule() -> None:
+    library()
 
 
 @unittest.skipIf(python() is None, "aiohttp is not installed: the server is not tested")
