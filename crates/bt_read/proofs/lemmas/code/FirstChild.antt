@@ -16,10 +16,11 @@ use Rattle.bt_read.specs.inside.Bounds.{next_bound}
 use Rattle.bt_read.specs.inside.Lookups.{first_place, pivots_up_to}
 use Rattle.bt_read.specs.inside.Openings.{children_left, pivots_in}
 use Rattle.bt_read.proofs.lemmas.code.ChildBounds.{belongs, next_begins, next_below, next_from, next_within}
+use Rattle.bt_read.proofs.lemmas.code.LookupPath.{IsChildAt}
 use Rattle.bt_read.proofs.lemmas.code.PivotSearch.{pivots_rise}
 use Rattle.bt_read.proofs.lemmas.code.PortionSteps.{child_inside, on_one_side, owners-append, rest_inside}
 use Rattle.bt_read.proofs.offered.RowsOfChildren.{child_in_order, child_lower}
-use Rattle.bt_read.proofs.lemmas.code.RowsShown.{child_found, last_rows, next_rows, rest_found}
+use Rattle.bt_read.proofs.lemmas.code.RowsShown.{AreMessagesTo, child_found, last_rows, next_rows, rest_found}
 use Rattle.bt_form.proofs.offered.flushes.Groups.{children-nodes}
 use Rattle.bt_form.proofs.offered.keys.SortedLists.{sorted-where}
 use Rattle.bt_read.proofs.lemmas.lookups.BinOfKey.{bin-between}
@@ -74,6 +75,9 @@ module _ {V D : Type 0} {portion : Portion V (Message V D)} (f : FirstChild port
   in_order : IsInOrder f.child
   in_order = child_in_order f.tree f.xs (concatenation f.bins) f.here f.ts f.items f.place f.child there f.at f.order
 
+  abbrev is_child : IsChildAt f.tree f.child (concatenation f.bins) f.ps f.place
+  is_child = record { siblings = f.xs; trees = f.ts; node_is = f.here; trees_are = f.items; pivots_are = f.pivots; some = f.some; at = f.at }
+
   -- the child is lower, and the statements about portions hold for it
   pub lower : height f.child < height portion.tree
   lower = subst (λ n. height f.child < n) (ap (λ p. height p.tree) f.seen) (child_lower f.tree f.xs (concatenation f.bins) f.here f.ts f.items f.place f.child there f.at)
@@ -101,15 +105,24 @@ module _ {V D : Type 0} {portion : Portion V (Message V D)} (f : FirstChild port
     own_does : (q : Key) → is_between f.low f.high q ≡ true → (old : Option V) → value_after effect q f.own old ≡ value_after effect q (concatenation f.bins) old
     own_does q inside = bin-between effect f.low f.high f.ps f.bins f.place f.own f.lie f.own_is q inside (belongs_there q inside)
 
+    messages : AreMessagesTo effect f.ps f.place f.low f.high (concatenation f.bins) f.newer f.merged
+    messages = record {
+      above = f.above;
+      own = f.own;
+      belongs = belongs_there;
+      own_does = own_does;
+      own_sorted = f.own_sorted;
+      above_is = f.above_is;
+      merged_is = f.merged_is;
+    }
+
     found : (q : Key) → is_between f.low f.high q ≡ true → value_in effect q child_portion ≡ value_in effect q all_of
-    found = child_found effect f.tree f.xs (concatenation f.bins) f.here f.order f.ts f.ps f.place f.child f.items f.pivots f.some there f.at
-        f.low f.high f.newer f.above f.own f.merged belongs_there own_does f.own_sorted f.above_is f.merged_is
+    found = child_found effect is_child f.order there messages
 
     -- the last child is all that is left
     pub last_child : f.next ≡ None → Divide effect (portion ∷ []) (child_portion ∷ [])
     last_child none = let last : f.high ≡ f.to = f.high_is ∙ ap (λ n. option_or n f.to) none in subst (λ p. Divide effect (p ∷ []) (child_portion ∷ [])) f.seen record {
-      rows = ap (λ l. l ++ []) (last_rows effect f.tree f.xs (concatenation f.bins) f.here f.order f.ts f.ps f.place f.child f.items f.pivots f.some there f.at
-          f.low f.high f.newer f.above f.own f.merged belongs_there own_does f.own_sorted f.above_is f.merged_is f.to last);
+      rows = ap (λ l. l ++ []) (last_rows effect is_child f.order there messages f.to last);
       owned = λ q. ap {B = ℕ} (λ h. cond (is_between f.low h q) 1 0) last;
       values = λ q value have. ((λ inside. found q inside ∙ have.0 (ap (λ h. is_between f.low h q) (sym last) ∙ inside)), tt);
       chained = λ from end chain. (chain.0, last ∙ chain.1);
@@ -161,16 +174,14 @@ module _ {V D : Type 0} {portion : Portion V (Message V D)} (f : FirstChild port
 
     module _ (effect : Option V → Message V D → Option V) where
       others_found : (q : Key) → is_between (Some p) f.to q ≡ true → value_in effect q others ≡ value_in effect q all_of
-      others_found = rest_found effect f.tree f.xs (concatenation f.bins) f.here f.order f.ts f.ps f.place f.child f.items f.pivots f.some there f.at
-          f.low f.high f.newer f.above f.own f.merged belongs_there (own_does effect) f.own_sorted f.above_is f.merged_is f.to p left ends left_is
+      others_found = rest_found effect is_child f.order there (messages effect) f.to p left ends left_is
 
       -- the child, and then the others
       pub child_and_others : Divide effect (portion ∷ []) (child_portion ∷ others ∷ [])
       child_and_others = subst (λ q. Divide effect (q ∷ []) (child_portion ∷ others ∷ [])) f.seen record {
         rows = ap (λ n. rows_of effect child_portion ++ (between n f.to (rows_after effect left (holds effect f.tree)) ++ [])) key.1
             ∙ ap (λ l. rows_of effect child_portion ++ l) (append-nil (between (Some p) f.to (rows_after effect left (holds effect f.tree))))
-            ∙ next_rows effect f.tree f.xs (concatenation f.bins) f.here f.order f.ts f.ps f.place f.child f.items f.pivots f.some there f.at
-            f.low f.high f.newer f.above f.own f.merged belongs_there (own_does effect) f.own_sorted f.above_is f.merged_is f.to p left ends left_is from_low below_to
+            ∙ next_rows effect is_child f.order there (messages effect) f.to p left ends left_is from_low below_to
             ∙ sym (append-nil (rows_of effect all_of));
         owned = λ q. owners-append q (child_portion ∷ []) (others ∷ [])
             ∙ ap {B = ℕ} (λ h. cond (is_between f.low h q) 1 0 + cond (is_between f.next f.to q) 1 0) ends
