@@ -114,44 +114,65 @@ module _ {V M : Type 0} (effect : Option V → M → Option V) where
       ∙ ap (λ b. row_at m.0 (value_after effect m.0 ms (cond b (effect old m.1) old)) ++ rows_after effect (messages_past m.0 (m ∷ ms)) (with_value m.0 None later)) (ties m.0 m.0 refl)
       ∙ ap (λ b. row_at m.0 (value_after effect m.0 ms (effect old m.1)) ++ rows_after effect (cond b (m ∷ ms) (messages_past m.0 ms)) (with_value m.0 None later)) (not_before_itself m.0))
 
-  module _ {S : Type 0} (visited : S → Key × V → S) (m : Key × M) (ms messages : Messages M) (rs earlier : Rows V) (start first_shown wanted : S) (here
-      : messages ≡ m ∷ ms) (sorted : IsSorted messages)
-      (rising : is_sorted key_cmp rs ≡ true) (so_far : wanted ≡ fold visited start (rows_after effect messages rs)) (at_first
-      : earlier ≡ before m.0 rs) (show_first : first_shown ≡ fold visited start earlier) where
+  -- the rows before the key of the first message were shown
+  pub record AreShown {S : Type 0} (visited : S → Key × V → S) (m : Key × M) (ms messages : Messages M) (rs : Rows V) (shown wanted : S) : Type 0 where
+    pub start : S
+    pub earlier : Rows V
+    pub messages_are : messages ≡ m ∷ ms
+    pub sorted : IsSorted messages
+    pub rising : is_sorted key_cmp rs ≡ true
+    pub so_far : wanted ≡ fold visited start (rows_after effect messages rs)
+    pub earlier_are : earlier ≡ before m.0 rs
+    pub shown_is : shown ≡ fold visited start earlier
+
+  -- the row of that key, with its value after the messages to it, is shown after them
+  pub record IsShown {S : Type 0} (visited : S → Key × V → S) (m : Key × M) (ms left_messages : Messages M) (rs others : Rows V) (before_it shown : S) : Type 0 where
+    pub later : Rows V
+    pub old : Option V
+    pub first : Option V
+    pub value : Option V
+    pub later_are : later ≡ from m.0 rs
+    pub old_is : old ≡ find key_cmp m.0 later
+    pub others_are : others ≡ with_value m.0 None later
+    pub first_is : first ≡ effect old m.1
+    pub value_is : value ≡ value_after effect m.0 ms first
+    pub left_are : left_messages ≡ messages_past m.0 ms
+    pub shown_is : shown ≡ fold visited before_it (row_at m.0 value)
+
+  module _ {S : Type 0} {visited : S → Key × V → S} {m : Key × M} {ms messages : Messages M} {rs : Rows V} {shown wanted : S} (done : AreShown visited m ms messages rs shown wanted) where
     -- the rows after the messages, from the key of the first message on
     abbrev from_first : Rows V
     from_first = row_at m.0 (value_after effect m.0 ms (effect (find key_cmp m.0 (from m.0 rs)) m.1)) ++ rows_after effect (messages_past m.0 ms) (with_value m.0 None (from m.0 rs))
 
-    -- these are still to be shown when the rows before this key have been
-    past_first : wanted ≡ fold visited first_shown from_first
+    -- these are still to be shown
+    past_first : wanted ≡ fold visited shown from_first
     past_first =
-        so_far ∙ ap (λ zs. fold visited start (rows_after effect zs rs)) here
-        ∙ ap (fold visited start) (pass_at m ms rs (subst (IsSorted {X = M}) here sorted) rising)
-        ∙ ap (λ zs. fold visited start (zs ++ from_first)) (sym at_first)
-        ∙ fold-append visited start earlier from_first
-        ∙ ap (λ s. fold visited s from_first) (sym show_first)
+        done.so_far ∙ ap (λ zs. fold visited done.start (rows_after effect zs rs)) done.messages_are
+        ∙ ap (fold visited done.start) (pass_at m ms rs (subst (IsSorted {X = M}) done.messages_are done.sorted) done.rising)
+        ∙ ap (λ zs. fold visited done.start (zs ++ from_first)) (sym done.earlier_are)
+        ∙ fold-append visited done.start done.earlier from_first
+        ∙ ap (λ s. fold visited s from_first) (sym done.shown_is)
 
     -- the end of the pass if nothing more is shown
-    pub shown_end : ((rows : Rows V) → fold visited first_shown rows ≡ first_shown) → first_shown ≡ wanted
+    pub shown_end : ((rows : Rows V) → fold visited shown rows ≡ shown) → shown ≡ wanted
     shown_end none = sym (past_first ∙ none from_first)
 
     -- a step of the pass, by what was shown
-    pub shown_step : (left_messages : Messages M) (later others : Rows V) (old first value : Option V) (shown : S) →
-        later ≡ from m.0 rs → old ≡ find key_cmp m.0 later → others ≡ with_value m.0 None later → first ≡ effect old m.1 →
-        value ≡ value_after effect m.0 ms first → left_messages ≡ messages_past m.0 ms → shown ≡ fold visited first_shown (row_at m.0 value) →
-        wanted ≡ fold visited shown (rows_after effect left_messages others)
-    shown_step left_messages later others old first value shown at_last is_old is_others is_first is_value is_left show =
-        let old_is : old ≡ find key_cmp m.0 (from m.0 rs) = is_old ∙ ap (find key_cmp m.0) at_last in
-        let value_is : value ≡ value_after effect m.0 ms (effect (find key_cmp m.0 (from m.0 rs)) m.1) = is_value ∙ ap (value_after effect m.0 ms) (is_first ∙ ap (λ o. effect o m.1) old_is) in
-        let others_is : others ≡ with_value m.0 None (from m.0 rs) = is_others ∙ ap (with_value m.0 None) at_last in
+    pub shown_step : {left_messages : Messages M} {others : Rows V} {after : S} → IsShown visited m ms left_messages rs others shown after →
+        wanted ≡ fold visited after (rows_after effect left_messages others)
+    shown_step {left_messages} {others} row =
+        let old_is : row.old ≡ find key_cmp m.0 (from m.0 rs) = row.old_is ∙ ap (find key_cmp m.0) row.later_are in
+        let value_is : row.value ≡ value_after effect m.0 ms (effect (find key_cmp m.0 (from m.0 rs)) m.1) =
+        row.value_is ∙ ap (value_after effect m.0 ms) (row.first_is ∙ ap (λ o. effect o m.1) old_is) in
+        let others_are : others ≡ with_value m.0 None (from m.0 rs) = row.others_are ∙ ap (with_value m.0 None) row.later_are in
         let rest = rows_after effect left_messages others in
         past_first
-        ∙ ap (λ zs. fold visited first_shown (row_at m.0 (value_after effect m.0 ms (effect (find key_cmp m.0 (from m.0 rs)) m.1)) ++ rows_after effect zs
-        (with_value m.0 None (from m.0 rs)))) (sym is_left)
-        ∙ ap (λ zs. fold visited first_shown (row_at m.0 (value_after effect m.0 ms (effect (find key_cmp m.0 (from m.0 rs)) m.1)) ++ rows_after effect left_messages zs)) (sym others_is)
-        ∙ ap (λ v. fold visited first_shown (row_at m.0 v ++ rest)) (sym value_is)
-        ∙ fold-append visited first_shown (row_at m.0 value) rest
-        ∙ ap (λ s. fold visited s rest) (sym show)
+        ∙ ap (λ zs. fold visited shown (row_at m.0 (value_after effect m.0 ms (effect (find key_cmp m.0 (from m.0 rs)) m.1)) ++ rows_after effect zs
+        (with_value m.0 None (from m.0 rs)))) (sym row.left_are)
+        ∙ ap (λ zs. fold visited shown (row_at m.0 (value_after effect m.0 ms (effect (find key_cmp m.0 (from m.0 rs)) m.1)) ++ rows_after effect left_messages zs)) (sym others_are)
+        ∙ ap (λ v. fold visited shown (row_at m.0 v ++ rest)) (sym value_is)
+        ∙ fold-append visited shown (row_at m.0 row.value) rest
+        ∙ ap (λ s. fold visited s rest) (sym row.shown_is)
 
 -- no more messages are past a key than there are
 pub fewer_past : {M : Type 0} (k : Key) (ms : Messages M) → length (messages_past k ms) ≤ length ms
