@@ -1,6 +1,6 @@
 -- The answers of all workers, after all passes of started workers came back.
 use Rattle.std.proofs.Common.{◌≡◌, ℕ, suc, ◌+◌, ◌<◌, ◌≤◌, List, [], ◌∷◌, ◌++◌, All, length, length-append, map, get_or}
-use Rattle.std.proofs.Common.{replicate, Option, None, IfSome, IsSome, Result, sym, ap, ◌∙◌, subst, refl, arith}
+use Rattle.std.proofs.Common.{replicate, Option, None, IsSome, Result, sym, ap, ◌∙◌, subst, refl, arith}
 use Rattle.std.proofs.lemmas.List.{length-map, length-replicate}
 use Rattle.crossbeam_queue.specs.Passes.{view}
 use Rattle.bt_gang.specs.declared.answers.Answer.{Answer}
@@ -28,7 +28,8 @@ use Rattle.bt_gang.proofs.Filling.{all_once, below-back, below-front, below_all,
 
 module _ {J D F : Type 0} (allows : J → Result D F → Type 0) where
   -- the caller served, and then took in the lists of the workers that came back
-  module _ {jobs : Jobs J D F} {all : List J} {k : ℕ} {mine : Worker J D F} (outs : List (Option (Answers D F))) {w : Known J} (h : HasServedCaller allows jobs all k mine) (t : TookIn (view mine.pass) w outs) where
+  module _ {jobs : Jobs J D F} {all : List J} {k : ℕ} {mine : Worker J D F} (outs : List (Option (Answers D F))) {w : Known J}
+      (h : HasServedCaller allows jobs all k mine) (t : TookIn (view mine.pass) w outs) where
     took_all : w ≡ known all (taken_list 0 (numbered (present mine.out.list)) ∷ (lists_left MOST_WORKERS (suc k) ++ lists_back 1 outs))
     took_all = t ∙ ap (λ (y : Known J). known y.jobs (y.lists ++ lists_back 1 outs)) h.served.knows
 

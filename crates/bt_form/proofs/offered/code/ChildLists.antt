@@ -20,7 +20,7 @@ pub replicate-more : {X : Type 0} (n : ℕ) (x : X) → replicate n x ++ x ∷ [
 replicate-more zero x = refl
 replicate-more (suc n) x = ap (λ z. x ∷ z) (replicate-more n x)
 
--- The lists in which children stand: the first pivot, the pivots after it, the trees and the bins.
+-- The lists that hold children: the first pivot, the pivots after it, the trees and the bins.
 pub record ListedChildren (V M : Type 0) : Type 0 where
   pub first : Key
   pub pivots : List Key
@@ -68,7 +68,7 @@ module _ {V M : Type 0} where
     goes_on = λ some. later (test ∙ ne_eqb (suc n) 0 (λ e. omega (arith, e)));
   }
 
-  -- more children stand after others
+  -- more children come after others
   pub record AreAppended (old more new : ListedChildren V M) : Type 0 where
     pub between : List Key
     pub next : IsNext old more.first new.first between
