@@ -52,55 +52,38 @@ module _ {M : Type 0} where
   pub gained_sorted : (start merged more older : Messages M) → merged ≡ start ++ with_messages more older → start ≡ [] → IsSorted older → IsSorted merged
   gained_sorted start merged more older e f h = subst IsSorted (sym (e ∙ ap (λ zs. zs ++ with_messages more older) f)) (sorted-with_messages more older h)
 
-  -- a new list has room for the share of the bin at a place
-  pub record HasRoomHere (ns : List ℕ) (bs : List (Messages M)) (i : ℕ) (list : Vec (List ℕ × M) Global) : Type 0 where
-    pub share : ℕ
-    pub bin : Messages M
+  -- the share and the bin at a place
+  pub record AreAt (ns : List ℕ) (bs : List (Messages M)) (i n : ℕ) (bin : Messages M) : Type 0 where
     pub among_shares : i < length ns
-    pub share_is : share ≡ get_or ns i share
+    pub share_is : n ≡ get_or ns i n
     pub among_bins : i < length bs
     pub bin_is : bin ≡ get_or bs i bin
-    pub room : HasRoom share bin list
 
   -- room for one more bin
-  pub room_more : (i : ℕ) (ns : List ℕ) (bs : List (Messages M)) (rs more : List (Vec (List ℕ × M) Global)) {r : Vec (List ℕ × M) Global} →
-      length rs ≡ i → HasRoomHere ns bs i r → more ≡ rs ++ r ∷ [] → HaveRoom (take i ns) bs rs → HaveRoom (take (i + 1) ns) bs more
-  room_more i ns bs rs more {r} e here m hs =
+  pub room_more : {i : ℕ} {ns : List ℕ} {bs : List (Messages M)} (rs : List (Vec (List ℕ × M) Global)) {more : List (Vec (List ℕ × M) Global)} {n : ℕ} {b : Messages M} (r : Vec (List ℕ × M) Global) →
+      length rs ≡ i → AreAt ns bs i n b → HasRoom n b r → more ≡ rs ++ r ∷ [] → HaveRoom (take i ns) bs rs → HaveRoom (take (i + 1) ns) bs more
+  room_more {i} {ns} {bs} rs {more} {n} {b} r e here h m hs =
       let one : suc i ≡ i + 1 = omega arith in
-      let room = subst (λ n. HasRoom n (get_or bs i here.bin) r) here.share_is (subst (λ b. HasRoom here.share b r) here.bin_is here.room) in
+      let room = subst (λ x. HasRoom x (get_or bs i b) r) here.share_is (subst (λ c. HasRoom n c r) here.bin_is h) in
       subst (λ j. HaveRoom (take j ns) bs more) one
-      (subst (HaveRoom (take (suc i) ns) bs) (sym m) (room_push i ns bs rs here.share here.bin r e here.among_shares here.among_bins room hs))
+      (subst (HaveRoom (take (suc i) ns) bs) (sym m) (room_push i ns bs rs n b r e here.among_shares here.among_bins room hs))
 
   -- ---- moves
 
-  module _ (ns : List ℕ) (bs : List (Messages M)) (rs : List (Vec (List ℕ × M) Global)) (i n : ℕ) (old new : Messages M) (r r' : Vec (List ℕ × M) Global) (s s' : Messages M)
-      (within : i < length ns) (here : n ≡ get_or ns i n) (below : i < length bs) (old_is : old ≡ get_or bs i old) (beside : i < length rs) (room_is : r ≡ get_or rs i r) where
+  module _ {ns : List ℕ} {bs : List (Messages M)} {i n : ℕ} {old : Messages M} (here : AreAt ns bs i n old) where
     shares_next : drop i ns ≡ n ∷ drop (i + 1) ns
-    shares_next = drop_more ns i n within ∙ ap (λ y. y ∷ drop (i + 1) ns) (sym here)
+    shares_next = drop_more ns i n here.among_shares ∙ ap (λ y. y ∷ drop (i + 1) ns) (sym here.share_is)
 
     bins_next : drop i bs ≡ old ∷ drop (i + 1) bs
-    bins_next = drop_more bs i old below ∙ ap (λ y. y ∷ drop (i + 1) bs) (sym old_is)
+    bins_next = drop_more bs i old here.among_bins ∙ ap (λ y. y ∷ drop (i + 1) bs) (sym here.bin_is)
 
-    rooms_next : drop i rs ≡ r ∷ drop (i + 1) rs
-    rooms_next = drop_more rs i r beside ∙ ap (λ y. y ∷ drop (i + 1) rs) (sym room_is)
-
-    both : HaveRoom (drop i ns) (drop i bs) (drop i rs) → HasRoom n old r × HaveRoom (drop (i + 1) ns) (drop (i + 1) bs) (drop (i + 1) rs)
-    both h =
-        subst (λ xs. HaveRoom (n ∷ drop (i + 1) ns) (old ∷ drop (i + 1) bs) xs) rooms_next
-        (subst (λ xs. HaveRoom (n ∷ drop (i + 1) ns) xs (drop i rs)) bins_next (subst (λ xs. HaveRoom xs (drop i bs) (drop i rs)) shares_next h))
-
-    pub room_later : HaveRoom (drop i ns) (drop i bs) (drop i rs) → HaveRoom (drop (i + 1) ns) (drop (i + 1) (set bs i new)) (drop (i + 1) (set rs i r'))
-    room_later h =
-        subst (HaveRoom (drop (i + 1) ns) (drop (i + 1) (set bs i new))) (sym (drop-set-lt (i + 1) rs i r' (omega arith)))
-        (subst (λ xs. HaveRoom (drop (i + 1) ns) xs (drop (i + 1) rs)) (sym (drop-set-lt (i + 1) bs i new (omega arith))) (both h).1)
-
-    pub moved_next : (wanted : List (Messages M)) → new ≡ with_messages (take n s) old → s' ≡ drop n s → take i bs ++ each_with (parted (drop i ns) s) (drop i bs) ≡ wanted →
+    pub moved_next : (new s s' : Messages M) {wanted : List (Messages M)} → new ≡ with_messages (take n s) old → s' ≡ drop n s → take i bs ++ each_with (parted (drop i ns) s) (drop i bs) ≡ wanted →
         take (i + 1) (set bs i new) ++ each_with (parted (drop (i + 1) ns) s') (drop (i + 1) (set bs i new)) ≡ wanted
-    moved_next wanted moved left w =
+    moved_next new s s' moved left w =
         let rest = drop (i + 1) bs in
         let later : List (Messages M) = each_with (parted (drop (i + 1) ns) s') rest in
         ap (λ zs. take (i + 1) (set bs i new) ++ each_with (parted (drop (i + 1) ns) s') zs) (drop-set-lt (i + 1) bs i new (omega arith))
-        ∙ ap (λ zs. zs ++ later) (take_more_set bs i new below)
+        ∙ ap (λ zs. zs ++ later) (take_more_set bs i new here.among_bins)
         ∙ append_assoc (take i bs) (new ∷ []) later
         ∙ ap (λ z. take i bs ++ z ∷ later) moved
         ∙ ap (λ zs. take i bs ++ with_messages (take n s) old ∷ each_with (parted (drop (i + 1) ns) zs) rest) left
@@ -108,11 +91,25 @@ module _ {M : Type 0} where
         ∙ ap (λ zs. take i bs ++ each_with (parted (n ∷ drop (i + 1) ns) s) zs) bins_next)
         ∙ w
 
-    pub left_next : (wanted : Messages M) → s' ≡ drop n s → drop (total (drop i ns)) s ≡ wanted → drop (total (drop (i + 1) ns)) s' ≡ wanted
-    left_next wanted left w =
+    pub left_next : (s s' : Messages M) {wanted : Messages M} → s' ≡ drop n s → drop (total (drop i ns)) s ≡ wanted → drop (total (drop (i + 1) ns)) s' ≡ wanted
+    left_next s s' left w =
         ap (drop (total (drop (i + 1) ns))) left ∙ drop-drop (total (drop (i + 1) ns)) n s ∙ sym (ap (λ ks. drop (total ks) s) shares_next) ∙ w
 
-  -- the room of the next bin
-  pub room_here : (ns : List ℕ) (bs : List (Messages M)) (rs : List (Vec (List ℕ × M) Global)) (i n : ℕ) (old : Messages M) (r : Vec (List ℕ × M) Global) →
-      i < length ns → n ≡ get_or ns i n → i < length bs → old ≡ get_or bs i old → i < length rs → r ≡ get_or rs i r → HaveRoom (drop i ns) (drop i bs) (drop i rs) → HasRoom n old r
-  room_here ns bs rs i n old r within here below old_is beside room_is h = (both ns bs rs i n old old r r [] [] within here below old_is beside room_is h).0
+    module _ (rs : List (Vec (List ℕ × M) Global)) {r : Vec (List ℕ × M) Global} (within : i < length rs) (is : r ≡ get_or rs i r) where
+      rooms_next : drop i rs ≡ r ∷ drop (i + 1) rs
+      rooms_next = drop_more rs i r within ∙ ap (λ y. y ∷ drop (i + 1) rs) (sym is)
+
+      both : HaveRoom (drop i ns) (drop i bs) (drop i rs) → HasRoom n old r × HaveRoom (drop (i + 1) ns) (drop (i + 1) bs) (drop (i + 1) rs)
+      both h =
+          subst (λ xs. HaveRoom (n ∷ drop (i + 1) ns) (old ∷ drop (i + 1) bs) xs) rooms_next
+          (subst (λ xs. HaveRoom (n ∷ drop (i + 1) ns) xs (drop i rs)) bins_next (subst (λ xs. HaveRoom xs (drop i bs) (drop i rs)) shares_next h))
+
+      -- the room of the next bin
+      pub room_here : HaveRoom (drop i ns) (drop i bs) (drop i rs) → HasRoom n old r
+      room_here h = (both h).0
+
+      pub room_later : (new : Messages M) (r' : Vec (List ℕ × M) Global) → HaveRoom (drop i ns) (drop i bs) (drop i rs)
+          → HaveRoom (drop (i + 1) ns) (drop (i + 1) (set bs i new)) (drop (i + 1) (set rs i r'))
+      room_later new r' h =
+          subst (HaveRoom (drop (i + 1) ns) (drop (i + 1) (set bs i new))) (sym (drop-set-lt (i + 1) rs i r' (omega arith)))
+          (subst (λ xs. HaveRoom (drop (i + 1) ns) xs (drop (i + 1) rs)) (sym (drop-set-lt (i + 1) bs i new (omega arith))) (both h).1)

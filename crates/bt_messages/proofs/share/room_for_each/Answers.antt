@@ -4,7 +4,7 @@ use Rattle.std.proofs.lemmas.Grind.{common_steps}
 use Rattle.bt_messages.specs.Shares.{counts}
 use Rattle.bt_messages.specs.declared.share.Share.{Share}
 use Rattle.bt_messages.specs.inside.Rooms.{HaveRoom}
-use Rattle.bt_messages.proofs.Sharing.{HasRoomHere, room_more}
+use Rattle.bt_messages.proofs.Sharing.{AreAt, room_more}
 use Rattle.bt_messages.proofs.Weighing.{count_here, length-counts}
 use Rattle.bt_messages.proofs.offered.Totals.{part_of_total}
 use Rattle.bt_messages.proofs.share.room_for_each.Goals as goal
@@ -23,17 +23,14 @@ loop-place-preserved g c =
     let buffers = c.args.buffers.now in
     let i = c.loop-place.place in
     let none : Share = record { count = 0; weight = None } in
-    let here : HasRoomHere (counts ss) buffers i c.in_ok-room.room = record {
-      share = _;
-      bin = c.index-buffers-place.result;
+    let here : AreAt (counts ss) buffers i (get_or ss i none).count c.index-buffers-place.result = record {
       among_shares = omega (arith, c.loop-place-test.true, length-counts ss);
       share_is = count_here ss i none _ c.loop-place-test.true refl;
       among_bins = omega (arith, c.loop-place-test.true, c.requires.len);
       bin_is = c.index-buffers-place.is;
-      room = c.in_ok-room.ensures;
     } in
     record {
-      room = room_more i (counts ss) buffers c.loop-place.rooms.items c.push_reserved.new.self.items c.loop-place.invariant.len here c.push_reserved.ensures.items c.loop-place.invariant.room;
+      room = room_more c.loop-place.rooms.items c.in_ok-room.room c.loop-place.invariant.len here c.in_ok-room.ensures c.push_reserved.ensures.items c.loop-place.invariant.room;
       len = grind (arith, common_steps);
       capacity = grind (arith, common_steps);
     }
