@@ -97,11 +97,11 @@ module _ {K : Type 0} (seen : K → Key) (value : Key → Option (List Value)) w
     pub next_is : next ≡ skipped + message_total own_others
 
   -- the effects of one more job come before those of the keys that are left
-  pub one_job : (ms : Messages RowMessage) {left later : List K} {others later_others : List ℕ} {skipped next : ℕ} (rows : List (Option (List Value)))
-      {before after whole : List Effect} (job : IsNextJob left later others later_others skipped next) → rows ≡ map (λ k. value (seen k)) job.own
+  pub one_job : (ms : Messages RowMessage) {left later : List K} {others later_others : List ℕ} {skipped next : ℕ} (rows : List (Option (List Value))) (before : List Effect)
+      {after whole : List Effect} (job : IsNextJob left later others later_others skipped next) → rows ≡ map (λ k. value (seen k)) job.own
       → after ≡ before ++ effects_in (map seen job.own) job.own_others rows (drop skipped ms)
       → before ++ effects_by left others (drop skipped ms) ≡ whole → after ++ effects_by later later_others (drop next ms) ≡ whole
-  one_job ms {left} {later} {others} {later_others} {skipped} {next} rows {before} {after} {whole} job rows_are after_is so_far =
+  one_job ms {left} {later} {others} {later_others} {skipped} {next} rows before {after} {whole} job rows_are after_is so_far =
       let own = job.own in
       let n = length own in
       let from = drop skipped ms in

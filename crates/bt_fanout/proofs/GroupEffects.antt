@@ -116,24 +116,24 @@ pub record IsNextEffect {K : Type 0} (seen : K → List ℕ) (keys : List K) (ot
   pub place : ℕ
   pub key : K
   pub count : ℕ
-  pub key_within : length old < length keys
-  pub count_within : length old < length others
-  pub place_is : place ≡ length old
-  pub key_is : key ≡ get_or keys place key
-  pub count_is : count ≡ get_or others place count
   pub row_is : rows ≡ row ∷ later
   pub of_key : effect.key ≡ seen key
   pub of_row : effect.before ≡ row
   pub after_is : effect.after ≡ value_after_first row_effect (count + 1) ms row
   pub left_is : left ≡ drop (count + 1) ms
+  pub place_is : place ≡ length old
+  pub key_within : length old < length keys
+  pub key_is : key ≡ get_or keys place key
+  pub count_within : length old < length others
+  pub count_is : count ≡ get_or others place count
   pub added : new ≡ old ++ effect ∷ []
 
 -- one more effect
 pub one_effect : {K : Type 0} (seen : K → List ℕ) (keys : List K) (others : List ℕ) {rows later : List (Option (List Value))} {ms left : Messages RowMessage} {effect : Effect}
-    {old new : List Effect} (whole : List Effect) → IsNextEffect seen keys others rows later ms left effect old new
+    (old new whole : List Effect) → IsNextEffect seen keys others rows later ms left effect old new
     → whole ≡ old ++ effects_in (map seen (drop (length old) keys)) (drop (length old) others) rows ms
     → whole ≡ new ++ effects_in (map seen (drop (length new) keys)) (drop (length new) others) later left
-one_effect seen keys others {rows} {later} {ms} {left} {effect} {old} {new} whole next is =
+one_effect seen keys others {rows} {later} {ms} {left} {effect} old new whole next is =
     let row = next.row in
     let key = next.key in
     let count = next.count in

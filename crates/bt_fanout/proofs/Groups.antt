@@ -238,12 +238,12 @@ pub record IsNextKey {M K : Type 0} (seen : K → List ℕ) (cover : Cover) (lef
   pub later_is : later ≡ after_group message.0 rest
 
 -- one more key
-pub one_key : {M K : Type 0} (seen : K → List ℕ) (cover : Cover) {left later : Messages M} {key : K} {count : ℕ} {keys new_keys : List K} {others new_others : List ℕ}
-    (whole : List (List ℕ × ℕ)) → IsNextKey seen cover left later key count →
+pub one_key : {M K : Type 0} (seen : K → List ℕ) (cover : Cover) (keys new_keys : List K) (others new_others : List ℕ) (whole : List (List ℕ × ℕ))
+    {left later : Messages M} {key : K} {count : ℕ} → IsNextKey seen cover left later key count →
     map (λ g. g.0) whole ≡ map seen keys ++ map (λ g. g.0) (groups_within cover left) → map (λ g. g.1) whole ≡ others ++ map (λ g. g.1) (groups_within cover left) →
     new_keys ≡ keys ++ key ∷ [] → new_others ≡ others ++ count ∷ [] →
     IsSorted later × ((map (λ g. g.0) whole ≡ map seen new_keys ++ map (λ g. g.0) (groups_within cover later)) × (map (λ g. g.1) whole ≡ new_others ++ map (λ g. g.1) (groups_within cover later)))
-one_key seen cover {left} {later} {key} {count} {keys} {new_keys} {others} {new_others} whole next so also more_keys more_others =
+one_key seen cover keys new_keys others new_others whole {left} {later} {key} {count} next so also more_keys more_others =
     let m = next.message in
     let ms = next.rest in
     let order : IsSorted (m ∷ ms) = subst IsSorted next.left_is next.sorted in

@@ -26,10 +26,10 @@ module _ {X : Type 0} where
     pub grown_is : seen grown ≡ seen group ++ item ∷ []
 
   -- one more group has its item
-  pub one_group : {G : Type 0} (seen : G → List X) {done more left later : List G} {items rest : List X} {grown : G} (whole : List (List X))
+  pub one_group : {G : Type 0} (seen : G → List X) (done : List G) {more left later : List G} {items rest : List X} {grown : G} (whole : List (List X))
       → IsNextGroup seen left later items rest grown → more ≡ done ++ grown ∷ []
       → map seen done ++ with_next (map seen left) items ≡ whole → map seen more ++ with_next (map seen later) rest ≡ whole
-  one_group seen {done} {more} {left} {later} {items} {rest} {grown} whole next more_is so_far =
+  one_group seen done {more} {left} {later} {items} {rest} {grown} whole next more_is so_far =
       let others = with_next (map seen later) rest in
       ap (λ gs. map seen gs ++ others) more_is ∙ ap (λ ls. ls ++ others) (map-append seen done (grown ∷ [])) ∙ append_assoc (map seen done) (seen grown ∷ []) others
       ∙ ap (λ g. map seen done ++ g ∷ others) next.grown_is

@@ -13,7 +13,7 @@ use Rattle.bt_portions.specs.KeyShares.{HasRisingKeys, HasValues}
 use Rattle.bt_fanout.specs.Effects.{RowMessage, row_effect}
 use Rattle.bt_fanout.specs.declared.effect_jobs.EffectJob.{EffectJob}
 use Rattle.bt_fanout.specs.inside.EffectJobs.{IsWhole, effects_there, message_total, rows_there}
-use Rattle.bt_fanout.proofs.EffectJobs.{effects_by, flat_map-push, length-front, one_job, total-split}
+use Rattle.bt_fanout.proofs.EffectJobs.{IsNextJob, effects_by, flat_map-push, length-front, one_job, total-split}
 use Rattle.bt_fanout.proofs.effect_jobs.effect_jobs.Goals as goal
 
 pub loop-portion-init : goal.loop-portion-init
@@ -73,6 +73,17 @@ loop-portion-preserved c =
     let others = c.divided.ensures.later in
     let job : EffectJob = record { portion = c.in-Some.portion; keys = c.in-Some.own_keys; others = c.divided.result.0; skipped = c.loop-portion.before } in
     let as_many : length c.divided.result.0.now ≡ n = ap length first ∙ length-front n rest within in
+    let left = flat_map (λ (share : Portion (List Value) RowMessage × Bor (List (Bor Key))). share.1.now) (into_iter_items c.loop-portion.portion-iterator) in
+    let before = c.loop-portion.before in
+    let next_job : IsNextJob (λ k. k.now) value left later rest c.divided.result.1.now before (before + c.message_count-before.result) = record {
+      own = own;
+      own_others = c.divided.result.0.now;
+      left_is = keys;
+      few = within;
+      own_is = first;
+      later_is = others;
+      next_is = ap (λ count. before + count) c.message_count-before.ensures;
+    } in
     record {
       same = omega (arith, so_far.same, ap length keys, length-append own later, ap length others, length-drop n rest);
       few = omega (arith, so_far.few, c.message_count-before.ensures, ap message_total first, ap message_total others, total-split n rest);
@@ -81,16 +92,7 @@ loop-portion-preserved c =
       whole = subst (All IsWhole) (sym c.in_ok-push.ensures.items)
           (All-push IsWhole c.loop-portion.jobs.items job so_far.whole (All-head HasRisingKeys share shares (subst (All HasRisingKeys) steps so_far.rising), as_many));
       effects = λ messages.
-          one_job (λ k. k.now) value messages (rows_there job)
-          (record {
-            own = own;
-            own_others = c.divided.result.0.now;
-            left_is = keys;
-            few = within;
-            own_is = first;
-            later_is = others;
-            next_is = ap (λ count. c.loop-portion.before + count) c.message_count-before.ensures;
-          })
+          one_job (λ k. k.now) value messages (rows_there job) (flat_map (effects_there messages) c.loop-portion.jobs.items) next_job
           (All-head (HasValues row_effect value) share shares (subst (All (HasValues row_effect value)) steps so_far.values))
           (ap (flat_map (effects_there messages)) c.in_ok-push.ensures.items ∙ flat_map-push (effects_there messages) c.loop-portion.jobs.items job) (so_far.effects messages);
     }

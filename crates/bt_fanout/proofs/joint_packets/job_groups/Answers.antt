@@ -12,7 +12,7 @@ use Rattle.bt_fanout.specs.Effects.{row_effect}
 use Rattle.bt_fanout.specs.declared.joint_packets.JobGroup.{JobGroup}
 use Rattle.bt_fanout.specs.inside.EffectJobs.{IsWhole, message_total}
 use Rattle.bt_fanout.specs.inside.PacketGroups.{effects_in_group}
-use Rattle.bt_fanout.proofs.EffectJobs.{effects_by, flat_map-push, length-front, one_job, total-split}
+use Rattle.bt_fanout.proofs.EffectJobs.{IsNextJob, effects_by, flat_map-push, length-front, one_job, total-split}
 use Rattle.bt_fanout.proofs.joint_packets.job_groups.Goals as goal
 
 abbrev AreWhole : JobGroup → Type 0
@@ -73,6 +73,16 @@ loop-preserved c =
     let long : length own_keys ≡ size = ap length c.between.ensures ∙ length-front size (drop start keys) (omega (arith, within, length-drop start keys)) in
     let left : drop start keys ≡ own_keys ++ drop end keys =
     sym (ap (λ ks. own_keys ++ ks) later_keys ∙ ap (λ ks. ks ++ drop size (drop start keys)) c.between.ensures ∙ take-append-drop size (drop start keys)) in
+    let next_job : IsNextJob (λ k. k.now) value (drop start keys) (drop end keys) (drop start others) (drop end others) c.loop.skipped (c.loop.skipped + c.message_count-skipped.result) =
+    record {
+      own = own_keys;
+      own_others = own;
+      left_is = left;
+      few = omega (arith, long, within, c.requires.same, length-drop start others);
+      own_is = c.between-own.ensures ∙ ap (λ n. take n (drop start others)) (sym long);
+      later_is = later_others ∙ ap (λ n. drop n (drop start others)) (sym long);
+      next_is = ap (λ n. c.loop.skipped + n) c.message_count-skipped.ensures;
+    } in
     let group : JobGroup = record { jobs = c.in_ok-jobs.jobs } in
     record {
       within = within;
@@ -80,11 +90,7 @@ loop-preserved c =
       rising = subst (λ ks. AreRising (map (λ k. k.now) ks)) (sym later_keys) (rest_rise (λ k. k.now) size (drop start keys) so_far.rising);
       whole = subst (All AreWhole) (sym c.in_ok-push.ensures.items) (All-push AreWhole c.loop.groups.items group so_far.whole c.in_ok-jobs.ensures.whole);
       effects = λ messages.
-          one_job (λ k. k.now) value messages (drop start keys) (drop end keys) own_keys (drop start others) own (drop end others) c.loop.skipped
-          (c.loop.skipped + c.message_count-skipped.result) (map (λ k. value k.now) own_keys) (flat_map (effects_in_group messages) c.loop.groups.items)
-          (flat_map (effects_in_group messages) c.push.new.self.items) (effects_by (λ k. k.now) value keys others messages) left
-          (omega (arith, long, within, c.requires.same, length-drop start others)) (c.between-own.ensures ∙ ap (λ n. take n (drop start others)) (sym long))
-          (later_others ∙ ap (λ n. drop n (drop start others)) (sym long)) (ap (λ n. c.loop.skipped + n) c.message_count-skipped.ensures) refl
+          one_job (λ k. k.now) value messages (map (λ k. value k.now) own_keys) (flat_map (effects_in_group messages) c.loop.groups.items) next_job refl
           (ap (flat_map (effects_in_group messages)) c.in_ok-push.ensures.items ∙ flat_map-push (effects_in_group messages) c.loop.groups.items group
           ∙ ap (λ es. flat_map (effects_in_group messages) c.loop.groups.items ++ es) (c.in_ok-jobs.ensures.effects messages)) (so_far.effects messages);
     }

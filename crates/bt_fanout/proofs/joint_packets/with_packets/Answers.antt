@@ -16,7 +16,7 @@ loop-group-preserved c =
     let packet = c.in-Some-next.ensures.items in
     record {
       same = omega (arith, so_far.same, ap length group, ap length packet);
-      groups = one_group (λ group. group.items) (with_next (map (λ group. group.items) c.args.groups.items) c.args.packets.items)
+      groups = one_group (λ group. group.items) c.loop-group.more.items (with_next (map (λ group. group.items) c.args.groups.items) c.args.packets.items)
           (record { group = c.in-Some.group; item = c.in-Some-next.packet; left_is = group; items_are = packet; grown_is = c.in_ok-push.ensures.items })
           c.in_ok-push-2.ensures.items so_far.groups;
     }
