@@ -10,7 +10,8 @@ ghost use Rattle.bt_c.specs.Sessions.{StaysOrIsLostIn, answer_of, applied_to, is
 
 use crate::reply::{ReplyMark, ReplyMarks};
 use bt_packed::{
-    Fault, apply_packed, columns_packed, get_packed, page_packed, sums_packed, usage_packed,
+    Fault, ReplyRoom, apply_packed, columns_packed, get_packed, page_packed, sums_packed,
+    usage_packed,
 };
 use bt_script::{Counted, RunFault};
 use bt_shell::{Context, check_commands, run_commands};
@@ -73,13 +74,13 @@ pub enum Question {
     Usage,
 }
 
-// The reply to a question, in the room of these bytes, which are dropped.
+// The reply to a question.
 fn answer(
     alloc: Global,
     table: &Table,
     question: Question,
     bytes: &[u8],
-    room: Vec<u8>,
+    room: ReplyRoom,
 ) -> Result<Vec<u8>, Fault>
     ensures done { IfOk result (λ reply. answer_of question table.now bytes.now ≡ Ok reply.items) }
     ensures fault { IfErr result (λ fault. fault.refusal ≢ Refusal.OutOfMemory → answer_of question table.now bytes.now ≡ Err fault) }
@@ -179,8 +180,8 @@ impl Session {
         }
     }
 
-    // Takes the bytes of the replies, in whose room the next ones are written.
-    fn take_room(&mut self, alloc: Global) -> Vec<u8>
+    // Takes the memory of the replies, into which the next one is written.
+    fn take_room(&mut self, alloc: Global) -> ReplyRoom
         ensures table { self.new.table ≡ self.old.table }
         ensures text { self.new.text.items ≡ [] }
         ensures refused { self.new.refused ≡ 0 }
@@ -188,7 +189,7 @@ impl Session {
     {
         self.refused = 0;
         self.marks.clear();
-        mem::replace(&mut self.text, Vec::new(alloc))
+        ReplyRoom::of(mem::replace(&mut self.text, Vec::new(alloc)))
     }
 
     /// Replies to a question in packed bytes.

@@ -14,7 +14,7 @@ use crate::counts::{packed_sums, packed_usage};
 use crate::fault::Fault;
 use crate::page::{name_at, range_at};
 use crate::reading::header_at;
-use crate::rows::PackedRows;
+use crate::rows::{PackedRows, ReplyRoom};
 use bt_keycode::encode_row;
 use bt_messages::Packet;
 use bt_row::{Row, Schema};
@@ -71,7 +71,7 @@ fn read_key(alloc: Global, schema: &Schema, bytes: &[u8]) -> Result<Row, Fault>
 }
 
 // The packed row, or no row.
-fn packed_row(row: Option<Row>, room: Vec<u8>) -> Result<Vec<u8>, Fault>
+fn packed_row(row: Option<Row>, room: ReplyRoom) -> Result<Vec<u8>, Fault>
     ensures done { IfOk result (λ bytes. bytes.items ≡ spec.packed_option row) }
     ensures memory { IfErr result (λ fault. fault.refusal ≡ Refusal.OutOfMemory) }
 {
@@ -82,12 +82,12 @@ fn packed_row(row: Option<Row>, room: Vec<u8>) -> Result<Vec<u8>, Fault>
     Ok(rows.into_bytes())
 }
 
-/// The packed row of a packed key, or no row, in the room of these bytes, which are dropped.
+/// The packed row of a packed key, or no row.
 pub fn get_packed(
     alloc: Global,
     table: &Table,
     bytes: &[u8],
-    room: Vec<u8>,
+    room: ReplyRoom,
 ) -> Result<Vec<u8>, Fault>
     ensures done { IfOk result (λ reply. spec.get_reply table.now bytes.now ≡ Ok reply.items) }
     ensures failed { table.now ≡ Lost → IsErrOf result (fault_at Failed 0 0) }
@@ -123,7 +123,7 @@ fn rows_between(
     name: &Text,
     limit: u32,
     range: &KeyRange,
-    room: Vec<u8>,
+    room: ReplyRoom,
 ) -> Result<Vec<u8>, Fault>
     ensures done { IfOk result (λ reply. spec.page_between table.now name.now limit range.now ≡ Ok reply.items) }
     ensures fault { IfErr result (λ fault. fault.refusal ≢ Refusal.OutOfMemory → spec.page_between table.now name.now limit range.now ≡ Err fault) }
@@ -135,12 +135,12 @@ fn rows_between(
     }
 }
 
-/// The packed rows of the page that packed bytes ask for, in the room of these bytes, which are dropped.
+/// The packed rows of the page that packed bytes ask for.
 pub fn page_packed(
     alloc: Global,
     table: &Table,
     bytes: &[u8],
-    room: Vec<u8>,
+    room: ReplyRoom,
 ) -> Result<Vec<u8>, Fault>
     ensures done { IfOk result (λ reply. spec.page_reply table.now bytes.now ≡ Ok reply.items) }
     ensures headless { bytes_header bytes.now ≡ None → IsErrOf result no_header }
@@ -171,12 +171,12 @@ fn read_name(alloc: Global, bytes: &[u8]) -> Result<Text, Fault>
     }
 }
 
-/// The packed columns of the tree that packed bytes name, after the number of its key columns, in the room of these bytes, which are dropped.
+/// The packed columns of the tree that packed bytes name, after the number of its key columns.
 pub fn columns_packed(
     alloc: Global,
     table: &Table,
     bytes: &[u8],
-    room: Vec<u8>,
+    room: ReplyRoom,
 ) -> Result<Vec<u8>, Fault>
     ensures done { IfOk result (λ reply. spec.columns_reply table.now bytes.now ≡ Ok reply.items) }
     ensures headless { bytes_header bytes.now ≡ None → IsErrOf result no_header }
@@ -189,12 +189,12 @@ pub fn columns_packed(
     }
 }
 
-/// How much the tree that packed bytes name holds, in the room of these bytes, which are dropped.
+/// How much the tree that packed bytes name holds.
 pub fn usage_packed(
     alloc: Global,
     table: &Table,
     bytes: &[u8],
-    room: Vec<u8>,
+    room: ReplyRoom,
 ) -> Result<Vec<u8>, Fault>
     ensures done { IfOk result (λ reply. spec.usage_reply table.now bytes.now ≡ Ok reply.items) }
     ensures headless { bytes_header bytes.now ≡ None → IsErrOf result no_header }
@@ -215,7 +215,7 @@ fn groups_between(
     grouping: u32,
     column: &Text,
     range: &KeyRange,
-    room: Vec<u8>,
+    room: ReplyRoom,
 ) -> Result<Vec<u8>, Fault>
     ensures done { IfOk result (λ reply. spec.groups_between table.now name.now grouping column.now range.now ≡ Ok reply.items) }
     ensures fault { IfErr result (λ fault. fault.refusal ≢ Refusal.OutOfMemory → spec.groups_between table.now name.now grouping column.now range.now ≡ Err fault) }
@@ -226,12 +226,12 @@ fn groups_between(
     }
 }
 
-/// The packed groups that packed bytes ask for, in the room of these bytes, which are dropped.
+/// The packed groups that packed bytes ask for.
 pub fn sums_packed(
     alloc: Global,
     table: &Table,
     bytes: &[u8],
-    room: Vec<u8>,
+    room: ReplyRoom,
 ) -> Result<Vec<u8>, Fault>
     ensures done { IfOk result (λ reply. spec.sums_reply table.now bytes.now ≡ Ok reply.items) }
     ensures headless { bytes_header bytes.now ≡ None → IsErrOf result no_header }

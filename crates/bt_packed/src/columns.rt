@@ -2,7 +2,7 @@
 ghost use Rattle.std.specs.Prelude.{◌≡◌, ◌++◌, IfOk, OnOk};
 ghost use Rattle.bt_packed.specs.Calls as spec;
 
-use crate::rows::{add_bytes, begun_in, count_bytes};
+use crate::rows::{ReplyRoom, add_bytes, count_bytes};
 use bt_row::Column;
 use std::alloc::AllocError;
 
@@ -24,15 +24,15 @@ fn add_columns(out: &mut Vec<u8>, columns: &[Column]) -> Result<(), AllocError>
     Ok(())
 }
 
-/// The columns, after the number of key columns, in the room of these bytes, which are dropped.
+/// The columns, after the number of key columns.
 pub(crate) fn packed_columns(
     columns: &[Column],
     keys: usize,
-    room: Vec<u8>,
+    room: ReplyRoom,
 ) -> Result<Vec<u8>, AllocError>
     ensures { IfOk result (λ bytes. bytes.items ≡ spec.packed_columns (record { columns = columns.now; keys = keys })) }
 {
-    let mut out = begun_in(room)?;
+    let mut out = room.begin()?;
     out.extend_from_slice(&count_bytes(keys as u64))?;
     add_columns(&mut out, columns)?;
     Ok(out)

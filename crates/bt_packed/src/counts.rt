@@ -2,7 +2,7 @@
 ghost use Rattle.std.specs.Prelude.{◌≡◌, ◌++◌, IfOk, OnOk};
 ghost use Rattle.bt_packed.specs.Calls as spec;
 
-use crate::rows::{add_values, begun_in, count_bytes};
+use crate::rows::{ReplyRoom, add_values, count_bytes};
 use bt_view::{Sum, TreeUsage};
 use std::alloc::AllocError;
 
@@ -33,20 +33,20 @@ fn add_sums(out: &mut Vec<u8>, sums: &[Sum]) -> Result<(), AllocError>
     Ok(())
 }
 
-/// The groups, in the room of these bytes, which are dropped.
-pub(crate) fn packed_sums(sums: &[Sum], room: Vec<u8>) -> Result<Vec<u8>, AllocError>
+/// The groups.
+pub(crate) fn packed_sums(sums: &[Sum], room: ReplyRoom) -> Result<Vec<u8>, AllocError>
     ensures { IfOk result (λ bytes. bytes.items ≡ spec.packed_sums sums.now) }
 {
-    let mut out = begun_in(room)?;
+    let mut out = room.begin()?;
     add_sums(&mut out, sums)?;
     Ok(out)
 }
 
-/// How much a tree holds, in the room of these bytes, which are dropped.
-pub(crate) fn packed_usage(usage: TreeUsage, room: Vec<u8>) -> Result<Vec<u8>, AllocError>
+/// How much a tree holds.
+pub(crate) fn packed_usage(usage: TreeUsage, room: ReplyRoom) -> Result<Vec<u8>, AllocError>
     ensures { IfOk result (λ bytes. bytes.items ≡ spec.packed_usage usage) }
 {
-    let mut out = begun_in(room)?;
+    let mut out = room.begin()?;
     out.extend_from_slice(&count_bytes(usage.rows))?;
     out.extend_from_slice(&count_bytes(usage.messages))?;
     out.extend_from_slice(&count_bytes(usage.height))?;

@@ -20,7 +20,8 @@
 //!
 //! ```text
 //! apply_packed(alloc, &mut table, b"BTV\x01\x01\0\0\0\0...")?;      // one put
-//! let reply = get_packed(alloc, &table, b"BTV\x01\x01\0\0\0...", Vec::new(alloc))?;
+//! let room = ReplyRoom::of(Vec::new(alloc));                        // or the bytes of an earlier reply
+//! let reply = get_packed(alloc, &table, b"BTV\x01\x01\0\0\0...", room)?;
 //! ```
 //!
 //! A [`Fault`] says why bytes are refused, and where. The definitions are in `specs`.
@@ -39,4 +40,4 @@ mod rows;
 pub use calls::{apply_packed, columns_packed, get_packed, page_packed, sums_packed, usage_packed};
 pub use changes::read_changes;
 pub use fault::Fault;
-pub use rows::PackedRows;
+pub use rows::{PackedRows, ReplyRoom};

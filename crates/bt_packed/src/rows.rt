@@ -13,14 +13,27 @@ use bt_value::{Content, ValueRef};
 use std::alloc::{AllocError, Global};
 use std::marker::Model;
 
-/// The first bytes of a reply, in the room of these bytes, which are dropped.
-pub(crate) fn begun_in(room: Vec<u8>) -> Result<Vec<u8>, AllocError>
-    ensures { IfOk result (λ out. out.items ≡ spec.magic) }
-{
-    let mut out = room;
-    out.clear();
-    out.extend_from_slice(MAGIC.as_slice())?;
-    Ok(out)
+/// The memory of an earlier reply, into which a packed one is written.
+#[derive(Drop)]
+pub struct ReplyRoom {
+    bytes: Vec<u8>,
+}
+
+impl ReplyRoom {
+    /// The memory of these bytes, which are dropped.
+    pub fn of(bytes: Vec<u8>) -> Self {
+        ReplyRoom { bytes }
+    }
+
+    /// The first bytes of a reply, in this memory.
+    pub(crate) fn begin(self) -> Result<Vec<u8>, AllocError>
+        ensures { IfOk result (λ out. out.items ≡ spec.magic) }
+    {
+        let ReplyRoom { bytes: mut out } = self;
+        out.clear();
+        out.extend_from_slice(MAGIC.as_slice())?;
+        Ok(out)
+    }
 }
 
 /// The eight bytes of a count.
@@ -86,12 +99,12 @@ impl Model for PackedRows {
 }
 
 impl PackedRows {
-    /// No rows, in the room of these bytes, which are dropped.
-    pub fn in_room(room: Vec<u8>) -> Result<Self, AllocError>
+    /// No rows, in this room.
+    pub fn in_room(room: ReplyRoom) -> Result<Self, AllocError>
         ensures { IfOk result (λ rows. rows ≡ spec.magic) }
     {
         Ok(PackedRows {
-            bytes: begun_in(room)?,
+            bytes: room.begin()?,
         })
     }
 
