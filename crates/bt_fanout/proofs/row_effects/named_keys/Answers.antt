@@ -36,6 +36,7 @@ loop-next-preserved c =
       count_is = c.messages_following-count.ensures.count;
       later_is = c.messages_following-count.ensures.rest;
     } in
-    let now = one_key (λ k. k.now) c.args.cover.now c.loop-next.keys.items c.push.new.self.items c.loop-next.others.items c.push-in-Some.new.self.items (groups_within c.args.cover.now c.args.packet.now) next
+    let now = one_key (λ k. k.now) c.args.cover.now c.loop-next.keys.items c.push.new.self.items c.loop-next.others.items c.push-in-Some.new.self.items
+    (groups_within c.args.cover.now c.args.packet.now) next
     c.loop-next.invariant.keys c.loop-next.invariant.others (search rules) (search rules) in
     record { few = omega (arith, fewer, c.loop-next.invariant.few); sorted = now.0; keys = now.1.0; others = now.1.1 }
