@@ -847,125 +847,6 @@ def commits_of(path):
     return sum(frame[4:8] != bytes(4) and frame[8:16] == log[16:24] for frame in frames)
 
 
-<<<<<<< HEAD
-=======
-@with_aiohttp
-def requests_run_once_over_a_kill():
-    with server() as found, ThreadPoolExecutor(8) as pool:
-        first = found.run(adds(0), Idempotency_Key="first")
-        expect(found.run(adds(0), Idempotency_Key="first"), first)
-        expect(found.ask("POST", "/run", adds(1), {"Idempotency-Key": "first"})[0], 422)
-        expect(found.ask("POST", "/rows", b"9,a,1\n", {"Idempotency-Key": "rows"})[2], found.ask("POST", "/rows", b"9,a,1\n", {"Idempotency-Key": "rows"})[2])
-        with found.stopped_engine() as engine:
-            keys = [*range(1, 8), "rows"]
-            asked = [pool.submit(found.ask, "POST", "/run", adds(key), {"Idempotency-Key": str(key)}) for key in keys[:-1]]
-            asked.append(pool.submit(found.ask, "POST", "/rows", b"9,a,1\n", {"Idempotency-Key": "rows"}))
-            found.await_metric("betable_queued_scripts", len(keys))
-            os.kill(engine, signal.SIGKILL)
-            lost = [answer.result() for answer in asked]
-        expect({(status, headers["Retry-After"]) for status, headers, _ in lost}, {(503, "1")})
-        until(lambda: found.ask("GET", "/healthz")[0] == 200)
-        for _ in range(2):
-            for key in keys[:-1]:
-                found.run(adds(key), Idempotency_Key=str(key))
-        expect(found.run(adds(0), Idempotency_Key="first"), first)
-        expect(quantities(found), {**{key: 1 for key in range(8)}, 9: 1})
-        expect(found.metric("betable_engine_starts"), 2)
-
-
-@with_aiohttp
-def damaged_stored_reply_is_told_and_ends_nothing():
-    with tempfile.TemporaryDirectory() as folder:
-        with server_in(folder) as found:
-            found.run(TABLE)
-            replies = {key: found.run(adds(1), Idempotency_Key=key) for key in ("one", "two")}
-            expect((found.metric("betable_request_bytes"), found.end()), (sum(map(len, replies.values())), 0))
-        with closing(sqlite3.connect(Path(folder) / "stock.table")) as db:
-            db.execute("UPDATE requests SET replies = x'00' WHERE id = 'one'")
-            db.commit()
-        with server_in(folder) as found:
-            for _ in range(2):
-                status, _, body = found.ask("POST", "/run", adds(1), {"Idempotency-Key": "one"})
-                expect((status, "run once" in json.loads(body)["reason"]), (500, True))
-            expect((found.run(adds(1), Idempotency_Key="two"), quantities(found)), (replies["two"], {1: 2}))
-            expect(found.metric("betable_engine_starts"), 1)
-
-
-@with_aiohttp
-def requests_run_once_over_a_kill_of_the_server():
-    with tempfile.TemporaryDirectory() as folder:
-        with server_in(folder) as found, ThreadPoolExecutor(1) as pool:
-            found.run(TABLE)
-            engine, log = found.engine(), Path(f"{found.path}-wal")
-            with found.stopped_engine():
-                asked = pool.submit(found.ask, "POST", "/run", adds(1), {"Idempotency-Key": "a"})
-                found.await_metric("betable_queued_scripts", 1)
-                size = log.stat().st_size
-                os.kill(found.process.pid, signal.SIGSTOP)
-            # The engine has kept the script when its log has grown and it waits again; nobody reads its reply.
-            until(lambda: log.stat().st_size > size and " S " in Path(f"/proc/{engine}/stat").read_text())
-            found.process.kill()
-            expect(isinstance(asked.exception(), (ConnectionError, OSError)), True)
-            found.process.wait()
-            until(lambda: not Path(f"/proc/{engine}").exists())
-        with server_in(folder) as found:
-            expect(found.run(adds(1), Idempotency_Key="a"), b"batch 1 by_city:1\n")
-            expect(quantities(found), {1: 1})
-
-
-@with_aiohttp
-def disk_that_is_full_is_told():
-    with server() as found:
-        engine = found.engine()
-        found.run(adds(1))
-        resource.prlimit(engine, resource.RLIMIT_FSIZE, (100_000, resource.RLIM_INFINITY))
-        script = b"batch\n" + b"".join(b"put %d,%b,1\n" % (key, os.urandom(50).hex().encode()) for key in range(10, 10_000)) + b"end\n"
-        status, _, body = found.ask("POST", "/run", script)
-        expect((status in (503, 507), "reason" in json.loads(body)), (True, True))
-        if Path(f"/proc/{engine}").exists():
-            resource.prlimit(engine, resource.RLIMIT_FSIZE, (resource.RLIM_INFINITY, resource.RLIM_INFINITY))
-        until(lambda: found.ask("GET", "/healthz")[0] == 200)
-        rows = quantities(found)
-        expect((rows.pop(1), len(rows) in ((0,) if status == 507 else (0, 9_990))), (1, True))
-        expect(found.run(adds(2)), b"batch 1 by_city:1\n")
-
-
-@with_aiohttp
-def slow_readers_hold_nothing_up():
-    with server("--client-seconds", 4) as found:
-        for start in range(0, 120_000, 60_000):
-            found.ask("POST", "/rows", b"".join(b"%d,%b,1\n" % (key, b"x" * 200) for key in range(start, start + 60_000)))
-        with socket.socket() as slow:
-            slow.setsockopt(socket.SOL_SOCKET, socket.SO_RCVBUF, 4_096)
-            slow.connect(("127.0.0.1", found.port))
-            slow.sendall(b"GET /rows/primary?limit=999999999 HTTP/1.1\r\nHost: localhost\r\n\r\n")
-            until(lambda: found.metric("betable_held_bytes") > 20_000_000)
-            expect(found.run(adds(-1)), b"batch 1 by_city:1\n")
-            # It is cut off, and does not get the end of its rows.
-            found.await_metric("betable_held_bytes", 0)
-            expect(len(received(slow)) < 20_000_000, True)
-
-
-@with_aiohttp
-def signals_end_it_after_what_came_in():
-    for number in (signal.SIGTERM, signal.SIGINT):
-        with tempfile.TemporaryDirectory() as folder:
-            with server_in(folder) as found, ThreadPoolExecutor(20) as pool:
-                found.run(TABLE)
-                with found.stopped_engine() as engine:
-                    asked = [pool.submit(found.ask, "POST", "/run", adds(key)) for key in range(20)]
-                    found.await_metric("betable_queued_scripts", 20)
-                    # As a service manager or a terminal does, to all processes.
-                    for process in (engine, found.process.pid):
-                        os.kill(process, number)
-                    until(lambda: is_closed(found.port))
-                expect({answer.result()[0] for answer in asked}, {200})
-                expect((number, found.process.wait(SECONDS), found.process.stderr.read()), (number, 0, ""))
-            with server_in(folder) as found:
-                expect(quantities(found), {key: 1 for key in range(20)})
-
-
->>>>>>> 8937d606 (Documents: limits, processors, backups and rebuilds where people look; recipes of the smallest number so far and of rebuild; session.rebuild)
 def command_line(process):
     return Path(f"/proc/{process}/cmdline").read_bytes()
 
@@ -1099,7 +980,7 @@ class CommitsCrashesAndEnds(TestCase):
             with socket.socket() as slow:
                 slow.setsockopt(socket.SOL_SOCKET, socket.SO_RCVBUF, 4_096)
                 slow.connect(("127.0.0.1", found.port))
-                slow.sendall(b"GET /rows/primary HTTP/1.1\r\nHost: localhost\r\n\r\n")
+                slow.sendall(b"GET /rows/primary?limit=999999999 HTTP/1.1\r\nHost: localhost\r\n\r\n")
                 until(lambda: found.metric("betable_held_bytes") > 20_000_000)
                 self.assertEqual(found.run(adds(-1)), b"batch 1 by_city:1\n")
                 # It is cut off, and does not get the end of its rows.
