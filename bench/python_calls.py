@@ -7,7 +7,7 @@ The calls are those of bench/c_calls.c: puts of one row, batches of a hundred, g
 a city over an index that is made when all rows are there. Rows are tuples of an int, a str and an int, before a call and after it. Both are in memory, SQLite
 without journal; each round gives each of them new, empty tables, and begins with another one, and both are compared by what they answer. Printed is the
 processor time of a call of betable, and that of sqlite3 over it in the same round, the middle one of all rounds. The library is that of BETABLE_LIBRARY, or of
-out/ of this repository; the first line says whether calls go by the extension or by ctypes (BETABLE_PURE=1).
+out/ of this repository; the first line says whether calls go by the extension or, where that is not built, by scripts.
 """
 
 import argparse
@@ -139,7 +139,7 @@ def main():
             sys.exit("python_calls: the engines answer differently")
         own.append(found[Betable][0])
         ratios.append([theirs / ours for ours, theirs in zip(*(found[engine][0] for engine in ENGINES))])
-    by = "ctypes" if betable.session._packed is None else "the extension"
+    by = "scripts" if betable.session._packed is None else "the extension"
     print(f"{count} rows, the middle of {words.rounds} rounds, calls by {by}\n\n| Call | betable | sqlite3 |\n|---|---|---|")
     for step, times, shares in zip(STEPS, zip(*own), zip(*ratios)):
         print(f"| {step} | {1e6 * median(times):.2f} µs | {median(shares):.2f} |")

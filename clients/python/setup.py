@@ -3,7 +3,7 @@
     python3 clients/python/setup.py build_ext --inplace     # in a checkout: builds betable/_packed.abi3.so beside its source, as bin/build_c does
 
 With the extension the wheel is for CPython 3.11 and later, whose stable interface (abi3) it uses. Without a C compiler or the headers of Python, the package is
-built all the same: it is then for every Python, and its calls go by ctypes.
+built all the same: it is then for every Python, and its calls on values go by scripts.
 """
 
 import os

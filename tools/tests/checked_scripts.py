@@ -248,7 +248,6 @@ class KeptByChecks(TestCase):
             script = b"\n".join([b"get 1\n", *NOT_CARRIED_OUT])
             self.assertEqual((checked(self, session, script), session.check(script.decode())), ([READ] + [REFUSED] * count, list(range(1, count + 1))))
 
-    @both_ways
     def test_a_check_takes_the_place_of_replies(self):
         """Those of a run before it, and those of a run or of a call after it take its place."""
         with session_after(FILLED) as session:

@@ -55,17 +55,17 @@ def betable():
 
 
 def both_ways(test):
-    """The test, with sessions of the extension, and then with those that go by ctypes."""
+    """The test, with sessions of the extension, and then with those whose calls on values go by scripts."""
 
     @wraps(test)
     def tested(case):
         client = betable()
-        usual, pure = client.session.Session, client.session.PureSession
+        usual, by_scripts = client.session.Session, client.session.ScriptSession
         case.addCleanup(setattr, client, "Session", usual)
-        for client.Session in (usual, pure):
+        for client.Session in (usual, by_scripts):
             with case.subTest(session=client.Session.__name__):
                 if client.Session is usual and client.session._packed is None:
-                    case.skipTest("the extension of the Python package is not built, or BETABLE_PURE is set")
+                    case.skipTest("the extension of the Python package is not built")
                 test(case)
 
     return tested

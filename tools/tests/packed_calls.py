@@ -1004,7 +1004,6 @@ class TheClient(TestCase):
                 self.assertIn(said, str(fault))
         self.assertEqual(session.scan(limit=10**30), session.scan())
 
-    @both_ways
     def test_rows_that_change_while_they_are_read_come_once(self):
         """Rows that are added after the last one that was read come, and those before it do not; a tree that is dropped ends the reading."""
         client = betable()
@@ -1024,7 +1023,6 @@ class TheClient(TestCase):
             next(rows)
         self.assertEqual(type(fault_of(lambda: next(rows))), ValueError)
 
-    @both_ways
     def test_out_of_memory_is_an_exception_of_each_call(self):
         client, session = betable(), filled(random.Random(7)).session
         before, library = session.scan(), library_without_memory(session)

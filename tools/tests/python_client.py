@@ -95,11 +95,7 @@ VALUES = [
     (lambda c, s: s.put([(4, "a", True, 7)]), "RowTypeError", "column 'raw': 7 is of type int, and a column of kind bytes takes bytes"),
     (lambda c, s: s.put([(4, "a", True, [1, 2])]), "RowTypeError", "column 'raw': [1, 2] is of type list"),
     (lambda c, s: s.put([(4, ["a"], True, b"")]), "RowTypeError", "column 'city': ['a'] is of type list, and a column of kind text takes a str"),
-    (lambda c, s: s.put([(4, "a\nb", True, b"")]), "RowValueError", "row 1, column 'city': 'a\\nb' has a line break, and only load takes a text with one"),
-    (lambda c, s: s.put([(4, "a\rb", True, b"")]), "RowValueError", "column 'city': 'a\\rb' has a line break"),
     (lambda c, s: s.put([(4, "\ud800", True, b"")]), "RowValueError", "column 'city': '\\ud800' has half of a surrogate pair"),
-    (lambda c, s: s.put([(n, "a" if n < 19 else "a\nb", True, b"") for n in range(10, 20)]), "RowValueError", "row 10, column 'city': 'a\\nb' has a line break"),
-    (lambda c, s: s.put([(n, "a" if n < 19 else "a\rb", True, b"") for n in range(10, 20)]), "RowValueError", "row 10, column 'city': 'a\\rb' has a line break"),
     (lambda c, s: s.put([(n, "a" if n < 19 else "\udfff", True, b"") for n in range(10, 20)]), "RowValueError", "row 10, column 'city': '\\udfff' has half of a"),
     (lambda c, s: s.put([(n, "a", True, b"" if n < 19 else "") for n in range(10, 20)]), "RowTypeError", "row 10, column 'raw': '' is of type str"),
     (lambda c, s: s.put([(2**63, "a", True, b"")]), "Refused", "refused 6 BadField 1: row 1: column 1 'id' (int): '9223372036854775808' is over the largest int"),
@@ -177,7 +173,6 @@ SHAPES = [
     (lambda c, s: s.scan("by_city", (v for v in ["Oslo"])), "RowTypeError", "a bound is a tuple, and not"),
     (lambda c, s: s.scan("by_city", ("Oslo", "1")), "RowTypeError", "column 'id': '1' is of type str"),
     (lambda c, s: s.scan("by_city", (1,)), "RowTypeError", "column 'city': 1 is of type int"),
-    (lambda c, s: s.scan("by_city", None, ("a\nb",)), "RowValueError", "column 'city': 'a\\nb' has a line break"),
     (lambda c, s: s.load(ROWS), "Refused", "refused 13 NotEmpty: A load needs a table whose tree of rows is one leaf without rows"),
     (lambda c, s: s.load("id,city,ok,raw\n"), "TypeError", "rows are an iterable, as a list, and not 'id,city,ok,raw\\n' of type str"),
     (lambda c, s: s.load([{"id": 4}]), "RowValueError", "row 1: 'city' is missing"),
@@ -209,7 +204,6 @@ UPSERTS = [
     (lambda c, s: s.batch([c.upsert(1, set={"city,x,add,id": 1})]), "RowValueError", "row 1: 'city,x,add,id' is no column"),
     (lambda c, s: s.batch([c.upsert(1, set={"city\nend\ndrop by_city": 1})]), "RowValueError", "is no column"),
     (lambda c, s: s.batch([c.upsert(1, set={"city": 5})]), "RowTypeError", "row 1, column 'city': 5 is of type int, and a column of kind text takes a str"),
-    (lambda c, s: s.batch([c.upsert(1, set={"city": "a\nb"})]), "RowValueError", "row 1, column 'city': 'a\\nb' has a line break"),
     (lambda c, s: s.batch([c.upsert(1, set={"ok": 1})]), "RowTypeError", "row 1, column 'ok': 1 is of type int"),
     (lambda c, s: s.batch([c.upsert(1, set={"raw": "ab"})]), "RowTypeError", "row 1, column 'raw': 'ab' is of type str"),
     (lambda c, s: s.batch([c.upsert(1, set={"id": 2})]), "Refused", "'id' is a column of the key, which no operation changes"),
@@ -307,7 +301,7 @@ class PythonClient(TestCase):
         client = betable()
         text = "x\ngo\ndrop by_city\n"
         methods = {
-            "batch": lambda s: s.batch([client.put(4, text, True, b"")]),
+            "batch": lambda s: s.batch([client.put(text, "", True, b"")]),
             "check": None,
             "close": None,
             "columns": lambda s: s.columns(text),
@@ -318,7 +312,7 @@ class PythonClient(TestCase):
             "iterate": lambda s: s.iterate(text),
             "load": lambda s: s.load([(4, text, True, text)]),
             "load_csv": lambda s: s.load_csv(text),
-            "put": lambda s: s.put([(4, text, True, b"")]),
+            "put": lambda s: s.put([(text, "", True, b"")]),
             "put_csv": lambda s: s.put_csv(text),
             "put_frame": None,
             "rebuild": lambda s: s.rebuild(text),
@@ -332,7 +326,7 @@ class PythonClient(TestCase):
             "table": lambda s: s.table([(text, "int")]),
             "to_csv": lambda s: s.to_csv("/nowhere/rows.csv", text),
             "trees": None,
-            "upsert": lambda s: s.upsert(4, set={"city": text}),
+            "upsert": lambda s: s.upsert(4, set={text: 1}),
             "usage": lambda s: s.usage(text),
         }
         self.assertEqual(sorted(name for name in dir(client.Session) if not name.startswith("_")), sorted(methods))
@@ -396,7 +390,8 @@ def stored_row(row, is_load):
     if not isinstance(row, (tuple, list)) or len(row) != 4:
         return None
     found = tuple(stored(value, kind) for value, kind in zip(row, KINDS))
-    has_break = any(isinstance(value, str) and ("\n" in value or "\r" in value) for value in row)
+    # The extension packs texts with line breaks.
+    has_break = betable().Session is betable().session.ScriptSession and any(isinstance(value, str) and ("\n" in value or "\r" in value) for value in row)
     has_point = isinstance(row[1], str) and any(line in (".", ".\r") for line in row[1].split("\n")[1:-1])
     return None if None in found or (has_break and not is_load) or (is_load and has_point) else found
 
@@ -510,7 +505,7 @@ class ValuesOfAllTypes(TestCase):
                 (number, "x", True, value, 0) for number, value in enumerate(binaries, 5)
             ]
             self.assertEqual(session.scan(), [(0, "a", False, b"", 2**62), *wanted[2:], (8, "x", False, b"", 6)])
-            for wrong in (client.upsert(0, set={"city": "a\nb"}), client.upsert(0, set={"raw": "a"}), client.upsert("0", add={"qty": 1})):
+            for wrong in (client.upsert(0, set={"city": 5}), client.upsert(0, set={"raw": "a"}), client.upsert("0", add={"qty": 1})):
                 self.assertIsInstance(fault_of(lambda: session.batch([*messages, wrong])), client.RowError)
             self.assertIsNone(session.get(1))
             session.batch([client.upsert(number, set={"qty": Number(7)}) for number in range(2, 4)])
@@ -631,7 +626,6 @@ class Exceptions(TestCase):
             fault = fault_of(lambda: session.run("load\nid,city\n1\nx,a\n.\n"))
             self.assertEqual((fault.number, fault.item, fault.value), (6, 2, "x"))
 
-    @both_ways
     def test_out_of_memory_says_what_was_carried_out(self):
         client = betable()
         with client.Session() as session:
@@ -650,7 +644,6 @@ class Exceptions(TestCase):
             library.end(session)
             self.assertEqual(session.scan(), [(1, "a")])
 
-    @both_ways
     def test_a_class_with_replies_of_its_own_runs_by_them(self):
         given = []
 
@@ -717,7 +710,6 @@ class Exceptions(TestCase):
 
         asyncio.run(all_at_once())
 
-    @both_ways
     def test_a_call_during_another_one_is_refused(self):
         """Of another thread, and of the same one, while the library carries out a script or sums. The call that was first ends as it should."""
         for name, call in (("betable_run", lambda: session.run("get 1\n")[0].rows), ("betable_sums", lambda: session.sums("by_city", 1, "id"))):
@@ -731,7 +723,7 @@ class Exceptions(TestCase):
                 return getattr(library.library, name)(handle, ctypes.string_at(given, length), length, *fault)
 
             function = getattr(session._library, name)
-            data = [ctypes.c_void_p if kind is ctypes.c_char_p else kind for kind in function.argtypes]
+            data = [ctypes.c_void_p if kind is ctypes.c_char_p else kind for kind in function.argtypes or session._library.betable_apply.argtypes]
             library = OtherLibrary(session, {name: ctypes.CFUNCTYPE(function.restype, *data)(waits)})
             thread = threading.Thread(target=lambda: found.append(call()))
             thread.start()
@@ -745,12 +737,11 @@ class Exceptions(TestCase):
             self.assertEqual((found[1:], session.scan()), ([wanted], ROWS))
 
     def test_interrupts_leave_a_session_free(self):
-        """Ctrl-C, at many places of calls by the extension and by ctypes: no call takes the session for good."""
-        for pure in "01":
-            with self.subTest(pure=pure):
-                code = INTERRUPTED.format(path=str(TOP / "clients/python"))
-                settings = {**os.environ, "BETABLE_LIBRARY": library(), "BETABLE_PURE": pure}
-                ended = subprocess.run([sys.executable, "-B", "-c", code], capture_output=True, text=True, env=settings)
+        """Ctrl-C, at many places of calls by the extension and by scripts: no call takes the session for good."""
+        for session in ("Session", "session.ScriptSession"):
+            with self.subTest(session=session):
+                code = INTERRUPTED.format(path=str(TOP / "clients/python")).replace("betable.Session()", f"betable.{session}()")
+                ended = subprocess.run([sys.executable, "-B", "-c", code], capture_output=True, text=True, env={**os.environ, "BETABLE_LIBRARY": library()})
                 self.assertEqual((ended.returncode, ended.stderr), (0, ""))
                 count, rest = ended.stdout.split(" ", 1)
                 self.assertEqual((int(count) > 1_400, rest), (True, "[(0, 0), (1, 1)] None\n"))

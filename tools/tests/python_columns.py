@@ -62,7 +62,6 @@ WRONG_COLUMNS = [
     (lambda c: c | {"id": array("d", [1, 2, 3])}, "RowTypeError", "row 1, column 'id': 1.0 is of type float"),
     (lambda c: c | {"ok": array("q", [0, 1, 0])}, "RowTypeError", "row 1, column 'ok': 0 is of type int"),
     (lambda c: c | {"city": array("q", [0, 1, 0])}, "RowTypeError", "row 1, column 'city': 0 is of type int"),
-    (lambda c: c | {"city": ["a", "b\nc", "d"]}, "RowValueError", "row 2, column 'city': 'b\\nc' has a line break"),
     (lambda c: c | {"id": array("Q", [1, 2, 2**63])}, "Refused", "row 3: column 1 'id' (int): '9223372036854775808' is over the largest int"),
     (lambda c: c | {"city": ["a", "x" * 256, "d"]}, "Refused", "row 2: column 2 'city' (text): 256 bytes"),
     (lambda c: c | {"id": memoryview(array("q", range(3))).cast("B").cast("q", (3, 1))}, "RowTypeError", "row 1, column 'id': [0] is of type list"),
@@ -270,8 +269,8 @@ class PythonColumns(TestCase):
 
     def test_layers_have_the_same_calls(self):
         """A durable table makes its table and index, and takes and gives columns, as a session does."""
-        client = betable()
-        with tempfile.TemporaryDirectory() as folder, import_module("betable.durable").open(Path(folder) / "table") as table:
+        client = __import__("betable.durable")
+        with tempfile.TemporaryDirectory() as folder, client.durable.open(Path(folder) / "table") as table:
             table.table("id:int city:text")
             table.index("by_city", "city")
             self.assertEqual(table.put({"id": array("q", [2, 1, 3]), "city": ["b", "a", "a"]}), 3)

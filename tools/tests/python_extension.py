@@ -76,7 +76,8 @@ other.table("id:int text:text")
 refused = betable.Session()
 refused.replies("get 1\\n" * 20)
 calls = [
-    lambda: session.put(rows), lambda: session._apply_rows([(4, "\\ud800", True, b"", 1)]), lambda: session._apply_columns(list(columns.values())),
+    lambda: session.put(rows), lambda: session._pack_rows([(4, "\\ud800", True, b"", 1)]), lambda: session._pack_rows(rows),
+    lambda: session._pack_columns(len(rows), b"\\0", list(columns.values())), lambda: session._pack_messages([message]),
     lambda: session.batch([message]), lambda: session.get(99), lambda: other.put(many), lambda: other.get(1), refused._places,
     lambda: session.get(5), lambda: session.scan("by_city"), lambda: session.scan_columns("primary", (3,), (9,)), lambda: session.sums("by_city", 1, "qty"),
 ]
@@ -252,31 +253,30 @@ class PythonExtension(TestCase):
             is_over.set()
             thread.join()
 
-    def test_a_package_without_the_extension_goes_by_ctypes(self):
-        """If a variable says so, and if the extension is missing or no library."""
-        code = "import betable\nwith betable.Session() as session:\n    session.table('id:int')\n    session.put([(1,), (2,)])\n    print(betable.session._packed is None, session.scan())\n"
+    def test_a_package_without_the_extension_goes_by_scripts(self):
+        """If the extension is missing or no library. One warning says so."""
+        code = "import betable\nfor _ in range(2):\n    session = betable.Session()\n    session.table('id:int')\n    session.put([(1,), (2,)])\n"
+        code += "print(betable.session._packed is None, session.scan())\n"
 
-        def printed(folder, **environment):
-            words = {**os.environ, "BETABLE_LIBRARY": library(), "PYTHONPATH": str(folder), **environment}
+        def printed(folder):
+            words = {**os.environ, "BETABLE_LIBRARY": library(), "PYTHONPATH": str(folder)}
             ended = subprocess.run([sys.executable, "-B", "-c", code], capture_output=True, text=True, env=words)
-            self.assertEqual((ended.returncode, ended.stderr), (0, ""))
-            return ended.stdout
+            self.assertEqual(ended.returncode, 0)
+            return ended.stdout, ended.stderr.count("RuntimeWarning: the extension betable._packed is not built, so calls on values go by scripts")
 
         clients = TOP / "clients/python"
-        for variable, is_pure in (("1", True), ("yes", True), ("0", False), ("", False)):
-            with self.subTest(variable=variable):
-                self.assertEqual(printed(clients, BETABLE_PURE=variable), f"{is_pure} [(1,), (2,)]\n")
+        self.assertEqual(printed(clients), ("False [(1,), (2,)]\n", 0))
         with tempfile.TemporaryDirectory() as folder:
             shutil.copytree(clients / "betable", Path(folder) / "betable", ignore=shutil.ignore_patterns("*.so", "__pycache__"))
             shutil.copy(TOP / "VERSION", Path(folder) / "betable/VERSION")
-            self.assertEqual(printed(folder), "True [(1,), (2,)]\n")
+            self.assertEqual(printed(folder), ("True [(1,), (2,)]\n", 1))
             (Path(folder) / "betable/_packed.abi3.so").write_bytes(b"no library")
-            self.assertEqual(printed(folder), "True [(1,), (2,)]\n")
+            self.assertEqual(printed(folder), ("True [(1,), (2,)]\n", 1))
 
     def test_the_extension_by_itself_says_what_uses_it(self):
         code = "from importlib import util\nspec = util.spec_from_file_location('_packed', PATH)\nmodule = util.module_from_spec(spec)\nspec.loader.exec_module(module)\ncaller = module.Caller()\n"
         code = code.replace("PATH", repr(betable().session._packed.__file__))
-        for call in ("get(1)", "put([(1,)])", "scan()", "sums('a', 1, 'b')", "batch([])", "_apply_rows([])", "_page_rows('a', b'')"):
+        for call in ("get(1)", "put([(1,)])", "scan()", "sums('a', 1, 'b')", "batch([])"):
             with self.subTest(call=call):
                 ended = subprocess.run([sys.executable, "-B", "-c", f"{code}caller.{call}\n"], capture_output=True, text=True)
                 self.assertEqual(ended.returncode, 1)

@@ -14,7 +14,7 @@
 The library is libbt_c.so, in the folder that BETABLE_LIBRARY names, or else beside this package, in out/ of the repository, where bin/build_c builds it, or
 where the Debian package has it. docs/SCRIPT.md has the language, and docs/PYTHON.md the calls and their errors.
 
-Without the extension `_packed`, or with BETABLE_PURE=1, ctypes makes all calls.
+Without the extension `_packed`, calls on values go by scripts, and a warning says so.
 
 Layers over sessions have the same calls, each in a package of its own, which says at its top what it is for: `betable.durable` has tables that are kept on
 disk, `betable.cluster` tables on several machines, `betable.server` the server by HTTP and `betable.shell` the prompt.

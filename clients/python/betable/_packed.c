@@ -1,8 +1,9 @@
-/* The calls of a session on packed bytes, from values of Python and back, with no code of Python in between. `session.py` uses this module if it is built, and
- * does the same by ctypes if it is not.
+/* The calls of a session on packed bytes, from values of Python and back, with no code of Python in between. `session.py` uses this module if it is built; if
+ * it is not, calls on values go by scripts.
  *
  * Only plain arguments are taken here: values of exactly the types of their columns, in tuples and lists. For all others, and for what the library refuses,
- * a method calls the one of the same name of the class `plain`, which takes them or says why not. So there is one place where errors are made.
+ * `put`, `batch`, `get`, `scan` and `sums` call the method of the same name of the class `plain`, which makes the arguments plain or says what is wrong with
+ * them, and the methods for that class return None. So there is one place where errors are made.
  *
  * The module is not linked with the library. ctypes has loaded it, and `_connect` gets the addresses of its calls, so the process has one copy of the library:
  * the one that opened the session.
@@ -11,9 +12,9 @@
  * call are its own (from `taken` to `kept`), `is_ready` is asked directly before the library is called, and a reply is read directly after. Values are borrowed
  * from their rows only while no object is made and nothing of Python is called.
  *
- * One call at a time uses a session, of any thread. The lock of the session is a flag, which is written while the interpreter lock is held. It is set while other
- * threads run during a call of the library, and in the contexts in which the plain class calls it. A call that finds it set goes to the plain class, which raises
- * the fault.
+ * One call at a time uses a session, of any thread. The lock of the session is a flag, which is written while the interpreter lock is held. It is set while
+ * other threads run during a call of the library, and in the contexts in which the plain class calls it. A call that finds it set goes to the plain class, which
+ * raises the fault.
  */
 #define Py_LIMITED_API 0x030B0000
 #define PY_SSIZE_T_CLEAN
@@ -27,9 +28,9 @@
 enum { INT, TEXT, FLAG, BYTES = 4 };
 enum { PUT, DEL, UPS };
 enum { SET };
-enum { NO_BOUND, PREFIX };
-/* The most columns that the rows of a tree have, and messages of a batch. */
-enum { MOST_COLUMNS = 32, MOST_MESSAGES = 65536 };
+enum { NO_BOUND, PREFIX, AFTER };
+/* The most columns that the rows of a tree have, operations of an upsert, and messages of a batch. */
+enum { MOST_COLUMNS = 32, MOST_OPERATIONS = 16, MOST_MESSAGES = 65536 };
 enum { MAGIC_LENGTH = 4, HEADER_LENGTH = 8, MOST_VALUE_LENGTH = 256 };
 #define MOST_ROWS 0xFFFFFFFFu
 /* Shapes of upserts that are kept at a time. */
@@ -84,7 +85,7 @@ typedef struct {
 
 static PyObject *plain, *message_type, *lock_type;
 static PyObject *word_name, *shape_name, *values_name, *put_word, *del_word, *ups_word, *plan_name, *out_of_memory_name;
-static PyObject *names_of_scan[4], *names_of_sums[5];
+static PyObject *names_of_scan[5], *names_of_sums[5];
 
 /* ---- room ---- */
 
@@ -153,15 +154,6 @@ static void begin(bytes_in_room *bytes, uint64_t number)
 
 /* ---- values to bytes ---- */
 
-/* Most texts are too short for memchr to be quicker. */
-static int has_line_break(const char *text, size_t length)
-{
-    int found = 0;
-    for (size_t place = 0; place < length; place++)
-        found |= (text[place] == '\n') | (text[place] == '\r');
-    return found;
-}
-
 /* Adds a value, for which there is room. Runs no code of Python, except if it is OTHER. */
 static outcome add_value(bytes_in_room *bytes, PyObject *value, unsigned kind)
 {
@@ -187,8 +179,7 @@ static outcome add_value(bytes_in_room *bytes, PyObject *value, unsigned kind)
             PyErr_Clear();
             return OTHER;
         }
-        /* As in a script, a text has no line break. */
-        if (length >= MOST_VALUE_LENGTH || has_line_break(text, (size_t)length))
+        if (length >= MOST_VALUE_LENGTH)
             return OTHER;
         break;
     case FLAG:
@@ -353,12 +344,21 @@ static outcome add_messages(caller *self, bytes_in_room *bytes, PyObject *messag
 
 /* ---- columns ---- */
 
-/* The values of one column: those of a buffer of ints of eight bytes, or those of a sequence. */
+/* The values of one column: those of a buffer of ints of eight bytes, those of a sequence, or one value for all rows. */
 typedef struct {
     Py_buffer view;
-    int has_view;
+    enum { VIEW, SEQUENCE, ONE_FOR_ALL } form;
+    unsigned kind;
     PyObject *values;
 } column;
+
+/* The changes that columns are: the word of each, and of an upsert the code and the column of each operation. */
+typedef struct {
+    unsigned word;
+    const unsigned char *operations;
+    Py_ssize_t operation_count, keys, count;
+    column columns[MOST_COLUMNS + MOST_OPERATIONS];
+} changes_by_columns;
 
 static int is_int64(const Py_buffer *view)
 {
@@ -370,17 +370,24 @@ static int is_int64(const Py_buffer *view)
     return view->ndim == 1 && view->itemsize == 8 && (strcmp(format, "q") == 0 || strcmp(format, "l") == 0);
 }
 
+static int is_one_value(PyObject *given)
+{
+    return PyLong_CheckExact(given) || PyUnicode_CheckExact(given) || PyBool_Check(given) || PyBytes_CheckExact(given);
+}
+
 /* Opens a column, with a reference to it, if it is DONE. May run code of Python. */
 static outcome open_column(column *found, PyObject *values, unsigned kind)
 {
-    found->has_view = 0;
+    found->kind = kind;
     found->values = Py_NewRef(values);
-    if (is_sequence(values))
+    if (is_sequence(values) || is_one_value(values)) {
+        found->form = is_sequence(values) ? SEQUENCE : ONE_FOR_ALL;
         return DONE;
+    }
     if (kind == INT && PyObject_CheckBuffer(values)) {
         if (PyObject_GetBuffer(values, &found->view, PyBUF_STRIDES | PyBUF_FORMAT) == 0) {
             if (is_int64(&found->view)) {
-                found->has_view = 1;
+                found->form = VIEW;
                 return DONE;
             }
             PyBuffer_Release(&found->view);
@@ -391,32 +398,49 @@ static outcome open_column(column *found, PyObject *values, unsigned kind)
     return OTHER;
 }
 
-static Py_ssize_t column_length(const column *one)
+static void close_column(column *one)
 {
-    return one->has_view ? one->view.shape[0] : length_of(one->values);
+    if (one->form == VIEW)
+        PyBuffer_Release(&one->view);
+    Py_DECREF(one->values);
 }
 
-static outcome add_columns(bytes_in_room *bytes, column *columns, const tree *there)
+/* Whether a column has as many values as there are changes. */
+static int has_length(const column *one, Py_ssize_t count)
 {
-    const Py_ssize_t count = column_length(&columns[0]);
-    for (Py_ssize_t place = 0; place < there->columns; place++) {
-        if (column_length(&columns[place]) != count || count < 1 || count > MOST_MESSAGES)
+    return one->form == ONE_FOR_ALL || (one->form == VIEW ? one->view.shape[0] : length_of(one->values)) == count;
+}
+
+/* The next value of a column, for which there is room. */
+static outcome add_of_column(bytes_in_room *bytes, const column *one, Py_ssize_t row)
+{
+    if (one->form == VIEW) {
+        int64_t number;
+        memcpy(&number, (const char *)one->view.buf + row * one->view.strides[0], sizeof number);
+        add_number(bytes, (uint64_t)number, 8);
+        return DONE;
+    }
+    return add_value(bytes, one->form == SEQUENCE ? item_of(one->values, row) : one->values, one->kind);
+}
+
+static outcome add_columns(bytes_in_room *bytes, const changes_by_columns *changes)
+{
+    const Py_ssize_t columns = changes->keys + changes->operation_count;
+    for (Py_ssize_t place = 0; place < columns; place++) {
+        if (!has_length(&changes->columns[place], changes->count))
             return OTHER;
     }
-    begin(bytes, (uint64_t)count);
-    for (Py_ssize_t row = 0; row < count; row++) {
-        if (!has_room(bytes, 1 + (size_t)there->columns * MOST_VALUE_LENGTH))
+    begin(bytes, (uint64_t)changes->count);
+    for (Py_ssize_t row = 0; row < changes->count; row++) {
+        if (!has_room(bytes, 2 + (size_t)columns * (2 + MOST_VALUE_LENGTH)))
             return RAISED;
-        add_byte(bytes, PUT);
-        for (Py_ssize_t place = 0; place < there->columns; place++) {
-            column *one = &columns[place];
-            if (one->has_view) {
-                int64_t number;
-                memcpy(&number, (const char *)one->view.buf + row * one->view.strides[0], sizeof number);
-                add_number(bytes, (uint64_t)number, 8);
-                continue;
-            }
-            if (add_value(bytes, item_of(one->values, row), there->kinds[place]) != DONE)
+        add_byte(bytes, changes->word);
+        for (Py_ssize_t place = 0; place < columns; place++) {
+            if (changes->word == UPS && place == changes->keys)
+                add_byte(bytes, (unsigned)changes->operation_count);
+            if (place >= changes->keys)
+                add_bytes(bytes, changes->operations + 2 * (place - changes->keys), 2);
+            if (add_of_column(bytes, &changes->columns[place], row) != DONE)
                 return OTHER;
         }
     }
@@ -721,41 +745,16 @@ static PyObject *description_of(const caller *self, PyObject *name)
 
 /* ---- changes ---- */
 
-typedef outcome encoder(caller *, bytes_in_room *, void *, const tree *);
+typedef outcome encoder(caller *, bytes_in_room *, PyObject *, const tree *);
 
-static outcome of_rows(caller *self, bytes_in_room *bytes, void *given, const tree *there)
+static outcome of_rows(caller *self, bytes_in_room *bytes, PyObject *rows, const tree *there)
 {
     (void)self;
-    return add_rows(bytes, given, there);
-}
-
-static outcome of_messages(caller *self, bytes_in_room *bytes, void *given, const tree *there)
-{
-    return add_messages(self, bytes, given, there);
-}
-
-static outcome of_columns(caller *self, bytes_in_room *bytes, void *given, const tree *there)
-{
-    (void)self;
-    column columns[MOST_COLUMNS];
-    Py_ssize_t opened = 0;
-    outcome found = DONE;
-    while (found == DONE && opened < there->columns) {
-        found = length_of(given) == there->columns ? open_column(&columns[opened], item_of(given, opened), there->kinds[opened]) : OTHER;
-        opened += found == DONE;
-    }
-    if (found == DONE)
-        found = add_columns(bytes, columns, there);
-    for (Py_ssize_t place = 0; place < opened; place++) {
-        if (columns[place].has_view)
-            PyBuffer_Release(&columns[place].view);
-        Py_DECREF(columns[place].values);
-    }
-    return found;
+    return add_rows(bytes, rows, there);
 }
 
 /* Applies changes that an encoder makes of what is given. */
-static outcome applied(caller *self, encoder *encode, void *given)
+static outcome applied(caller *self, encoder *encode, PyObject *given)
 {
     tree there;
     bytes_in_room bytes;
@@ -792,31 +791,98 @@ static PyObject *call_put(PyObject *self, PyObject *const *args, Py_ssize_t coun
 
 static PyObject *call_batch(PyObject *self, PyObject *const *args, Py_ssize_t count, PyObject *names)
 {
-    return applied_count(self, of_messages, "batch", args, count, names);
+    return applied_count(self, add_messages, "batch", args, count, names);
 }
 
-/* Whether one batch, of what is in a list, was applied here. A session that is closed, or in a call, is a fault that the plain class raises. */
-static PyObject *is_list_applied(PyObject *self, encoder *encode, PyObject *given, const char *name)
+/* The bytes of one batch, or None if it is none of plain values. */
+static PyObject *packed(PyObject *object, encoder *encode, PyObject *given)
 {
-    if (!PyList_CheckExact(given) || length_of(given) > MOST_MESSAGES || !is_ready((caller *)self))
-        return by_python(self, name, &given, 1, NULL);
-    const outcome found = applied((caller *)self, encode, given);
-    return found == RAISED ? NULL : PyBool_FromLong(found == DONE);
+    caller *self = (caller *)object;
+    tree there;
+    bytes_in_room bytes;
+    PyObject *found = NULL, *description = is_ready(self) ? description_of(self, NULL) : NULL;
+    outcome ended = OTHER;
+    if (described(description, &there)) {
+        ended = taken(self, &bytes) ? encode(self, &bytes, given, &there) : RAISED;
+        if (ended == DONE) {
+            found = PyBytes_FromStringAndSize((const char *)bytes.at, (Py_ssize_t)bytes.length);
+            ended = found == NULL ? RAISED : DONE;
+        }
+        kept(self, &bytes);
+    }
+    Py_XDECREF(description);
+    return ended != OTHER ? found : PyErr_Occurred() ? NULL : Py_NewRef(Py_None);
 }
 
-static PyObject *apply_rows(PyObject *self, PyObject *rows)
+static int is_batch(PyObject *given)
 {
-    return is_list_applied(self, of_rows, rows, "_apply_rows");
+    return PyList_CheckExact(given) && length_of(given) >= 1 && length_of(given) <= MOST_MESSAGES;
 }
 
-static PyObject *apply_messages(PyObject *self, PyObject *messages)
+static PyObject *pack_rows(PyObject *self, PyObject *rows)
 {
-    return is_list_applied(self, of_messages, messages, "_apply_messages");
+    return is_batch(rows) ? packed(self, of_rows, rows) : Py_NewRef(Py_None);
 }
 
-static PyObject *apply_columns(PyObject *self, PyObject *columns)
+static PyObject *pack_messages(PyObject *self, PyObject *messages)
 {
-    return is_list_applied(self, of_columns, columns, "_apply_columns");
+    return is_batch(messages) ? packed(self, add_messages, messages) : Py_NewRef(Py_None);
+}
+
+/* The kind of a column of the changes: those of the row or the key, and after them the columns of the operations. -1 if there is none. */
+static int kind_of(const changes_by_columns *changes, Py_ssize_t place, const tree *there)
+{
+    if (place < changes->keys)
+        return there->kinds[place];
+    const unsigned char *operation = changes->operations + 2 * (place - changes->keys);
+    return operation[1] >= there->columns ? -1 : operation[0] == SET ? there->kinds[operation[1]] : INT;
+}
+
+/* What `given` is, a list of the number of changes, their form and their columns. The form is the word of a change, and of an upsert its operations. */
+static outcome of_columns(caller *self, bytes_in_room *bytes, PyObject *given, const tree *there)
+{
+    (void)self;
+    changes_by_columns changes;
+    PyObject *columns = item_of(given, 2);
+    char *form;
+    Py_ssize_t length, opened = 0;
+    int overflow;
+    changes.count = (Py_ssize_t)PyLong_AsLongLongAndOverflow(item_of(given, 0), &overflow);
+    if (PyBytes_AsStringAndSize(item_of(given, 1), &form, &length) < 0)
+        return RAISED;
+    if (changes.count < 1 || changes.count > MOST_MESSAGES || length < 1)
+        return OTHER;
+    changes.word = (unsigned char)*form;
+    changes.operations = (const unsigned char *)form + 1;
+    changes.operation_count = (length - 1) / 2;
+    changes.keys = changes.word == PUT ? there->columns : there->keys;
+    if (changes.operation_count > MOST_OPERATIONS || (changes.word == UPS) != (changes.operation_count > 0))
+        return OTHER;
+    const Py_ssize_t count = changes.keys + changes.operation_count;
+    outcome found = length_of(columns) == count ? DONE : OTHER;
+    while (found == DONE && opened < count) {
+        const int kind = opened < length_of(columns) ? kind_of(&changes, opened, there) : -1;
+        found = kind < 0 ? OTHER : open_column(&changes.columns[opened], item_of(columns, opened), (unsigned)kind);
+        opened += found == DONE;
+    }
+    if (found == DONE)
+        found = add_columns(bytes, &changes);
+    while (opened > 0)
+        close_column(&changes.columns[--opened]);
+    return found;
+}
+
+/* _pack_columns(count, form, columns): the bytes of changes that are given by columns. */
+static PyObject *pack_columns(PyObject *self, PyObject *const *args, Py_ssize_t count)
+{
+    if (count != 3 || !PyLong_CheckExact(args[0]) || !PyBytes_CheckExact(args[1]) || !PyList_CheckExact(args[2])) {
+        PyErr_SetString(PyExc_TypeError, "_pack_columns takes a number, a form and a list of columns");
+        return NULL;
+    }
+    PyObject *given = PyTuple_Pack(3, args[0], args[1], args[2]);
+    PyObject *found = given == NULL ? NULL : packed(self, of_columns, given);
+    Py_XDECREF(given);
+    return found;
 }
 
 /* ---- gets, pages and sums ---- */
@@ -849,7 +915,8 @@ static PyObject *call_get(PyObject *object, PyObject *const *args, Py_ssize_t co
     return found == OTHER ? by_python(object, "get", args, count, names) : row;
 }
 
-static outcome add_bound(bytes_in_room *bytes, PyObject *values, const tree *there)
+/* The bound of the first values of a key, or that directly after the row of a whole one. */
+static outcome add_bound(bytes_in_room *bytes, PyObject *values, const tree *there, unsigned form)
 {
     if (!has_room(bytes, 2))
         return RAISED;
@@ -858,10 +925,11 @@ static outcome add_bound(bytes_in_room *bytes, PyObject *values, const tree *the
         return DONE;
     }
     const Py_ssize_t count = is_sequence(values) ? length_of(values) : 0;
-    if (count < 1 || count > there->keys)
+    if (count < (form == AFTER ? there->keys : 1) || count > there->keys)
         return OTHER;
-    add_byte(bytes, PREFIX);
-    add_byte(bytes, (unsigned)count);
+    add_byte(bytes, form);
+    if (form == PREFIX)
+        add_byte(bytes, (unsigned)count);
     return add_values(bytes, values, 0, count, there->kinds);
 }
 
@@ -908,21 +976,24 @@ static int are_placed(PyObject *const *args, Py_ssize_t count, PyObject *names, 
 }
 
 /* The rows of a scan, or their columns. NULL with OTHER is for the plain class. */
-static PyObject *scanned(caller *self, PyObject *const *args, Py_ssize_t count, PyObject *names, int are_columns, outcome *found)
+static PyObject *scanned(caller *self, PyObject *const given[5], int are_columns, outcome *found)
 {
-    PyObject *given[4], *rows = NULL, *description = NULL;
+    PyObject *rows = NULL, *after = given[4] == Py_None ? NULL : given[4];
     uint32_t limit;
     tree there;
     bytes_in_room bytes;
     reader reply;
     *found = OTHER;
-    if (!is_ready(self) || !are_placed(args, count, names, names_of_scan, 4, given) || limit_of(given[3], &limit) != DONE)
+    /* Which of two lower bounds is the later one is found out by the plain class. */
+    if (!is_ready(self) || limit_of(given[3], &limit) != DONE || (after != NULL && given[1] != NULL && given[1] != Py_None))
         return NULL;
-    description = description_of(self, given[0]);
+    PyObject *description = description_of(self, given[0]);
     if (described(description, &there)) {
         *found = taken(self, &bytes) ? begin_range(&bytes, &there, limit) : RAISED;
-        for (int place = 1; *found == DONE && place <= 2; place++)
-            *found = add_bound(&bytes, given[place], &there);
+        if (*found == DONE)
+            *found = after == NULL ? add_bound(&bytes, given[1], &there, PREFIX) : add_bound(&bytes, after, &there, AFTER);
+        if (*found == DONE)
+            *found = add_bound(&bytes, given[2], &there, PREFIX);
         if (*found == DONE)
             *found = called(self, self->page, &bytes, limit >= MUCH_READ);
         if (*found == DONE)
@@ -941,57 +1012,53 @@ static PyObject *scanned(caller *self, PyObject *const *args, Py_ssize_t count, 
 
 static PyObject *call_scan(PyObject *self, PyObject *const *args, Py_ssize_t count, PyObject *names)
 {
-    outcome found;
-    PyObject *rows = scanned((caller *)self, args, count, names, 0, &found);
+    PyObject *given[5], *rows = NULL;
+    outcome found = OTHER;
+    if (are_placed(args, count, names, names_of_scan, 5, given))
+        rows = scanned((caller *)self, given, 0, &found);
     return found == OTHER ? by_python(self, "scan", args, count, names) : rows;
 }
 
-static PyObject *scan_as_columns(PyObject *self, PyObject *const *args, Py_ssize_t count)
+/* The methods for the plain class take all arguments by their places, which are plain. They return None if the library refuses the call. */
+static PyObject *none_if_other(PyObject *found, outcome ended)
 {
-    outcome found;
-    PyObject *columns = scanned((caller *)self, args, count, NULL, 1, &found);
-    return found == OTHER ? by_python(self, "_scan_as_columns", args, count, NULL) : columns;
+    return ended == OTHER ? Py_NewRef(Py_None) : found;
 }
 
-/* The rows of a page whose bytes are given, or None if it is refused. */
-static PyObject *page_rows(PyObject *object, PyObject *const *args, Py_ssize_t count)
+static int have_count(Py_ssize_t count, Py_ssize_t wanted)
 {
-    caller *self = (caller *)object;
-    tree there;
-    reader reply;
-    char *page;
-    Py_ssize_t length;
-    PyObject *rows = NULL, *description = count == 2 && is_ready(self) ? description_of(self, args[0]) : NULL;
+    if (count != wanted)
+        PyErr_Format(PyExc_TypeError, "%zd arguments are taken, and not %zd", wanted, count);
+    return count == wanted;
+}
+
+static PyObject *rows_between(PyObject *self, PyObject *const *args, Py_ssize_t count)
+{
     outcome found = OTHER;
-    if (described(description, &there) && PyBytes_CheckExact(args[1]) && PyBytes_AsStringAndSize(args[1], &page, &length) == 0) {
-        bytes_in_room bytes;
-        found = taken(self, &bytes) && has_room(&bytes, (size_t)length) ? DONE : RAISED;
-        if (found == DONE) {
-            add_bytes(&bytes, page, (size_t)length);
-            found = called(self, self->page, &bytes, 1);
-        }
-        if (found == DONE)
-            found = read_reply(self, &bytes, &reply);
-        if (found == DONE) {
-            rows = listed(reply, there.columns, there.kinds, 0);
-            found = rows == NULL ? RAISED : DONE;
-        }
-        kept(self, &bytes);
-    }
-    Py_XDECREF(description);
-    return found == OTHER && !PyErr_Occurred() ? by_python(object, "_page_rows", args, count, NULL) : rows;
+    if (!have_count(count, 5))
+        return NULL;
+    PyObject *rows = scanned((caller *)self, args, 0, &found);
+    return none_if_other(rows, found);
 }
 
-static PyObject *call_sums(PyObject *object, PyObject *const *args, Py_ssize_t count, PyObject *names)
+static PyObject *columns_between(PyObject *self, PyObject *const *args, Py_ssize_t count)
 {
-    caller *self = (caller *)object;
-    PyObject *given[5], *groups = NULL, *description = NULL;
+    outcome found = OTHER;
+    if (!have_count(count, 5))
+        return NULL;
+    PyObject *columns = scanned((caller *)self, args, 1, &found);
+    return none_if_other(columns, found);
+}
+
+static PyObject *summed(caller *self, PyObject *const given[5], outcome *ended)
+{
+    PyObject *groups = NULL, *description = NULL;
     tree there;
     bytes_in_room bytes;
     reader reply;
     outcome found = OTHER;
     int overflow;
-    if (is_ready(self) && are_placed(args, count, names, names_of_sums, 5, given) && given[0] != NULL)
+    if (is_ready(self) && given[0] != NULL)
         description = description_of(self, given[0]);
     const int are_there = described(description, &there) && given[1] != NULL && given[2] != NULL;
     if (are_there && PyLong_CheckExact(given[1]) && PyUnicode_CheckExact(given[2])) {
@@ -1001,7 +1068,7 @@ static PyObject *call_sums(PyObject *object, PyObject *const *args, Py_ssize_t c
             if (found == DONE)
                 found = has_room(&bytes, MOST_VALUE_LENGTH) ? add_value(&bytes, given[2], TEXT) : RAISED;
             for (int place = 3; found == DONE && place <= 4; place++)
-                found = add_bound(&bytes, given[place], &there);
+                found = add_bound(&bytes, given[place], &there, PREFIX);
             if (found == DONE)
                 found = called(self, self->sums, &bytes, 1);
             if (found == DONE)
@@ -1016,7 +1083,26 @@ static PyObject *call_sums(PyObject *object, PyObject *const *args, Py_ssize_t c
         found = RAISED;
     }
     Py_XDECREF(description);
-    return found == OTHER ? by_python(object, "sums", args, count, names) : groups;
+    *ended = found;
+    return groups;
+}
+
+static PyObject *call_sums(PyObject *self, PyObject *const *args, Py_ssize_t count, PyObject *names)
+{
+    PyObject *given[5], *groups = NULL;
+    outcome found = OTHER;
+    if (are_placed(args, count, names, names_of_sums, 5, given))
+        groups = summed((caller *)self, given, &found);
+    return found == OTHER ? by_python(self, "sums", args, count, names) : groups;
+}
+
+static PyObject *groups_between(PyObject *self, PyObject *const *args, Py_ssize_t count)
+{
+    outcome found = OTHER;
+    if (!have_count(count, 5))
+        return NULL;
+    PyObject *groups = summed((caller *)self, args, &found);
+    return none_if_other(groups, found);
 }
 
 /* ---- scripts ---- */
@@ -1160,11 +1246,12 @@ static PyMethodDef methods[] = {
     {"sums", FAST(call_sums), METH_FASTCALL | METH_KEYWORDS,
      "sums($self, tree, columns, column, start=None, stop=None)\n--\n\n"
      "For each group of rows that are equal in the tree's first columns: their number, the sum of a column, and the values of those columns."},
-    {"_apply_rows", apply_rows, METH_O, "Whether rows were put, as one batch."},
-    {"_apply_messages", apply_messages, METH_O, "Whether messages were applied, as one batch."},
-    {"_apply_columns", apply_columns, METH_O, "Whether the rows of columns were put, as one batch."},
-    {"_scan_as_columns", FAST(scan_as_columns), METH_FASTCALL, "The columns of the rows of a scan: of ints their bytes, and lists of other values."},
-    {"_page_rows", FAST(page_rows), METH_FASTCALL, "The rows of a page, of the name of its tree and its bytes, or None if it is refused."},
+    {"_pack_rows", pack_rows, METH_O, "The bytes of the changes that put rows, or None."},
+    {"_pack_messages", pack_messages, METH_O, "The bytes of the changes that messages are, or None."},
+    {"_pack_columns", FAST(pack_columns), METH_FASTCALL, "The bytes of changes by columns, of their number, their form and the columns, or None."},
+    {"_rows_between", FAST(rows_between), METH_FASTCALL, "The rows of a scan, or None."},
+    {"_columns_between", FAST(columns_between), METH_FASTCALL, "The columns of the rows of a scan, of ints their bytes, and lists of other values, or None."},
+    {"_groups_between", FAST(groups_between), METH_FASTCALL, "The groups of a range, or None."},
     {"_places", places_of_replies, METH_NOARGS, "The places of the replies to the last script."},
     {"_connect", FAST(connect), METH_FASTCALL, "Connects it with a session, by addresses."},
     {"_know", know, METH_O, "Takes the descriptions of all trees."},
@@ -1214,7 +1301,7 @@ static PyObject *prepare(PyObject *module, PyObject *const *args, Py_ssize_t cou
 }
 
 static PyMethodDef functions[] = {
-    {"prepare", FAST(prepare), METH_FASTCALL, "Takes the class of sessions without this module, and that of messages."},
+    {"prepare", FAST(prepare), METH_FASTCALL, "Takes the class whose methods take what is not taken here, and that of messages."},
     {NULL, NULL, 0, NULL},
 };
 
@@ -1235,10 +1322,10 @@ static int are_interned(const char *const *given, PyObject **found, int count)
 PyMODINIT_FUNC PyInit__packed(void)
 {
     static const char *const words[] = {"word", "shape", "values", "put", "del", "ups", "_plan", "_raise_out_of_memory"};
-    static const char *const of_scan[] = {"tree", "start", "stop", "limit"};
+    static const char *const of_scan[] = {"tree", "start", "stop", "limit", "after"};
     static const char *const of_sums[] = {"tree", "columns", "column", "start", "stop"};
     PyObject *interned[8];
-    if (!are_interned(words, interned, 8) || !are_interned(of_scan, names_of_scan, 4) || !are_interned(of_sums, names_of_sums, 5))
+    if (!are_interned(words, interned, 8) || !are_interned(of_scan, names_of_scan, 5) || !are_interned(of_sums, names_of_sums, 5))
         return NULL;
     word_name = interned[0];
     shape_name = interned[1];

@@ -15,17 +15,18 @@ from itertools import islice
 from typing import Any, NamedTuple, NoReturn
 
 from . import language
+from .batches import Batch, Columns, Messages, Rows, without_breaks
 from .csv_input import BLOCK, Part, WrongRecords, has_line_breaks, parts, rows_of_records, several_are_wrong, wrong_records, wrong_records_of_load
 from .errors import OutOfMemory, Refused, RowTypeError, RowValueError, WrongRecord
 from .faults import MEANINGS, Fault, faults_of_refusal
 from .forms import head_faults, name_fault
 from .language import Command, State, Table
-from .messages import Message, delete, message_lines, record, upsert
+from .messages import Message, delete, record, upsert
 from .packed import MOST_ROWS, TreeColumn, Usage
 from .replies import Place, Reply, answered, kinds_of_rows, rows_of_reply
 from .rows import (
     ARRAY_TYPES, UNKNOWN, VALUES, Column, ColumnValues, Layout, Value, as_iterator, as_tuple, columns_of, columns_of_rows, key_fields, layout,
-    line_field, part_of_column, records, rows_of_columns, shown, value_of_field, values_by_column,
+    line_field, part_of_column, plain_key, records, shown, value_of_field, values_by_column,
 )  # fmt: skip
 
 MOST_MESSAGES = language.MOST_MESSAGES
@@ -33,8 +34,6 @@ CSV_ROWS = 10_000  # of a page that is written to a CSV file
 Row = tuple[Value, ...]
 # The first values of a key, or no bound.
 Bound = tuple[Any, ...] | None
-# The lines of a batch, of what is given for it, the table, and how many rows of the call were applied before.
-Lines = Callable[[list[Any], Table, int], str]
 
 
 class Tree(NamedTuple):
@@ -49,15 +48,19 @@ class Tree(NamedTuple):
 
 
 class Range(NamedTuple):
-    """What a scan is of: a tree and its columns, the two bounds, the key of the row directly after which it begins, if it is not before the bound, and the
-    script, which begins with that row."""
+    """What a scan is of: a tree and its columns, the two bounds, and the key of the row directly after which it begins, in place of the first bound. The values
+    are plain."""
 
     name: str
     there: Layout
     start: Bound
     stop: Bound
-    after: Bound
-    script: str
+    after: Bound = None
+
+    @property
+    def script(self) -> str:
+        """The scan in a script, which begins with the row of the key if there is one."""
+        return f"scan {self.name}\n{bounds(self.there, self.start if self.after is None else self.after, self.stop)}go\n"
 
 
 # What calls a function with that which reads a table, and returns what it gives.
@@ -102,7 +105,7 @@ class Calls(ABC):
         """Applies messages of `put`, `delete` and `upsert` in order, and returns their number. More than `most` of them are several batches; each batch is
         applied whole or not at all."""
         given = as_iterator(messages, "messages", "[betable.put(..), betable.delete(..)]")
-        return self._in_batches(given, most, message_lines)
+        return self._in_batches(given, most, Messages)
 
     def put(self, rows: Iterable[Any] | Mapping[str, Any], most: int = MOST_MESSAGES) -> int:
         """Puts rows, each a tuple or a list with a value for each column, or a dict by their names, and returns their number. More than `most` of them are
@@ -112,7 +115,7 @@ class Calls(ABC):
         if hasattr(rows, "columns") and hasattr(rows, "to_numpy"):
             raise TypeError("a data frame would give the names of its columns: write put_frame(frame)")
         given = as_iterator(rows, "rows", "[(1, ..), (2, ..)]")
-        return self._in_batches(given, most, put_lines)
+        return self._in_batches(given, most, Rows)
 
     def put_frame(self, frame: Any, most: int = MOST_MESSAGES) -> int:
         """Puts the rows of a data frame of pandas, whose columns have the names of the table's, in any order, and returns their number. The index of the frame
@@ -220,8 +223,7 @@ class Calls(ABC):
     def get(self, *key: Any) -> Row | None:
         """The row of a key, or None."""
         there = layout(self._table(b"get 0\n"))
-        if len(key) == 1 and isinstance(key[0], (tuple, list)):
-            raise RowTypeError(f"{shown(key[0])} is of type {type(key[0]).__name__}: the values of a key are given one by one, as get(*key)", value=key[0])
+        check_one_by_one(key)
         rows = self._rows(b"get", f"get {','.join(key_fields(key, there.key, 'a key'))}\n", there.kinds)
         return rows[0] if rows else None
 
@@ -346,14 +348,14 @@ class Calls(ABC):
         """What a scan is of, whose arguments are checked."""
         name = checked_name(tree, "a tree")
         there = layout(self.state.table, name)
-        lines = bounds(there, start, stop)
-        if after is not None and there is not UNKNOWN:
-            key_fields(after, there.key, "the key of the row before")
-            if start is not None and in_order(after[: len(start)], there) < in_order(start, there):
-                after = None
-            else:
-                after, lines = tuple(after), bounds(there, after, stop)
-        return Range(name, there, start, stop, after, f"scan {name}\n{lines}go\n")
+        if there is UNKNOWN:
+            return Range(name, there, None, None)
+        lower, upper = [None if values is None else plain_key(values, there.key, "a bound", is_prefix=True) for values in (start, stop)]
+        if after is not None:
+            key = plain_key(after, there.key, "the key of the row before")
+            if lower is None or key[: len(lower)] >= lower:
+                return Range(name, there, None, upper, key)
+        return Range(name, there, lower, upper)
 
     def _refuse_tree(self, name: str) -> NoReturn:
         """Raises the refusal, in words, of a call on a tree that is unknown."""
@@ -400,7 +402,7 @@ class Calls(ABC):
     def _put_values(self, part: Part, table: Table, taken: int, path: str) -> None:
         """Puts records as rows of values, since texts of them have line breaks, which no script has."""
         try:
-            self._apply_after(rows_of_records(part.records, table), table, taken, put_lines)
+            self._apply_after(Rows(list(rows_of_records(part.records, table))), table, taken)
         except RowValueError as fault:
             place = (fault.row or taken + 1) - taken - 1
             reason = f"{path}, line {part.lines[place]}: {fault.reason}"
@@ -414,7 +416,7 @@ class Calls(ABC):
         values, count = values_by_column(rows, columns)
         for taken in range(0, count, most):
             parts = [part_of_column(one, column.kind, taken, taken + most) for one, column in zip(values, columns)]
-            self._apply_after(parts, table, taken, column_lines)
+            self._apply_after(Columns("put", (), parts, min(most, count - taken), layout(table)), table, taken)
         return count
 
     def _table(self, command: bytes = b"batch\nend\n") -> Table:
@@ -425,32 +427,44 @@ class Calls(ABC):
             raise RuntimeError("the columns of the table are unknown, since memory ran out as it was made")
         return table
 
-    def _in_batches(self, given: Iterator[Any], most: int, lines: Lines) -> int:
-        """Applies what is given, `most` at a time, as the lines that are made of it, and returns how many there were."""
+    def _in_batches(self, given: Iterator[Any], most: int, make: Callable[[list[Any]], Batch]) -> int:
+        """Applies what is given, `most` at a time, as the batches that are made of it, and returns how many there were."""
         _check_most(most)
         taken = 0
         while True:
             some = list(islice(given, most))
             table = self._table()
             if some:
-                self._apply_after(some, table, taken, lines)
+                self._apply_after(make(some), table, taken)
                 taken += len(some)
             if len(some) < most:
                 return taken
 
-    def _apply_after(self, some: list[Any], table: Table, taken: int, lines: Lines) -> None:
+    def _apply_after(self, batch: Batch, table: Table, taken: int) -> None:
         """Applies one batch of a call, of which so many rows were applied before."""
         try:
-            self._apply(some, table, taken, lines)
+            self._apply(batch, table, taken)
         except OutOfMemory as fault:
             raise OutOfMemory(fault.replies, fault.is_cut, fault.is_lost, taken) from None
 
-    def _apply(self, some: list[Any], table: Table, taken: int, lines: Lines) -> None:
-        """Applies one batch."""
-        script = f"batch\n{lines(some, table, taken)}end\n"
-        reply = self.replies(script)
-        if reply.startswith(b"refused "):
-            self._refuse_if_refused(script.encode(), reply, taken, rows_of_columns(some) if lines is column_lines else some)
+    def _apply(self, batch: Batch, table: Table, taken: int) -> None:
+        """Applies one batch: as packed bytes, or as a script if there are none."""
+        packed = self._packed(batch, table, taken)
+        if packed is None:
+            script = f"batch\n{batch.lines(table, taken)}end\n".encode()
+            self._refuse_if_refused(script, self.replies(script), taken, batch)
+        elif refusal := self._apply_packed(packed):
+            script = f"batch\n{without_breaks(batch, table, taken).lines(table, taken)}end\n".encode()
+            self._refuse_if_refused(script, refusal, taken, batch)
+
+    def _packed(self, batch: Batch, table: Table, taken: int) -> bytes | None:
+        """The bytes of a batch, or None where only scripts are run, or if a value cannot be packed. Raises RowError for a value that its column does not
+        take."""
+        return None
+
+    def _apply_packed(self, changes: bytes) -> bytes:
+        """Applies packed changes, all or none. The reply that a batch of a script has which is refused so, or no bytes."""
+        raise NotImplementedError
 
     def _loaded(self, script: bytes, path: str | None = None) -> int:
         reply = self.replies(script)
@@ -464,21 +478,20 @@ class Calls(ABC):
         return rows_of_reply(word, reply.decode(), kinds)
 
     def _refuse_if_refused(
-        self, script: bytes, reply: bytes, taken: int, rows: list[Any] | None, path: str | None = None, lines: Sequence[int] = ()
+        self, script: bytes, reply: bytes, taken: int, batch: Batch | None, path: str | None = None, lines: Sequence[int] = ()
     ) -> None:
         if reply.startswith(b"refused "):
             command = next(language.commands(script))
-            raise refusal(command, reply, self.state, [Reply(reply.decode(), command.head.word)], taken, rows, path, lines, is_of_script=False)
+            items = None if batch is None else batch.items
+            raise refusal(
+                command, reply, self.state, [Reply(reply.decode(), command.head.word)], taken, items, path, lines, is_of_script=False
+            )  # fmt: skip
 
 
-def put_lines(rows: list[Any], table: Table, taken: int) -> str:
-    """The lines that put rows."""
-    return records(rows, layout(table).columns, "put ", taken + 1, taken)
-
-
-def column_lines(columns: list[Any], table: Table, taken: int) -> str:
-    """The lines that put rows that are given by columns."""
-    return put_lines(rows_of_columns(columns), table, taken)
+def check_one_by_one(key: tuple[Any, ...]) -> None:
+    """That a key to get is not given as one tuple."""
+    if len(key) == 1 and isinstance(key[0], (tuple, list)):
+        raise RowTypeError(f"{shown(key[0])} is of type {type(key[0]).__name__}: the values of a key are given one by one, as get(*key)", value=key[0])
 
 
 def by_names(there: Layout, columns: list[ColumnValues]) -> dict[str, ColumnValues]:
@@ -492,11 +505,6 @@ def bounds(there: Layout, start: Any, stop: Any) -> str:
         return ""
     given = [(word, values) for word, values in (("from", start), ("to", stop)) if values is not None]
     return "".join(f"{word} {','.join(key_fields(values, there.key, 'a bound', is_prefix=True))}\n" for word, values in given)
-
-
-def in_order(values: Sequence[Any], there: Layout) -> list[Any]:
-    """The first values of a key, as they are compared."""
-    return [bytes(value) if column.kind == "bytes" else value for value, column in zip(values, there.key)]
 
 
 def as_script(script: Any) -> bytes:

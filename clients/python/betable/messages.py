@@ -8,7 +8,7 @@ from typing import Any
 from . import language
 from .errors import RowTypeError, RowValueError
 from .language import Table
-from .rows import FIELDS, PLAIN_TEXT, Column, Layout, as_iterator, as_tuple, key_fields, layout, line_fault, line_field, shown
+from .rows import FIELDS, PLAIN_TEXT, Column, Layout, as_iterator, as_tuple, check_key, layout, line_fault, line_field, plain_value, shown
 
 OPERATIONS = tuple(word.decode() for word in language.OPERATIONS)
 
@@ -128,9 +128,7 @@ def message_lines(messages: list[Any], table: Table, taken: int) -> str:
     there, found = layout(table), []
     forms = there.forms
     for number, message in enumerate(messages, taken + 1):
-        if type(message) is not Message:
-            reason = f"{shown(message)} is of type {type(message).__name__}, and a message is made by betable.put, betable.delete or betable.upsert"
-            raise RowTypeError(reason, row=number, value=message, taken=taken)
+        _check_message(message, number, taken)
         values = message.values
         form = forms.get((message.word, message.shape, *map(type, values)))
         if form is None or not all([PLAIN_TEXT.fullmatch(values[place]) for place in form.texts]):
@@ -143,20 +141,43 @@ def message_lines(messages: list[Any], table: Table, taken: int) -> str:
     return "".join(found)
 
 
-def _message_line(message: Message, there: Layout, row: int, taken: int) -> str:
-    """The line of one message. Its form is kept for others that are like it, where its values are ints and texts that need no look but at their letters."""
+def plain_messages(messages: list[Any], table: Table, taken: int) -> list[Message]:
+    """Messages whose values have exactly the types of their kinds."""
+    there, found = layout(table), []
+    for number, message in enumerate(messages, taken + 1):
+        _check_message(message, number, taken)
+        columns = _columns_of_message(message, there, number, taken)
+        values = tuple([plain_value(value, column, number, taken) for value, column in zip(message.values, columns)])
+        found.append(Message(message.word, values, message.shape))
+    return found
+
+
+def _check_message(message: Any, row: int, taken: int) -> None:
+    if type(message) is not Message:
+        reason = f"{shown(message)} is of type {type(message).__name__}, and a message is made by betable.put, betable.delete or betable.upsert"
+        raise RowTypeError(reason, row=row, value=message, taken=taken)
+
+
+def _columns_of_message(message: Message, there: Layout, row: int, taken: int) -> list[Column]:
+    """The columns of the values of a message. The number that `add`, `max` and `min` take is that of an int, which the library refuses for other columns."""
     key, changes = message.parts()
     by_name, names = {column.name: column for column in there.columns}, ", ".join(column.name for column in there.columns)
     if message.word == "put":
-        columns = list(there.columns)
-        as_tuple(key, columns, row, taken)
-    else:
-        columns = list(there.key)
-        key_fields(key, columns, "a key", row=row, taken=taken)
-        for _, name, value in changes:
-            if name not in by_name:
-                raise RowValueError(f"{shown(name)} is no column ({names})", row=row, value=name, taken=taken)
-            columns.append(by_name[name])
+        as_tuple(key, there.columns, row, taken)
+        return list(there.columns)
+    columns = list(there.key)
+    check_key(key, columns, "a key", row=row, taken=taken)
+    for _, name, value in changes:
+        if name not in by_name:
+            raise RowValueError(f"{shown(name)} is no column ({names})", row=row, value=name, taken=taken)
+        columns.append(by_name[name])
+    return columns
+
+
+def _message_line(message: Message, there: Layout, row: int, taken: int) -> str:
+    """The line of one message. Its form is kept for others that are like it, where its values are ints and texts that need no look but at their letters."""
+    key, changes = message.parts()
+    columns = _columns_of_message(message, there, row, taken)
     parts = [",%s"] * len(key) + [f",{operation},{name},%s" for operation, name, _ in changes]
     form = Form(f"{message.word} {''.join(parts)[1:]}\n", columns)
     if all(type(value) is PLAIN_TYPES.get(column.kind) for value, column in zip(message.values, columns)):

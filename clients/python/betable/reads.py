@@ -11,7 +11,7 @@ from .calls import Bound, Calls, Row
 from .language import State
 from .packed import TreeColumn, Usage
 from .rows import ColumnValues
-from .session import PureSession
+from .session import ScriptSession
 
 T = TypeVar("T")
 
@@ -77,4 +77,4 @@ class ByScripts(Calls):
 
 def reader_of(table: Calls, runner: object) -> Calls:
     """What reads a table: the session that runs its scripts, or the calls by scripts if that is a layer."""
-    return runner if isinstance(runner, PureSession) else ByScripts(table)
+    return runner if isinstance(runner, ScriptSession) else ByScripts(table)

@@ -17,11 +17,12 @@ import operator
 import re
 from array import array
 from collections.abc import Callable, Iterable, Iterator, Mapping, Sequence, Set
-from typing import Any, NamedTuple, TypeAlias
+from typing import Any, NamedTuple, TypeAlias, TypeVar
 
 from .errors import RowTypeError, RowValueError
 from .language import GREATEST_INT, KINDS, LEAST_INT, PRIMARY, Index, Table, counted
 
+T = TypeVar("T")
 Value = int | str | bool | bytes
 # The values of a column: of one of kind int, or of another.
 ColumnValues: TypeAlias = "array[int] | list[Any]"
@@ -83,12 +84,33 @@ FEW_ROWS = 4
 # ---- values ----
 
 
-def _int_field(value: Any) -> str:
+def _plain_int(value: Any) -> int:
     # NumPy 1 gives its bool an index.
     if isinstance(value, bool) or type(value).__name__ == "bool_":
         raise TypeError
     # Of a subclass, which may print in another way, the number itself.
-    return int.__repr__(operator.index(value))
+    return int.__pos__(operator.index(value))
+
+
+def _plain_flag(value: Any) -> bool:
+    if not isinstance(value, bool):
+        raise TypeError
+    return value
+
+
+def _plain_bytes(value: Any) -> bytes:
+    if not isinstance(value, (bytes, bytearray, memoryview)):
+        raise TypeError
+    return bytes(value)
+
+
+# By kind: a value as one of exactly the type that the kind has, for the extension. A TypeError means that the kind does not take the value.
+PLAIN: dict[str, Callable[[Any], Value]] = {"int": _plain_int, "text": str.__str__, "flag": _plain_flag, "bytes": _plain_bytes}
+EXACT_TYPES: dict[str, type] = {"int": int, "text": str, "flag": bool, "bytes": bytes}
+
+
+def _int_field(value: Any) -> str:
+    return str(_plain_int(value))
 
 
 def _text_field(value: Any) -> str:
@@ -97,15 +119,11 @@ def _text_field(value: Any) -> str:
 
 
 def _flag_field(value: Any) -> str:
-    if not isinstance(value, bool):
-        raise TypeError
-    return "true" if value else "false"
+    return "true" if _plain_flag(value) else "false"
 
 
 def _bytes_field(value: Any) -> str:
-    if not isinstance(value, (bytes, bytearray, memoryview)):
-        raise TypeError
-    return value.hex() or '""'
+    return _plain_bytes(value).hex() or '""'
 
 
 # By kind: the field of a value, in quotes if it needs them. A TypeError means that the kind does not take the value.
@@ -164,10 +182,21 @@ def _advice(value: Any, name: str, kind: str) -> str:
 
 def field_of(value: Any, column: Column, row: int | None, taken: int = 0) -> str:
     """The field of a value of a column, in quotes where it needs them."""
+    return _converted(FIELDS[column.kind], value, column, row, taken)
+
+
+def plain_value(value: Any, column: Column, row: int | None = None, taken: int = 0) -> Value:
+    """A value of a column as one of exactly the type of its kind."""
+    return _converted(PLAIN[column.kind], value, column, row, taken)
+
+
+def _converted(convert: Callable[[Any], T], value: Any, column: Column, row: int | None, taken: int) -> T:
     try:
-        return FIELDS[column.kind](value)
+        return convert(value)
     except TypeError:
         raise RowTypeError(type_reason(value, column), row=row, column=column.name, value=value, taken=taken) from None
+    except MemoryError:
+        raise
     except Exception as fault:
         raise RowValueError(f"{shown(value)}: {fault}", row=row, column=column.name, value=value, taken=taken) from None
 
@@ -213,6 +242,13 @@ def as_tuple(row: Any, columns: Sequence[Column], number: int, taken: int) -> Se
         reason = f"{counted(len(row), 'value')}, and a row has {len(names)} ({', '.join(names)}): {shown(row)}"
         raise RowValueError(reason, row=number, value=row, taken=taken)
     return row
+
+
+def _tuples(rows: list[Any], columns: Sequence[Column], row: int, taken: int) -> list[Any]:
+    """Rows as tuples and lists, of which the first one has this number in the call."""
+    if set(map(type, rows)) <= {tuple, list} and set(map(len, rows)) <= {len(columns)}:
+        return rows
+    return [as_tuple(one, columns, number, taken) for number, one in enumerate(rows, row)]
 
 
 def tuples_of_dicts(rows: list[Any], names: Sequence[str]) -> list[Any]:
@@ -271,7 +307,10 @@ def part_of_column(values: Any, kind: str, start: int, stop: int) -> Any:
     part = values[start:stop]
     if kind == "int" and _is_of_ints(part):
         return part
-    if hasattr(part, "tolist") and getattr(getattr(part, "dtype", None), "kind", "O") in PLAIN_ARRAYS:
+    array_kind = getattr(getattr(part, "dtype", None), "kind", "O")
+    if kind == "int" and array_kind in "iu" and part.ndim == 1 and part.dtype != "uint64":
+        return part.astype("int64")
+    if hasattr(part, "tolist") and array_kind in PLAIN_ARRAYS:
         return part.tolist()
     return part if type(part) is list else list(part)
 
@@ -285,9 +324,21 @@ def _is_of_ints(part: Any) -> bool:
         return False
 
 
-def rows_of_columns(columns: list[Any]) -> list[tuple[Any, ...]]:
-    """The rows of columns that `part_of_column` made."""
-    return list(zip(*[values if type(values) is list else values.tolist() for values in columns]))
+def rows_of_columns(columns: list[Any], count: int) -> list[tuple[Any, ...]]:
+    """That many rows of columns that `part_of_column` made, or that are one value for all rows."""
+    return list(zip(*[values if type(values) is list else values.tolist() if hasattr(values, "tolist") else [values] * count for values in columns]))
+
+
+def plain_rows(rows: list[Any], columns: Sequence[Column], taken: int) -> list[tuple[Value, ...]]:
+    """Rows whose values have exactly the types of their kinds. So many rows of the call were before them."""
+    rows = _tuples(rows, columns, taken + 1, taken)
+    found = []
+    for values, column in zip(zip(*rows), columns):
+        if set(map(type, values)) == {EXACT_TYPES[column.kind]}:
+            found.append(values)
+        else:
+            found.append(tuple([plain_value(value, column, number, taken) for number, value in enumerate(values, taken + 1)]))
+    return list(zip(*found))
 
 
 def columns_of_rows(rows: list[tuple[Value, ...]], kinds: Sequence[str]) -> list[ColumnValues]:
@@ -298,8 +349,7 @@ def columns_of_rows(rows: list[tuple[Value, ...]], kinds: Sequence[str]) -> list
 
 def records(rows: list[Any], columns: Sequence[Column], word: str = "", row: int = 1, taken: int = 0, *, is_load: bool = False) -> str:
     """Lines with the records of rows, each after a word. `row` is the number of the first one in the call. Only a load takes texts with line breaks."""
-    if not (set(map(type, rows)) <= {tuple, list} and set(map(len, rows)) <= {len(columns)}):
-        rows = [as_tuple(one, columns, number, taken) for number, one in enumerate(rows, row)]
+    rows = _tuples(rows, columns, row, taken)
     if len(rows) < FEW_ROWS and not is_load:
         lines = [[line_field(value, column, number, taken) for value, column in zip(one, columns)] for number, one in enumerate(rows, row)]
         return "".join([f"{word}{','.join(line)}\n" for line in lines])
@@ -334,6 +384,18 @@ def line_fault(value: Any, field: Any, is_load: bool = False) -> str | None:
 
 def key_fields(values: Any, columns: Sequence[Column], what: str, *, row: int | None = None, taken: int = 0, is_prefix: bool = False) -> list[str]:
     """The fields of a key, or of the first values of one."""
+    check_key(values, columns, what, row=row, taken=taken, is_prefix=is_prefix)
+    return [line_field(value, column, row, taken) for value, column in zip(values, columns)]
+
+
+def plain_key(values: Any, columns: Sequence[Column], what: str, *, row: int | None = None, taken: int = 0, is_prefix: bool = False) -> tuple[Value, ...]:
+    """The values of a key, or of the first values of one, each of exactly the type of its kind."""
+    check_key(values, columns, what, row=row, taken=taken, is_prefix=is_prefix)
+    return tuple([plain_value(value, column, row, taken) for value, column in zip(values, columns)])
+
+
+def check_key(values: Any, columns: Sequence[Column], what: str, *, row: int | None = None, taken: int = 0, is_prefix: bool = False) -> None:
+    """That a key, or the first values of one, is a tuple with as many values as it can have."""
     if not isinstance(values, (tuple, list)):
         reason = f"{what} is a tuple, and not {shown(values)} of type {type(values).__name__}: write ({shown(values)},)"
         raise RowTypeError(reason, row=row, value=values, taken=taken)
@@ -342,7 +404,6 @@ def key_fields(values: Any, columns: Sequence[Column], what: str, *, row: int | 
         names = ", ".join(column.name for column in columns)
         reason = f"{counted(len(values), 'value')}, and {what} has {least}{len(columns)} ({names})"
         raise RowValueError(reason, row=row, value=values, taken=taken)
-    return [line_field(value, column, row, taken) for value, column in zip(values, columns)]
 
 
 def line_field(value: Any, column: Column, row: int | None, taken: int = 0) -> str:

@@ -1,7 +1,8 @@
 """A session: a table in this process, by the library for C.
 
-`PureSession` calls the library by ctypes. `Session` does the same, and if the extension `_packed` is built, its calls go by that, from values to packed bytes
-and back without code of Python. Set BETABLE_PURE=1 to do without the extension.
+`ScriptSession` calls the library by ctypes: it runs scripts, applies packed changes, and asks for columns and usage. `Session` is that with the calls of the
+extension `_packed`, which go from values to packed bytes and back. What the extension does not take as it is goes to the calls of `CheckedCalls`, which make
+values plain, and find out why a call is refused. Where the extension is not built, calls on values go by scripts.
 """
 
 from __future__ import annotations
@@ -9,25 +10,33 @@ from __future__ import annotations
 import ctypes
 import os
 import threading
+import warnings
 from collections.abc import Callable, Iterator
+from functools import cache
 from itertools import islice
 from pathlib import Path
-from types import ModuleType, TracebackType
+from types import TracebackType
 from typing import TYPE_CHECKING, Any
 
 from . import language
+from .batches import Batch, first_too_long, operations_of, without_breaks
 from .calls import (
-    Bound, Calls, Lines, Range, Read, Row, as_script, bounds, by_names, checked_group, checked_limit, checked_name, checked_page, column_lines, note,
-    note_unanswered, put_lines,
+    Bound, Calls, Range, Read, Row, as_script, by_names, check_one_by_one, checked_group, checked_limit, checked_name, checked_page, note, note_unanswered,
 )  # fmt: skip
 from .errors import OutOfMemory
 from .language import PRIMARY, State, Table, counted
-from .messages import Message, Shape, message_lines
-from .packed import (
-    NOT_TAKEN, TreeColumn, Usage, columns_of_reply, description, groups_of_reply, name_bytes, packing, page_bytes, sums_bytes, usage_of_reply,
-)  # fmt: skip
+from .messages import Message, Shape
+from .packed import BAD_FIELD, TreeColumn, Usage, columns_of_reply, description, name_bytes, refusal_reply, usage_of_reply
 from .replies import Place, answered
-from .rows import UNKNOWN, ColumnValues, Layout, columns_of_rows, layout, rows_of_columns, shown, tuples_of_dicts
+from .rows import UNKNOWN, ColumnValues, layout, plain_key
+
+if TYPE_CHECKING:
+    from . import _packed
+else:
+    try:
+        from . import _packed
+    except ImportError:
+        _packed = None
 
 DONE, OUT_OF_MEMORY, REPLY_CUT, NOT_OPEN, ALREADY_OPEN, REFUSED = range(6)
 # What became of a command, or would.
@@ -77,10 +86,7 @@ def _loaded_library() -> ctypes.CDLL:
         ("betable_run", [handle, ctypes.c_char_p, size], ctypes.c_uint),
         ("betable_check", [handle, ctypes.c_char_p, size], ctypes.c_uint),
         ("betable_apply", of_packed, ctypes.c_uint),
-        ("betable_get", of_packed, ctypes.c_uint),
-        ("betable_page", of_packed, ctypes.c_uint),
         ("betable_columns", of_packed, ctypes.c_uint),
-        ("betable_sums", of_packed, ctypes.c_uint),
         ("betable_usage", of_packed, ctypes.c_uint),
         ("betable_replies_length", [handle], size),
         ("betable_copy_replies", [handle, size, ctypes.c_char_p, size], size),
@@ -98,12 +104,9 @@ def _loaded_library() -> ctypes.CDLL:
 _library: ctypes.CDLL | None = None
 
 
-class PureSession(Calls):
+class ScriptSession(Calls):
     """A table, or none so far, that lives between scripts. Any thread may use it, one call at a time: a call during another one raises RuntimeError. A closed
-    session raises ValueError.
-
-    Rows, messages, keys, pages and sums go to the library as packed bytes. What cannot be packed, and what the library refuses, goes the way of `Calls`, by
-    text: it takes the values, or says why it refuses them."""
+    session raises ValueError."""
 
     def __init__(self) -> None:
         global _library
@@ -118,7 +121,7 @@ class PureSession(Calls):
             raise OutOfMemory
         self._is_open = True
 
-    def __enter__(self) -> PureSession:
+    def __enter__(self) -> ScriptSession:
         return self
 
     def __exit__(self, kind: type[BaseException] | None, fault: BaseException | None, trace: TracebackType | None) -> None:
@@ -240,32 +243,6 @@ class PureSession(Calls):
 
     # ---- packed bytes ----
 
-    def get(self, *key: Any) -> Row | None:
-        """The row of a key, or None."""
-        table = self.state.table
-        if table is not None:
-            there = packing(layout(table))
-            reply = self._reply(self._library.betable_get, there.key(key))
-            if reply is not None:
-                rows = there.rows(reply)
-                return rows[0] if rows else None
-        return super().get(*key)
-
-    def scan(
-        self, tree: str = "primary", start: Bound = None, stop: Bound = None, limit: int | None = None, after: Bound = None
-    ) -> list[Row]:
-        """The rows of a tree in ascending order of their keys, from those that begin with the values `start` to before those that begin with `stop`. If the key
-        of a row is given as `after`, they begin directly after that row. With a limit they are the first ones, no more than that, and the library reads no
-        others."""
-        most, found = checked_limit(limit), self._range(tree, start, stop, after)
-        return self._rows(b"scan", found.script, [])[:most] if found.there is UNKNOWN else self._page(found, most, *packed_bounds(found))
-
-    def _iterated(self, read: Read, tree: str, start: Bound, stop: Bound, page: int) -> Iterator[Row]:
-        most, found = checked_page(page), self._range(tree, start, stop)
-        if found.there is UNKNOWN:
-            return iter(self._rows(b"scan", found.script, []))
-        return _rows_of_pages(self, read, found, most, *packed_bounds(found))
-
     def columns(self, tree: str = "primary") -> list[TreeColumn]:
         """The columns of the rows of a tree, each with its name, its kind, and whether it belongs to the key of the tree."""
         name = checked_name(tree, "a tree")
@@ -275,53 +252,13 @@ class PureSession(Calls):
         """How much a tree holds. All of its nodes are read."""
         return usage_of_reply(self._reply_on_tree(self._library.betable_usage, checked_name(tree, "a tree")))
 
-    def sums(
-        self, tree: str, columns: int, column: str, start: Bound = None, stop: Bound = None
-    ) -> list[Row]:
-        """For each group of rows that are equal in the tree's first columns: their number, the sum of a column, and the values of those columns."""
-        name, count, summed = checked_name(tree, "a tree"), checked_group(columns), checked_name(column, "a column")
-        there = layout(self.state.table, name)
-        if there is not UNKNOWN:
-            bounds(there, start, stop)
-            packed = packing(there)
-            lower, upper = packed.bound(start), packed.bound(stop)
-            given = None if lower is None or upper is None else sums_bytes(name, count, summed, lower, upper)
-            reply = self._reply(self._library.betable_sums, given)
-            if reply is not None:
-                return groups_of_reply(reply, there.key_kinds[:count])
-        return super().sums(tree, columns, column, start, stop)
+    def _apply_packed(self, changes: bytes) -> bytes:
+        if self._reply(self._library.betable_apply, changes, is_empty=True) is not None:
+            return b""
+        return refusal_reply(self._fault.refusal, self._fault.item)
 
-    def scan_columns(
-        self, tree: str = "primary", start: Bound = None, stop: Bound = None, limit: int | None = None
-    ) -> dict[str, ColumnValues]:
-        """The rows of `scan` by columns: a dict from their names to an `array` of ints, or to a list of other values."""
-        found = self._scan_as_columns(tree, start, stop, limit)
-        return by_names(layout(self.state.table, tree), found)
-
-    def _scan_as_columns(self, tree: str, start: Bound, stop: Bound, limit: int | None) -> list[ColumnValues]:
-        return columns_of_rows(self.scan(tree, start, stop, limit), layout(self.state.table, tree).kinds)
-
-    def _apply(self, some: list[Any], table: Table, taken: int, lines: Lines) -> None:
-        apply = self._apply_messages if lines is message_lines else self._apply_columns if lines is column_lines else self._apply_rows
-        packed = tuples_of_dicts(some, layout(table).names) if lines is put_lines else some
-        if not apply(packed):
-            super()._apply(some, table, taken, lines)
-
-    # Whether one batch was applied. If it was not, it cannot be packed or is refused, and nothing has changed.
-
-    def _apply_rows(self, rows: list[Any]) -> bool:
-        return self._reply(self._library.betable_apply, packing(layout(self.state.table)).puts(rows), is_empty=True) is not None
-
-    def _apply_messages(self, messages: list[Any]) -> bool:
-        return self._reply(self._library.betable_apply, packing(layout(self.state.table)).changes(messages), is_empty=True) is not None
-
-    def _apply_columns(self, columns: list[Any]) -> bool:
-        return self._apply_rows(rows_of_columns(columns))
-
-    def _reply(self, call: Callable[..., int], packed: bytes | None, is_empty: bool = False) -> bytes | None:
-        """The reply to a call on packed bytes, which may be empty always. If there are no bytes, or if they are refused, it is None, and nothing has changed."""
-        if packed is None:
-            return None
+    def _reply(self, call: Callable[..., int], packed: bytes, is_empty: bool = False) -> bytes | None:
+        """The reply to a call on packed bytes, which may be empty always. If they are refused it is None, and nothing has changed."""
         with self._calls():
             status = call(self._open_handle(), packed, len(packed), self._fault)
             reply = None if status != DONE else b"" if is_empty else self._copied()
@@ -339,38 +276,90 @@ class PureSession(Calls):
     def _raise_out_of_memory(self) -> None:
         raise OutOfMemory(b"", False, self.is_lost)
 
-    def _page(self, found: Range, most: int, lower: bytes | None, upper: bytes | None) -> list[Row]:
-        """The first rows between two packed bounds. Where there is none, or where the page is refused, the script of the scan takes its place."""
-        rows = None if lower is None or upper is None else self._page_rows(found.name, page_bytes(found.name, most, lower, upper))
+
+class CheckedCalls(ScriptSession):
+    """What the extension leaves to Python: calls whose arguments have values of other types than the plain ones, and those that the library refuses. Each call
+    makes the values plain and goes back to the extension. If that does not take them either, a script has the same fault, and says what it is."""
+
+    if TYPE_CHECKING:
+        # What the extension has. Each returns None if the library refuses it.
+        def _pack_rows(self, rows: list[Any], /) -> bytes | None: ...
+        def _pack_messages(self, messages: list[Any], /) -> bytes | None: ...
+        def _pack_columns(self, count: int, form: bytes, columns: list[Any], /) -> bytes | None: ...
+        def _rows_between(self, tree: str, start: Bound, stop: Bound, limit: int, after: Bound, /) -> list[Row] | None: ...
+        def _columns_between(self, tree: str, start: Bound, stop: Bound, limit: int, after: Bound, /) -> list[Any] | None: ...
+        def _groups_between(self, tree: str, columns: int, column: str, start: Bound, stop: Bound, /) -> list[Row] | None: ...
+
+    def get(self, *key: Any) -> Row | None:
+        """The row of a key, or None."""
+        there = layout(self.state.table)
+        if there is not UNKNOWN and len(key) == len(there.key):
+            check_one_by_one(key)
+            values = plain_key(key, there.key, "a key")
+            rows = self._rows_between("primary", values, None, 1, None)
+            if rows is not None:
+                return rows[0] if rows and rows[0][: len(values)] == values else None
+        return super().get(*key)
+
+    def scan(
+        self, tree: str = "primary", start: Bound = None, stop: Bound = None, limit: int | None = None, after: Bound = None
+    ) -> list[Row]:
+        """The rows of a tree in ascending order of their keys, from those that begin with the values `start` to before those that begin with `stop`. If the key
+        of a row is given as `after`, they begin directly after that row. With a limit they are the first ones, no more than that, and the library reads no
+        others."""
+        return self._page(self._range(tree, start, stop, after), checked_limit(limit))
+
+    def _iterated(self, read: Read, tree: str, start: Bound, stop: Bound, page: int) -> Iterator[Row]:
+        most, found = checked_page(page), self._range(tree, start, stop)
+        return _rows_of_pages(self, read, found, most) if found.there is not UNKNOWN else iter(self._page(found, most))
+
+    def sums(
+        self, tree: str, columns: int, column: str, start: Bound = None, stop: Bound = None
+    ) -> list[Row]:
+        """For each group of rows that are equal in the tree's first columns: their number, the sum of a column, and the values of those columns."""
+        found, count, summed = self._range(tree, start, stop), checked_group(columns), checked_name(column, "a column")
+        groups = self._groups_between(found.name, count, summed, found.start, found.stop)
+        return super().sums(tree, columns, column, start, stop) if groups is None else groups
+
+    def scan_columns(
+        self, tree: str = "primary", start: Bound = None, stop: Bound = None, limit: int | None = None
+    ) -> dict[str, ColumnValues]:
+        """The rows of `scan` by columns: a dict from their names to an `array` of ints, or to a list of other values."""
+        most, found = checked_limit(limit), self._range(tree, start, stop)
+        columns = self._columns_between(found.name, found.start, found.stop, most, None)
+        return super().scan_columns(tree, start, stop, limit) if columns is None else by_names(found.there, columns)
+
+    def _packed(self, batch: Batch, table: Table, taken: int) -> bytes | None:
+        packed = batch.packed(self) or batch.plain(table, taken).packed(self)
+        if packed is None:
+            # A value is too long, or none that UTF-8 or 64 bits have. In a line it has the same fault.
+            written = without_breaks(batch, table, taken)
+            script = f"batch\n{written.lines(table, taken)}end\n".encode()
+            if item := first_too_long(written):
+                self._refuse_if_refused(script, refusal_reply(BAD_FIELD, item), taken, batch)
+        return packed
+
+    def _page(self, found: Range, most: int) -> list[Row]:
+        """The first rows of a range. If the library refuses it, the script of the scan takes its place."""
+        rows = self._rows_between(found.name, found.start, found.stop, most, found.after)
         return super().scan(found.name, found.start, found.stop, most, found.after) if rows is None else rows
 
-    def _next_page(self, before: PureSession, found: Range, most: int, lower: bytes | None, upper: bytes | None) -> tuple[Range, list[Row]]:
+    def _next_page(self, before: CheckedCalls, found: Range, most: int) -> tuple[Range, list[Row]]:
         """The range with its next page. The pages before were read by this session, or by one of the same table that this one has taken the place of."""
         there = layout(self.state.table, found.name)
         is_same = there is found.there or (self is not before and (there.columns, there.key) == (found.there.columns, found.there.key))
         if not is_same:
             raise RuntimeError(f"the tree '{found.name}' was dropped, or made again, while its rows were read")
         found = found._replace(there=there)
-        return found, self._page(found, most, lower, upper)
-
-    def _page_rows(self, name: str, page: bytes) -> list[Row] | None:
-        """The rows of a page, or None if it is refused."""
-        reply = self._reply(self._library.betable_page, page)
-        return None if reply is None else packing(layout(self.state.table, name)).rows(reply)
+        return found, self._page(found, most)
 
 
-def packed_bounds(found: Range) -> tuple[bytes | None, bytes | None]:
-    """The packed bounds of a range, each None if it has a value that is too large to be packed."""
-    packed = packing(found.there)
-    return packed.bound(found.start) if found.after is None else packed.after(found.after), packed.bound(found.stop)
+def _rows_of_pages(session: CheckedCalls, read: Read, found: Range, most: int) -> Iterator[Row]:
+    """The rows of a range, page after page. `read` may read one by a session that has taken the place of the one before."""
 
-
-def _rows_of_pages(session: PureSession, read: Read, found: Range, most: int, lower: bytes | None, upper: bytes | None) -> Iterator[Row]:
-    """The rows between two packed bounds, page after page. `read` may read one by a session that has taken the place of the one before."""
-
-    def page(now: PureSession) -> list[Row]:
+    def page(now: CheckedCalls) -> list[Row]:
         nonlocal session, found
-        found, rows = now._next_page(session, found, most, lower, upper)
+        found, rows = now._next_page(session, found, most)
         session = now
         return rows
 
@@ -378,40 +367,22 @@ def _rows_of_pages(session: PureSession, read: Read, found: Range, most: int, lo
         yield from rows
         if len(rows) < most:
             return
-        key = rows[-1][: len(found.there.key)]
-        found, lower = found._replace(after=key), packing(found.there).after(key)
+        found = found._replace(start=None, after=rows[-1][: len(found.there.key)])
 
 
-def _extension() -> ModuleType | None:
-    """The extension, if it is built and wanted."""
-    if os.environ.get("BETABLE_PURE", "0") not in ("", "0"):
-        return None
-    try:
-        from . import _packed
-    except ImportError:
-        return None
-    _packed.prepare(PureSession, Message)
-    return _packed
+if TYPE_CHECKING or _packed is not None:
+    if not TYPE_CHECKING:
+        _packed.prepare(CheckedCalls, Message)
 
-
-_packed = _extension()
-
-if TYPE_CHECKING or _packed is None:
-
-    class Session(PureSession):
-        __doc__ = PureSession.__doc__
-
-        def __enter__(self) -> Session:
-            return self
-
-else:
-
-    class Session(_packed.Caller, PureSession):
-        __doc__ = PureSession.__doc__
+    class Session(_packed.Caller, CheckedCalls):
+        __doc__ = ScriptSession.__doc__
 
         def __init__(self) -> None:
             super().__init__()
             self._connect_calls()
+
+        def __enter__(self) -> Session:
+            return self
 
         def _connect_calls(self) -> None:
             """Gives the extension the calls of the library that ctypes has loaded."""
@@ -429,7 +400,23 @@ else:
 
         def _plan(self, shape: Shape) -> bytes | None:
             """The operations of the upserts of a shape, each its code and the place of its column, or None if they are not packed."""
-            try:
-                return bytes([number for one in packing(layout(self._state.table)).operations(shape) for number in one])
-            except NOT_TAKEN:
-                return None
+            return operations_of(shape, layout(self._state.table))
+
+else:
+
+    class Session(ScriptSession):
+        __doc__ = ScriptSession.__doc__
+
+        def __init__(self) -> None:
+            super().__init__()
+            _warn_of_scripts()
+
+        def __enter__(self) -> Session:
+            return self
+
+
+@cache
+def _warn_of_scripts() -> None:
+    """Warns once of what takes longer without the extension."""
+    reason = "the extension betable._packed is not built, so calls on values go by scripts, which take several times as long, and refuse texts with line breaks"
+    warnings.warn(f"{reason} (docs/PYTHON.md, 'The extension')", RuntimeWarning, stacklevel=3)

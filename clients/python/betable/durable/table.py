@@ -30,6 +30,7 @@ from hashlib import sha256
 from io import FileIO
 from typing import Any, NoReturn, Protocol, TypeVar
 
+from ..batches import Batch
 from ..calls import Calls, as_script, note
 from ..errors import before
 from ..language import PRIMARY, State, Table, commands
@@ -450,19 +451,12 @@ class Durable(Reads):
         if len(script) > self._most_bytes and CHANGING_LINE.search(script):
             raise ScriptTooLong(len(script), self._most_bytes)
 
-    def _in_batches(self, given: Iterator[Any], most: int, lines: Callable[[list[Any], Table, int], str]) -> int:
+    def _apply_after(self, batch: Batch, table: Table, taken: int) -> None:
         """Each batch is kept by itself, unless a group is open: RolledBack says how many rows were kept before one that failed."""
-        kept = 0
-
-        def counted_lines(some: list[Any], table: Table, taken: int) -> str:
-            nonlocal kept
-            kept = 0 if self._is_in_group else taken
-            return lines(some, table, taken)
-
         try:
-            return super()._in_batches(given, most, counted_lines)
+            super()._apply_after(batch, table, taken)
         except RolledBack as fault:
-            fault.taken = kept
+            fault.taken = 0 if self._is_in_group else taken
             raise
 
     # ---- groups ----

@@ -1,0 +1,139 @@
+"""Batches: the changes of a call that are applied whole or not at all. Each kind of batch can be packed by the extension, and be written as the lines of a
+script, which also say why the library has refused it."""
+
+from __future__ import annotations
+
+from collections.abc import Sequence
+from typing import Any, Protocol
+
+from .language import Table
+from .messages import Message, Shape, message_lines, plain_messages
+from .rows import Layout, layout, plain_rows, records, rows_of_columns, tuples_of_dicts
+
+# The first byte of a packed change, by the word of its line, and that of each operation.
+WORDS = {"put": 0, "del": 1, "ups": 2}
+OPERATIONS = {"set": 0, "add": 1, "max": 2, "min": 3}
+MOST_BYTES = 255  # of a text, or of bytes
+
+
+class Packer(Protocol):
+    """What makes packed bytes of plain values: the extension. Each call returns None for values that it does not take."""
+
+    def _pack_rows(self, rows: list[Any], /) -> bytes | None:
+        ...
+
+    def _pack_messages(self, messages: list[Any], /) -> bytes | None:
+        ...
+
+    def _pack_columns(self, count: int, form: bytes, columns: list[Any], /) -> bytes | None:
+        ...
+
+
+class Batch(Protocol):
+    """One batch. `items` are its rows, or its messages. `taken` is the number of items of the call before this batch."""
+
+    @property
+    def items(self) -> list[Any]:
+        ...
+
+    def packed(self, packer: Packer) -> bytes | None:
+        """Its bytes, if its values are plain."""
+
+    def plain(self, table: Table, taken: int) -> Batch:
+        """The same batch with plain values. Raises RowError for a value that its column does not take."""
+
+    def lines(self, table: Table, taken: int) -> str:
+        """Its lines in a script. Raises RowError for a value that its column, or a line, does not take."""
+
+
+class Rows:
+    """Rows to put: tuples, lists or dicts."""
+
+    def __init__(self, items: list[Any]) -> None:
+        self.items = items
+
+    def packed(self, packer: Packer) -> bytes | None:
+        return packer._pack_rows(self.items)
+
+    def plain(self, table: Table, taken: int) -> Rows:
+        there = layout(table)
+        return Rows(plain_rows(tuples_of_dicts(self.items, there.names), there.columns, taken))
+
+    def lines(self, table: Table, taken: int) -> str:
+        return records(self.items, layout(table).columns, "put ", taken + 1, taken)
+
+
+class Messages:
+    """Messages that `put`, `delete` and `upsert` have made."""
+
+    def __init__(self, items: list[Any]) -> None:
+        self.items = items
+
+    def packed(self, packer: Packer) -> bytes | None:
+        return packer._pack_messages(self.items)
+
+    def plain(self, table: Table, taken: int) -> Messages:
+        return Messages(plain_messages(self.items, table, taken))
+
+    def lines(self, table: Table, taken: int) -> str:
+        return message_lines(self.items, table, taken)
+
+
+class Columns:
+    """Changes by columns, all with one word and shape. The columns are those of the rows or the keys, and after them those of the operations. Each is a buffer
+    of ints, a list of values, or one value for all changes."""
+
+    def __init__(self, word: str, shape: Shape, columns: list[Any], count: int, there: Layout) -> None:
+        self.word, self.shape, self.columns, self.count, self._there = word, shape, columns, count, there
+
+    @property
+    def items(self) -> list[Any]:
+        rows = rows_of_columns(self.columns, self.count)
+        return [*rows] if self.word == "put" else [Message(self.word, values, self.shape) for values in rows]
+
+    def packed(self, packer: Packer) -> bytes | None:
+        operations = operations_of(self.shape, self._there)
+        return None if operations is None else packer._pack_columns(self.count, bytes([WORDS[self.word]]) + operations, self.columns)
+
+    def plain(self, table: Table, taken: int) -> Batch:
+        found: Batch = self._of_items().plain(table, taken)
+        return found
+
+    def lines(self, table: Table, taken: int) -> str:
+        return self._of_items().lines(table, taken)
+
+    def _of_items(self) -> Batch:
+        return Rows(self.items) if self.word == "put" else Messages(self.items)
+
+
+def operations_of(shape: Shape, there: Layout) -> bytes | None:
+    """The operations of the upserts of a shape, each its code and the place of its column. None if there is no such column, or an operation is not for its
+    kind: the library refuses such upserts."""
+    places = {column.name: place for place, column in enumerate(there.columns)}
+    found = [(OPERATIONS[operation], places.get(name, -1)) for operation, *names in shape for name in names]
+    if any(place < 0 or code != OPERATIONS["set"] and there.kinds[place] != "int" for code, place in found):
+        return None
+    return bytes([number for one in found for number in one])
+
+
+def without_breaks(batch: Batch, table: Table, taken: int) -> Batch:
+    """A batch that the library has refused, with spaces in place of the line breaks of its texts, so that its lines say why."""
+    items, found = batch.plain(table, taken).items, []
+    if not isinstance(items[0], Message):
+        return Rows([_without_breaks(row) for row in items])
+    for one in items:
+        found.append(Message(one.word, _without_breaks(one.values), one.shape))
+    return Messages(found)
+
+
+def first_too_long(batch: Batch) -> int:
+    """The number of the first item that has a text, or bytes, of more than 255 bytes, or 0."""
+    for number, item in enumerate(batch.items, 1):
+        values = item.values if isinstance(item, Message) else item
+        if any(len(value.encode() if isinstance(value, str) else value) > MOST_BYTES for value in values if isinstance(value, (str, bytes))):
+            return number
+    return 0
+
+
+def _without_breaks(values: Sequence[Any]) -> tuple[Any, ...]:
+    return tuple([value.replace("\n", " ").replace("\r", " ") if isinstance(value, str) else value for value in values])
