@@ -79,6 +79,15 @@ class Group(Step):
                 table.replies(script)
 
 
+class Values(Step):
+    """Rows and upserts of values, some with line breaks, which are kept as packed changes."""
+
+    def make(self, table: Any, number: int) -> None:
+        with table.group():
+            table.put([("a\nb", number, 5, True, b"\0\n"), ("Oslo", number, 6, False, b"")])
+            table.upsert_columns({"city": ["a\nb", "c\rd"], "id": number}, add={"qty": 1}, set={"tag": [b"", b"\n"]})
+
+
 class Checkpoint(Step):
     def make(self, table: Any, number: int) -> None:
         table.checkpoint()
@@ -109,8 +118,10 @@ def short_history() -> list[Step]:
         Once(LOAD),
         Once(ADD),
         Group(ADD, "batch\nput 1\nend\nget Oslo,2\nscan q\ngo\n", ADD),
+        Values(),
         Checkpoint(),
         Once(ADD),
+        Values(),
         Once("drop q\nindex b on city include qty where city < Z \nbuild b 99\n"),
         Backup(),
         Group(ADD, ADD),

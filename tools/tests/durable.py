@@ -362,6 +362,11 @@ def failing_session(kind):
                 raise MemoryError if kind == "python" else KeyboardInterrupt
             raise client.OutOfMemory(first[:-1] if kind == "cut" else first, kind == "cut", kind == "lost")
 
+        def _apply_packed(self, changes):
+            if b"drop fails" in changes:
+                raise client.OutOfMemory(b"", False, kind == "lost")
+            return super()._apply_packed(changes)
+
     return Failing
 
 
@@ -945,7 +950,7 @@ class Files(TestCase):
                 crashed = crashed_copy(table, path / "crashed")
                 table.backup(path / "backup")
             db = sqlite3.connect(old)
-            self.assertEqual(db.execute("PRAGMA user_version").fetchone(), (2,))
+            self.assertEqual(db.execute("PRAGMA user_version").fetchone(), (3,))
             db.close()
             for name in (old, crashed, path / "backup"):
                 with durable().open(name) as table:

@@ -306,6 +306,7 @@ class PythonClient(TestCase):
             "close": None,
             "columns": lambda s: s.columns(text),
             "delete": lambda s: s.delete(text),
+            "delete_columns": lambda s: s.delete_columns({text: [1]}),
             "get": lambda s: s.get(text),
             "index": lambda s: s.index("by_ok", on="ok", where=("city", "=", text)),
             "is_lost": None,
@@ -327,6 +328,8 @@ class PythonClient(TestCase):
             "to_csv": lambda s: s.to_csv("/nowhere/rows.csv", text),
             "trees": None,
             "upsert": lambda s: s.upsert(4, set={text: 1}),
+            "upsert_columns": lambda s: s.upsert_columns({"id": [4]}, set={text: 1}),
+            "upsert_frame": None,
             "usage": lambda s: s.usage(text),
         }
         self.assertEqual(sorted(name for name in dir(client.Session) if not name.startswith("_")), sorted(methods))
@@ -336,7 +339,7 @@ class PythonClient(TestCase):
             with self.subTest(name=name):
                 if call:
                     for parameter in inspect.signature(getattr(client.Session, name)).parameters.values():
-                        kinds = [parameter.VAR_POSITIONAL, parameter.POSITIONAL_OR_KEYWORD] + [parameter.VAR_KEYWORD] * (name == "upsert")
+                        kinds = [parameter.VAR_POSITIONAL, parameter.POSITIONAL_OR_KEYWORD] + [parameter.VAR_KEYWORD] * name.startswith("upsert")
                         self.assertTrue(parameter.kind in kinds or parameter.name == "self")
                     self.assertEqual((fault_of(lambda: call(session)) is not None, content(session)), (True, before))
 

@@ -212,7 +212,8 @@ class PythonExtension(TestCase):
             *reads(session), lambda: session.put(ROWS), lambda: session.put(columns), lambda: session.batch([client.upsert(1, add={"qty": 0}), client.delete(99), client.put(*ROWS[2])]),
             lambda: session.put([ROWS[0], (1, "\ud800", True, b"", 1)]), lambda: session.get("x"), lambda: session.get(2**70), lambda: session.scan("nothing"),
             lambda: session.sums("by_city", 1, "nothing"), lambda: session.put(columns | {"qty": [None] * len(ROWS)}), lambda: session.batch([client.upsert(1, add={"city": 1})]),
-            lambda: client.Session().table("id:int"),
+            lambda: client.Session().table("id:int"), lambda: session.upsert_columns({"id": columns["id"]}, add={"qty": 0}, set={"ok": True}),
+            lambda: session.upsert_columns({"id": columns["id"]}, add={"qty": columns["city"]}), lambda: session.delete_columns({"id": 99}),
         ]  # fmt: skip
         for call in calls:
             for count in (20, 1_000):

@@ -6,10 +6,11 @@
         session.table("id:int city:text qty:int")
         session.put((number, "Bergen, west", 10) for number in range(100_000))
         session.batch([betable.upsert(7, add={"qty": 5}), betable.delete(8)])
-        session.get(7)                          # (7, 'Bergen, west', 15)
+        session.upsert_columns({"id": [6, 7]}, add={"qty": 1})
+        session.get(7)                          # (7, 'Bergen, west', 16)
         session.scan("primary", (3,), (6,))     # the rows of the keys 3, 4 and 5, as tuples
         session.index("by_city", on="city", include="qty")
-        session.sums("by_city", 1, "qty")       # [(99999, 999995, 'Bergen, west')]
+        session.sums("by_city", 1, "qty")       # [(99999, 999997, 'Bergen, west')]
 
 The library is libbt_c.so, in the folder that BETABLE_LIBRARY names, or else beside this package, in out/ of the repository, where bin/build_c builds it, or
 where the Debian package has it. docs/SCRIPT.md has the language, and docs/PYTHON.md the calls and their errors.
@@ -24,7 +25,7 @@ from pathlib import Path
 
 from .calls import MOST_MESSAGES, Calls, Tree
 from .errors import OutOfMemory, Refused, RowError, RowTypeError, RowValueError
-from .messages import OPERATIONS, Message, delete, field, put, record, upsert
+from .messages import OPERATIONS, Message, delete, field, put, record, upsert, upsert_form
 from .packed import TreeColumn, Usage
 from .replies import Reply
 from .session import Session
@@ -54,4 +55,5 @@ __all__ = [
     "put",
     "record",
     "upsert",
+    "upsert_form",
 ]

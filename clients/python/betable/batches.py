@@ -96,14 +96,15 @@ class Columns:
         return None if operations is None else packer._pack_columns(self.count, bytes([WORDS[self.word]]) + operations, self.columns)
 
     def plain(self, table: Table, taken: int) -> Batch:
-        found: Batch = self._of_items().plain(table, taken)
-        return found
+        return self._of_items().plain(table, taken)
 
     def lines(self, table: Table, taken: int) -> str:
         return self._of_items().lines(table, taken)
 
     def _of_items(self) -> Batch:
-        return Rows(self.items) if self.word == "put" else Messages(self.items)
+        if self.word == "put":
+            return Rows(self.items)
+        return Messages(self.items)
 
 
 def operations_of(shape: Shape, there: Layout) -> bytes | None:

@@ -21,12 +21,12 @@ from .errors import OutOfMemory, Refused, RowTypeError, RowValueError, WrongReco
 from .faults import MEANINGS, Fault, faults_of_refusal
 from .forms import head_faults, name_fault
 from .language import Command, State, Table
-from .messages import Message, delete, record, upsert
+from .messages import Message, Shape, columns_of_shape, delete, record, shape_of, upsert
 from .packed import MOST_ROWS, TreeColumn, Usage
 from .replies import Place, Reply, answered, kinds_of_rows, rows_of_reply
 from .rows import (
-    ARRAY_TYPES, UNKNOWN, VALUES, Column, ColumnValues, Layout, Value, as_iterator, as_tuple, columns_of, columns_of_rows, key_fields, layout,
-    line_field, part_of_column, plain_key, records, shown, value_of_field, values_by_column,
+    ARRAY_TYPES, UNKNOWN, VALUE_TYPES, VALUES, Column, ColumnValues, Layout, Value, as_iterator, as_tuple, changes_by_column, columns_of, columns_of_rows,
+    key_fields, layout, line_field, names_fault, part_of_column, plain_key, records, shown, value_of_field, values_by_column,
 )  # fmt: skip
 
 MOST_MESSAGES = language.MOST_MESSAGES
@@ -124,6 +124,28 @@ class Calls(ABC):
         if len(columns) < len(frame.columns):
             raise ValueError(f"the data frame has columns of the same name: {', '.join(map(str, frame.columns))}")
         return self._put_columns(columns, most)
+
+    def upsert_columns(self, key: Mapping[str, Any], most: int = MOST_MESSAGES, **operations: Mapping[str, Any]) -> int:
+        """Applies upserts that are given by columns, in batches as `put` does, and returns their number. `key` is a dict from the names of the key columns to
+        their values, and `set`, `add`, `max` and `min` are each a dict from columns to the values to do it with. The values of a column are a list, a tuple or
+        an array, or one value for all upserts."""
+        shape, values = shape_of(operations, "upsert_columns({'id': ids}, add={'qty': 1})")
+        return self._apply_columns("ups", shape, key, values, most)
+
+    def upsert_frame(self, frame: Any, most: int = MOST_MESSAGES, **operations: Iterable[str] | Mapping[str, Any]) -> int:
+        """Applies an upsert for each row of a data frame of pandas, whose columns have the names of the key's, and returns their number. `set`, `add`, `max`
+        and `min` are each a list of columns, which have the same names in the frame, or a dict from columns to those of the frame, or to one number for all
+        rows."""
+        found: dict[str, dict[str, Any]] = {}
+        for operation, given in operations.items():
+            pairs = given if isinstance(given, Mapping) else dict(zip(names := list(given), names))
+            found[operation] = {name: _of_frame(frame, of) if isinstance(of, str) else of for name, of in pairs.items()}
+        return self.upsert_columns({column.name: _of_frame(frame, column.name) for column in layout(self._table()).key}, most, **found)
+
+    def delete_columns(self, key: Mapping[str, Any], most: int = MOST_MESSAGES) -> int:
+        """Removes the rows of keys, as far as there are any, in batches as `put` does, and returns the number of keys. `key` is a dict from the names of the
+        key columns to their values, which are a list, a tuple or an array, or one value for all keys."""
+        return self._apply_columns("del", (), key, [], most)
 
     def upsert(self, *key: Any, **operations: Mapping[str, Any]) -> None:
         """Changes columns of the row of a key, as the message `betable.upsert` does: `set`, `add`, `max` and `min` are each a dict of columns and values."""
@@ -419,6 +441,24 @@ class Calls(ABC):
             self._apply_after(Columns("put", (), parts, min(most, count - taken), layout(table)), table, taken)
         return count
 
+    def _apply_columns(self, word: str, shape: Shape, key: Mapping[str, Any], values: list[Any], most: int) -> int:
+        """Applies changes that are given by columns, `most` at a time: the values of the keys, and those of the operations of the shape."""
+        _check_most(most)
+        table = self._table()
+        there = layout(table)
+        if not isinstance(key, Mapping):
+            said = f"the values of a key are a dict by its columns, and not {shown(key)} of type {type(key).__name__}"
+            raise TypeError(f"{said}: write {{'{there.names[0]}': [..]}}")
+        names = [column.name for column in there.key]
+        if reason := names_fault(key, names):
+            raise RowValueError(f"{reason}: keys by columns are a dict from each of the names {', '.join(names)} to its values", value=key)
+        given = [(column, key[column.name]) for column in there.key] + [*zip(columns_of_shape(shape, there), values)]
+        found, count = changes_by_column(given)
+        for taken in range(0, count, most):
+            parts = [_part_of_change(one, column, taken, most) for one, (column, _) in zip(found, given)]
+            self._apply_after(Columns(word, shape, parts, min(most, count - taken), there), table, taken)
+        return count
+
     def _table(self, command: bytes = b"batch\nend\n") -> Table:
         """The table. If there is none, the command is refused, and the refusal says why."""
         table: Table | None = self.state.table
@@ -486,6 +526,18 @@ class Calls(ABC):
             raise refusal(
                 command, reply, self.state, [Reply(reply.decode(), command.head.word)], taken, items, path, lines, is_of_script=False
             )  # fmt: skip
+
+
+def _part_of_change(values: Any, column: Column, taken: int, most: int) -> Any:
+    """The values of a column of one batch, or the one value for all."""
+    return values if type(values) in VALUE_TYPES else part_of_column(values, column.kind, taken, taken + most)
+
+
+def _of_frame(frame: Any, name: str) -> Any:
+    """A column of a data frame."""
+    if name not in frame.columns:
+        raise ValueError(f"the data frame has no column {name!r}: its columns are {', '.join(map(str, frame.columns))}")
+    return frame[name]
 
 
 def check_one_by_one(key: tuple[Any, ...]) -> None:

@@ -2,7 +2,7 @@
 
 from __future__ import annotations
 
-from collections.abc import Iterable, Mapping
+from collections.abc import Callable, Iterable, Mapping
 from typing import Any
 
 from . import language
@@ -70,8 +70,32 @@ MOST_SHAPES = 1_000
 
 def upsert(*key: Any, **operations: Mapping[str, Any]) -> Message:
     """The message that changes columns of the row of a key: `set`, `add`, `max` and `min` are each a dict of columns and the values to do it with."""
+    shape, values = shape_of(operations, "upsert(*key, add={'qty': 1})")
+    return Message("ups", (*key, *values), shape)
+
+
+def upsert_form(**columns: Iterable[str]) -> Callable[..., Message]:
+    """What makes the messages of upserts that change the same columns, in less time than `upsert`: `set`, `add`, `max` and `min` are each the names of columns.
+
+        count = betable.upsert_form(add=["n", "total"], max=["highest"])
+        session.batch([count(device, minute, 1, cents, cents) for device, minute, cents in readings])
+
+    It is called with the values of the key, and those for the columns in the order set, add, max, min."""
+    for operation, names in columns.items():
+        if isinstance(names, (str, bytes)):
+            raise TypeError(f"{operation} is a list of columns, and not {shown(names)}: write {operation}=[{shown(names)}]")
+    shape, _ = shape_of({operation: dict.fromkeys(names) for operation, names in columns.items()}, "upsert_form(add=['qty'])")
+
+    def made(*values: Any) -> Message:
+        return Message("ups", values, shape)
+
+    return made
+
+
+def shape_of(operations: Mapping[str, Mapping[str, Any]], example: str) -> tuple[Shape, list[Any]]:
+    """The shape of upserts, and the values of their operations in its order."""
     shape: list[tuple[str, ...]] = []
-    values = list(key)
+    values: list[Any] = []
     for operation in OPERATIONS:
         if operation in operations:
             changes = operations[operation]
@@ -81,13 +105,13 @@ def upsert(*key: Any, **operations: Mapping[str, Any]) -> Message:
             values += changes.values()
     if len(shape) < len(operations):
         unknown = min(operations.keys() - set(OPERATIONS))
-        raise TypeError(f"an operation is one of {', '.join(OPERATIONS)}, and not {unknown!r}: write upsert(*key, add={{'qty': 1}})")
-    if len(values) == len(key):
-        raise TypeError("an upsert changes a column or more: write upsert(*key, add={'qty': 1})")
+        raise TypeError(f"an operation is one of {', '.join(OPERATIONS)}, and not {unknown!r}: write {example}")
+    if not values:
+        raise TypeError(f"an upsert changes a column or more: write {example}")
     found = tuple(shape)
     if len(_shapes) == MOST_SHAPES:
         _shapes.clear()
-    return Message("ups", tuple(values), _shapes.setdefault(found, found))
+    return _shapes.setdefault(found, found), values
 
 
 def field(value: Any) -> str:
@@ -160,18 +184,22 @@ def _check_message(message: Any, row: int, taken: int) -> None:
 
 def _columns_of_message(message: Message, there: Layout, row: int, taken: int) -> list[Column]:
     """The columns of the values of a message. The number that `add`, `max` and `min` take is that of an int, which the library refuses for other columns."""
-    key, changes = message.parts()
-    by_name, names = {column.name: column for column in there.columns}, ", ".join(column.name for column in there.columns)
+    key, _ = message.parts()
     if message.word == "put":
         as_tuple(key, there.columns, row, taken)
         return list(there.columns)
-    columns = list(there.key)
-    check_key(key, columns, "a key", row=row, taken=taken)
-    for _, name, value in changes:
+    check_key(key, there.key, "a key", row=row, taken=taken)
+    return [*there.key, *columns_of_shape(message.shape, there, row, taken)]
+
+
+def columns_of_shape(shape: Shape, there: Layout, row: int | None = None, taken: int = 0) -> list[Column]:
+    """The columns of the operations of a shape."""
+    by_name = {column.name: column for column in there.columns}
+    names = [name for _, *some in shape for name in some]
+    for name in names:
         if name not in by_name:
-            raise RowValueError(f"{shown(name)} is no column ({names})", row=row, value=name, taken=taken)
-        columns.append(by_name[name])
-    return columns
+            raise RowValueError(f"{shown(name)} is no column ({', '.join(by_name)})", row=row, value=name, taken=taken)
+    return [by_name[name] for name in names]
 
 
 def _message_line(message: Message, there: Layout, row: int, taken: int) -> str:

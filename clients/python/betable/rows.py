@@ -107,6 +107,7 @@ def _plain_bytes(value: Any) -> bytes:
 # By kind: a value as one of exactly the type that the kind has, for the extension. A TypeError means that the kind does not take the value.
 PLAIN: dict[str, Callable[[Any], Value]] = {"int": _plain_int, "text": str.__str__, "flag": _plain_flag, "bytes": _plain_bytes}
 EXACT_TYPES: dict[str, type] = {"int": int, "text": str, "flag": bool, "bytes": bytes}
+VALUE_TYPES = frozenset(EXACT_TYPES.values())
 
 
 def _int_field(value: Any) -> str:
@@ -296,6 +297,34 @@ def _column_values(given: Any, name: str) -> Any:
             return values
     said = f"{shown(given)} is of type {type(given).__name__}, and the values of a column are a list, a tuple or an array"
     raise RowTypeError(f"{said}: write {{'{name}': [..], ..}}, or [{{'{name}': ..}}] for rows", column=name, value=given)
+
+
+def changes_by_column(given: Sequence[tuple[Column, Any]]) -> tuple[list[Any], int]:
+    """The values of each column of changes, and the number of changes. A column has values for all of them, or one value for each."""
+    found: list[Any] = []
+    counts: list[tuple[int, str]] = []
+    for column, values in given:
+        if _is_sequence(values, column):
+            found.append(_column_values(values, column.name))
+            counts.append((len(found[-1]), column.name))
+        else:
+            found.append(plain_value(values, column))
+    for count, name in counts:
+        if count != counts[0][0]:
+            raise RowValueError(f"{counted(count, 'value')}, and '{counts[0][1]}' has {counts[0][0]:,}", column=name)
+    return found, counts[0][0] if counts else 1
+
+
+def _is_sequence(given: Any, column: Column) -> bool:
+    """Whether this has the values of a column, and is not one value."""
+    if hasattr(given, "to_numpy") and not isinstance(given, type):
+        return True
+    if isinstance(given, (str, bytes, bytearray, Mapping, Set)) or (isinstance(given, memoryview) and column.kind == "bytes"):
+        return False
+    try:
+        return hasattr(given, "__getitem__") and len(given) >= 0
+    except TypeError:
+        return False
 
 
 # The kinds of arrays of NumPy whose `tolist` converts nothing: dates would be ints.

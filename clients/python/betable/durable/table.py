@@ -7,10 +7,11 @@
 A table is determined by its scripts: the same scripts, run in the same order, give the same replies and the same trees. So the file, a SQLite database,
 has a log of the scripts that changed the table, and opening the file runs them again. A script is run first, then kept by one transaction with a sync, and
 then answered. If any of that fails, the session is dropped and the next call makes it again from the file: a script is kept whole or not at all, however
-many commands it has.
+many commands it has. A batch of values is kept as the packed changes that the session has applied, and counts as a script.
 
-Each script is kept with a checksum of itself and its replies, which is compared when it runs again. A checkpoint puts the definitions and the rows in place
-of the log. It rebuilds every tree first, and a load packs trees as a rebuild does, so that a table opened from it has the same images, byte for byte.
+Each script is kept with a checksum of itself and its replies, which is compared when it runs again; packed changes have no replies. A checkpoint puts the
+definitions and the rows in place of the log. It rebuilds every tree first, and a load packs trees as a rebuild does, so that a table opened from it has the same
+images, byte for byte.
 """
 
 from __future__ import annotations
@@ -36,17 +37,19 @@ from ..errors import before
 from ..language import PRIMARY, State, Table, commands
 from ..reads import Reads, reader_of
 from ..replies import Place, answered
-from ..session import Session
+from ..session import ScriptSession, Session
 from .file_lock import lock
 from .wal import FIRST_GENERATION, FOREIGN, SYNCED, UNSYNCED, fault_of_log, mark_of, new_mark, renew_mark
 
 T = TypeVar("T")
-FORMAT = 2  # of the file: raised when an older program could not read it
+FORMAT = 3  # of the file: raised when an older program could not read it
+MARKED_FORMAT = 2  # the first one whose files have a mark
 ENGINE = 1  # raised when a script may give other replies, or other trees, than before
 APPLICATION_ID = 0x6274626C
 MOST_REQUESTS, LARGEST_MOST_REQUESTS = 100_000, 1_000_000_000
 MOST_REQUEST_BYTES = 1 << 28  # of the replies that are stored with request ids
 REQUEST_BYTES = "SELECT coalesce(sum(length(replies)), 0) FROM requests"
+ENTRIES = "SELECT number, script, checksum, {is_packed} FROM log ORDER BY number"
 PART_BYTES = 1 << 20  # of a checkpoint: SQLite copies a value whole
 LONG_TEXT = 1 << 25  # of a checkpoint that takes about a second to load
 LARGEST_IDLE_LOG = 1 << 24  # bytes that SQLite's log keeps on disk when it is empty
@@ -62,21 +65,23 @@ CHANGED = re.compile(rb"^(?:table|loaded|batch|index|build|dropped|drained|rebui
 REFUSED = re.compile(rb"^refused ", re.MULTILINE)
 
 SCHEMA = f"""
-    BEGIN IMMEDIATE;
     CREATE TABLE about(engine INTEGER NOT NULL, number INTEGER NOT NULL, checksum INTEGER NOT NULL, generation INTEGER NOT NULL, mark BLOB);
     CREATE TABLE checkpoint(part INTEGER PRIMARY KEY, text BLOB NOT NULL);
-    CREATE TABLE log(number INTEGER PRIMARY KEY, script BLOB NOT NULL, checksum INTEGER NOT NULL);
+    CREATE TABLE log(number INTEGER PRIMARY KEY, script BLOB NOT NULL, checksum INTEGER NOT NULL, is_packed INTEGER NOT NULL DEFAULT 0);
     CREATE TABLE requests(number INTEGER PRIMARY KEY, id TEXT NOT NULL UNIQUE, script BLOB NOT NULL, replies BLOB NOT NULL, checksum INTEGER);
     INSERT INTO about VALUES({ENGINE}, 0, 0, {FIRST_GENERATION}, NULL);
     PRAGMA application_id={APPLICATION_ID};
 """
-# Of a file of format 1, whose requests have no checksums.
-UPGRADE = f"""
-    BEGIN IMMEDIATE;
+# From each format to the next one. The requests of format 1 have no checksums, and the logs of formats 1 and 2 no packed changes.
+UPGRADES = {
+    0: SCHEMA,
+    1: f"""
     ALTER TABLE about ADD COLUMN generation INTEGER NOT NULL DEFAULT {FIRST_GENERATION};
     ALTER TABLE about ADD COLUMN mark BLOB;
     ALTER TABLE requests ADD COLUMN checksum INTEGER;
-"""
+""",
+    2: "ALTER TABLE log ADD COLUMN is_packed INTEGER NOT NULL DEFAULT 0;",
+}
 # The page of `about` is written in the first transaction of each generation of SQLite's log, and over a transaction that failed.
 TOUCH = "UPDATE about SET generation = generation + 1, engine = ?"
 
@@ -294,8 +299,12 @@ class Durable(Reads):
         version = _value(db, "PRAGMA user_version")
         if version < FORMAT:
             try:
-                db.executescript(SCHEMA if version == 0 else UPGRADE)
-                db.execute("UPDATE about SET mark = ?", (bytes(new_mark()),))
+                steps = [UPGRADES[0]] if version == 0 else [UPGRADES[step] for step in range(version, FORMAT)]
+                db.executescript("\n".join(["BEGIN IMMEDIATE;", *steps]))
+                if version < MARKED_FORMAT:
+                    db.execute("UPDATE about SET mark = ?", (bytes(new_mark()),))
+                else:
+                    db.execute(TOUCH, (ENGINE,))
                 db.execute(f"PRAGMA user_version={FORMAT}")
                 db.execute("COMMIT")
             except BaseException:
@@ -346,13 +355,14 @@ class Durable(Reads):
         self._log_bytes = 0
         count = (_value(self._db, "SELECT max(number) FROM log") or self._number) - self._number
         # A cursor that is left open would keep the file locked.
-        with closing(self._db.execute("SELECT number, script, checksum FROM log ORDER BY number")) as log:
-            for number, script, checksum in _with_progress(log, f"betable: {self.path}: {{:,}} of {count:,} scripts"):
+        is_packed = "is_packed" if _value(self._db, "PRAGMA user_version") == FORMAT else "0"
+        with closing(self._db.execute(ENTRIES.format(is_packed=is_packed))) as log:
+            for number, script, checksum, is_packed in _with_progress(log, f"betable: {self.path}: {{:,}} of {count:,} scripts"):
                 if number != self._number + 1:
                     raise Corrupt(self.path, self._number + 1, "it is missing, so restore a backup")
                 if not isinstance(script, bytes):
                     raise Corrupt(self.path, number, "it is not the script that was kept, so restore a backup")
-                replies, places = _ran(session, script)
+                replies, places = (_applied(session, script), None) if is_packed else _ran(session, script)
                 if _checksum(script, replies) != checksum:
                     raise Corrupt(self.path, number, _advice(engine))
                 self._note(script, replies, places)
@@ -440,16 +450,31 @@ class Durable(Reads):
         replies, places = _ran(self._ready(), script)
         # A script that only reads may print rows which look like other replies.
         if CHANGING_LINE.search(script) and CHANGED.search(replies):
-            self._is_changed = True
-            self._number, self._log_bytes = self._number + 1, self._log_bytes + len(script)
-            self._write("INSERT INTO log VALUES(?, ?, ?)", self._number, script, _checksum(script, replies))
+            self._keep(script, replies, is_packed=False)
             self._note(script, replies, places)
         return replies, places
+
+    def _keep(self, script: bytes, replies: bytes, *, is_packed: bool) -> None:
+        """Adds what has changed the table to the log."""
+        self._is_changed = True
+        self._number, self._log_bytes = self._number + 1, self._log_bytes + len(script)
+        self._write("INSERT INTO log VALUES(?, ?, ?, ?)", self._number, script, _checksum(script, replies), int(is_packed))
 
     def _check_length(self, script: bytes) -> None:
         """Refuses a script that could not be kept, before it is run."""
         if len(script) > self._most_bytes and CHANGING_LINE.search(script):
             raise ScriptTooLong(len(script), self._most_bytes)
+
+    def _packed(self, batch: Batch, table: Table, taken: int) -> bytes | None:
+        packed = reader_of(self, self._ready())._packed(batch, table, taken)
+        return None if packed is None or len(packed) > self._most_bytes else packed
+
+    def _apply_packed(self, changes: bytes) -> bytes:
+        with self._some_group(), self._all_or_nothing():
+            refusal = _applied(self._ready(), changes)
+            if not refusal:
+                self._keep(changes, b"", is_packed=True)
+            return refusal
 
     def _apply_after(self, batch: Batch, table: Table, taken: int) -> None:
         """Each batch is kept by itself, unless a group is open: RolledBack says how many rows were kept before one that failed."""
@@ -745,6 +770,13 @@ def _value(db: sqlite3.Connection, query: str) -> Any:
 def _ran(runner: Runner, script: bytes) -> tuple[bytes, list[Place] | None]:
     """The replies to a script, with the place of each if the runner has them."""
     return runner._replies_with_places(script) if isinstance(runner, Calls) else (runner.replies(script), None)
+
+
+def _applied(runner: Runner, changes: bytes) -> bytes:
+    """No bytes if a session has applied packed changes, or their refusal."""
+    if not isinstance(runner, ScriptSession):
+        raise RuntimeError("the log has packed changes, which only a session applies: open the table with a session, and write a checkpoint")
+    return runner._apply_packed(changes)
 
 
 def _checksum(script: bytes, replies: bytes) -> int:
