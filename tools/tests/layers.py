@@ -617,6 +617,12 @@ class Replicas(TestCase):
                     raise package.OutOfMemory(found)
                 return found
 
+            def _apply_packed(self, changes):
+                found = super()._apply_packed(changes)
+                if self.fails:
+                    raise package.OutOfMemory(b"")
+                return found
+
         def made():
             sessions.append(Failing())
             return sessions[-1]
@@ -627,7 +633,10 @@ class Replicas(TestCase):
             fault = raised(package.cluster.replicas.Unanswered, lambda: one.put([(1, "a", 1)]))
             self.assertEqual((type(fault.__cause__), one.is_lost), (package.OutOfMemory, False))
             self.assertEqual((one.get(1), len(sessions)), ((1, "a", 1), 2))
-            self.assertEqual(one.once(fault.request_id, "batch\nput 1,a,1\nend\n"), b"batch 1\n")
+            self.assertEqual((one.once(fault.request_id, fault.script), one.get(1), len(log.scripts)), (b"", (1, "a", 1), 2))
+            sessions[-1].fails = True
+            fault = raised(package.cluster.replicas.Unanswered, lambda: one.replies("batch\nput 1,a,1\nend\n"))
+            self.assertEqual(one.once(fault.request_id, fault.script), b"batch 1\n")
             # It is interrupted after it has run a script, and before it has noted that.
             one._note = interrupt
             raised(KeyboardInterrupt, lambda: one.replies("batch\nups 1,add,qty,1\nend\n"))

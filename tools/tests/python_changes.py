@@ -6,11 +6,13 @@ import shutil
 import sqlite3
 import tempfile
 from array import array
+from importlib import import_module
 from pathlib import Path
 from unittest import TestCase, skipUnless
 from unittest.mock import patch
 
 from .clients import betable, build_extension, library
+from .layers import Log
 
 try:
     import numpy
@@ -338,19 +340,72 @@ class LogsOfPackedChanges(Folder):
         with durable().open(self.path) as table:
             self.assertEqual((table.scan(), table.number), ([(1, 4), (2, 3)], 3))
 
-    def test_only_a_session_opens_a_log_with_packed_changes(self):
+    def test_a_layer_over_sessions_runs_packed_changes_as_scripts(self):
+        """All kinds, messages and operations. A text with a line break is none of a script, and a checkpoint puts it in place of the log."""
         cluster = __import__("betable.cluster").cluster
+        dice, client = random.Random(3), betable()
 
         def sharded():
             return cluster.Sharded([cluster.LocalShard(), cluster.LocalShard()], [(10,)])
 
         with durable().open(self.path) as table:
-            table.run("table 4 6 3 1 id:int n:int\n")
-            table.put([(1, 1), (11, 1)])
-        with self.assertRaisesRegex(RuntimeError, "packed changes, which only a session applies: open the table with a session, and write a checkpoint"):
+            table.run(SCHEMA)
+            for number in range(60):
+                row = [dice.choice([text for text in TEXTS if "\n" not in text and "\r" not in text]) for _ in range(2)]
+                table.put([(number, row[0], number, -number, 2**63 - 1, row[1], number % 2 == 0, dice.choice(BINARIES))])
+                changes = {"add": {"n": 1}, "set": {"note": row[1], "ok": True, "raw": b"\0"}, "min": {"hi": -5}}
+                table.batch([client.upsert(number, row[0], **changes), client.delete(number - 9, "")])
+            wanted = table.scan()
+        with durable().open(self.path, make=sharded) as table:
+            self.assertEqual(table.scan(), wanted)
+        with durable().open(self.path) as table:
+            table.put([(99, "a\nb", 0, 0, 0, "", True, b"")])
+            wanted = table.scan()
+        with self.assertRaisesRegex(ValueError, "'a.nb' has a line break"):
             durable().open(self.path, make=sharded)
         with durable().open(self.path) as table:
             table.checkpoint()
         with durable().open(self.path, make=sharded) as table:
-            table.put([(2, 2)])
-            self.assertEqual(table.scan(), [(1, 1), (2, 2), (11, 1)])
+            self.assertEqual(table.scan(), wanted)
+
+
+class ReplicasOfPackedChanges(TestCase):
+    def setUp(self):
+        self.log = Log()
+        self.cluster = import_module("betable.cluster")
+
+    def test_values_of_one_replica_are_those_of_all(self):
+        with self.cluster.Replicas(self.log) as one, self.cluster.Replicas(self.log) as other, betable().Session() as session:
+            for table in (one, session):
+                table.run(SCHEMA)
+                table.put([(1, "a\nb", 1, 1, 1, "\r", True, b"\n")])
+                table.upsert_columns({"device": [1, 2], "city": ["a\nb", "c"]}, add={"n": 5}, set={"note": "x\ny"})
+                table.delete(2, "c")
+            self.assertEqual((other.replies(IMAGES), other.scan()), (session.replies(IMAGES), session.scan()))
+            self.assertEqual(len([entry for entry in self.log.scripts if entry.script.startswith(b"BTV\1")]), 3)
+            with self.assertRaises(betable().Refused) as found:
+                other.batch([betable().put(5, "e", 0, 0, 0, "", True, b""), betable().upsert(1, "a\nb", set={"device": 4})])
+            self.assertIn("'device' is a column of the key", str(found.exception))
+            self.assertEqual((one.scan(), one.position, other.position), (session.scan(), 5, 5))
+            one.checkpoint()
+            one.trim()
+            with self.cluster.Replicas(self.log) as third:
+                self.assertEqual(third.scan(), session.scan())
+
+    def test_a_script_that_begins_like_packed_changes_is_a_script(self):
+        text = b"BTV\1\nbatch\nput 1,1\nend\n"
+        with self.cluster.Replicas(self.log) as one, self.cluster.Replicas(self.log) as other, betable().Session() as session:
+            session.run("table 4 6 3 1 id:int n:int\n")
+            one.run("table 4 6 3 1 id:int n:int\n")
+            self.assertEqual(one.once("id", text), session.replies(text))
+            self.assertEqual((other.once("id", text), other.scan(), other.position), (session.replies(text), [(1, 1)], 2))
+
+    def test_a_replica_over_shards_has_the_same_rows(self):
+        def sharded():
+            return self.cluster.Sharded([self.cluster.LocalShard(), self.cluster.LocalShard()], [(10,)])
+
+        with self.cluster.Replicas(self.log) as one, self.cluster.Replicas(self.log, make=sharded) as other:
+            one.run("table 4 6 3 1 id:int n:int\n")
+            one.upsert_columns({"id": range(20)}, add={"n": range(20)})
+            other.put([(5, 50), (15, 150)])
+            self.assertEqual((other.scan(), one.scan()), (one.scan(), [(n, 10 * n if n in (5, 15) else n) for n in range(20)]))

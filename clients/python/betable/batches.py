@@ -8,7 +8,8 @@ from typing import Any, Protocol
 
 from .language import Table
 from .messages import Message, Shape, message_lines, plain_messages
-from .rows import Layout, layout, plain_rows, records, rows_of_columns, tuples_of_dicts
+from .packed import HEADER_BYTES, value_at
+from .rows import FIELDS, Layout, layout, line_fault, plain_rows, records, rows_of_columns, tuples_of_dicts
 
 # The first byte of a packed change, by the word of its line, and that of each operation.
 WORDS = {"put": 0, "del": 1, "ups": 2}
@@ -115,6 +116,34 @@ def operations_of(shape: Shape, there: Layout) -> bytes | None:
     if any(place < 0 or code != OPERATIONS["set"] and there.kinds[place] != "int" for code, place in found):
         return None
     return bytes([number for one in found for number in one])
+
+
+def script_of_changes(changes: bytes, there: Layout) -> bytes:
+    """The script that makes packed changes, for what runs only scripts. ValueError if a text has a line break, which no line has."""
+    words, operations = ({code: word for word, code in codes.items()} for codes in (WORDS, OPERATIONS))
+    at, lines = HEADER_BYTES, ["batch\n"]
+
+    def field(kind: str) -> str:
+        nonlocal at
+        value, at = value_at(changes, at, kind)
+        written = FIELDS[kind](value)
+        if reason := line_fault(value, written):
+            raise ValueError(reason)
+        return written
+
+    while at < len(changes):
+        word = words[changes[at]]
+        at += 1
+        fields = [field(kind) for kind in (there.kinds if word == "put" else there.key_kinds)]
+        if word == "ups":
+            count = changes[at]
+            at += 1
+            for _ in range(count):
+                operation, place = operations[changes[at]], changes[at + 1]
+                at += 2
+                fields += [operation, there.names[place], field(there.kinds[place])]
+        lines.append(f"{word} {','.join(fields)}\n")
+    return "".join([*lines, "end\n"]).encode()
 
 
 def without_breaks(batch: Batch, table: Table, taken: int) -> Batch:

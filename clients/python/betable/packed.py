@@ -6,10 +6,11 @@ import struct
 from collections.abc import Iterator
 from typing import NamedTuple
 
-from .rows import Layout
+from .rows import Layout, Value
 
 MAGIC = b"BTV\x01"
 HEADER_OF_ONE = struct.pack("<4sI", MAGIC, 1)
+HEADER_BYTES = len(HEADER_OF_ONE)
 USAGE = struct.Struct("<4s3Q")
 # The most rows of a page.
 MOST_ROWS = 2**32 - 1
@@ -51,6 +52,17 @@ def description(tree: str, there: Layout) -> bytes:
 def _text(text: str) -> bytes:
     encoded = text.encode()
     return bytes([len(encoded)]) + encoded
+
+
+def value_at(packed: bytes, at: int, kind: str) -> tuple[Value, int]:
+    """The value of a column of this kind at a place, and the place after it."""
+    if kind == "int":
+        return int.from_bytes(packed[at : at + 8], "little", signed=True), at + 8
+    if kind == "flag":
+        return packed[at] != 0, at + 1
+    end = at + 1 + packed[at]
+    found = packed[at + 1 : end]
+    return found.decode() if kind == "text" else found, end
 
 
 def refusal_reply(number: int, item: int) -> bytes:

@@ -4,9 +4,9 @@
         table.run("table 16 1024 256 1 id:int city:text qty:int\\n")
         table.put([(1, "Oslo", 30)])
 
-A script that may change the table goes into the log. Every replica runs the scripts of the log in its order, so every replica gives the same replies and has
-the same trees; a caller gets those of its own replica. A request id makes a script run once, however often it is sent. Scripts that only read are run on the
-replica alone.
+A script that may change the table goes into the log, and so do the packed changes of a batch of values. Every replica runs the scripts of the log in its order,
+so every replica gives the same replies and has the same trees; a caller gets those of its own replica. A request id makes a script run once, however often it
+is sent. Scripts that only read are run on the replica alone.
 
 A replica has its table in memory, and begins with the last checkpoint of the log and the scripts after it. If running a script fails, it begins again with the
 next call.
@@ -26,9 +26,11 @@ from contextlib import suppress
 from functools import partial
 from typing import Any, Literal, NamedTuple, TypeVar
 
+from ..batches import Batch
 from ..calls import as_script, note
-from ..durable.table import CHANGING_LINE, DEFINED, ENGINE, REFUSED, IndexBuilding, RequestReused, Runner, _records
-from ..language import PRIMARY, State, commands
+from ..durable.table import CHANGING_LINE, DEFINED, ENGINE, REFUSED, IndexBuilding, RequestReused, Runner, _records, applied
+from ..language import PRIMARY, State, Table, commands
+from ..packed import MAGIC
 from ..reads import Reads, reader_of
 from ..replies import answered
 from ..session import Session
@@ -44,14 +46,19 @@ OTHER_PAST = "it and those before it are not those that this replica has run"
 
 class Unanswered(Exception):
     """A script got no reply: its log could not be reached, or this replica could not run it. It may be in the log, and other replicas may have run it.
-    `once(request_id, script)` with the `request_id` of this exception gives its reply, and runs it if it was not."""
+    `once(request_id, script)` with the `request_id` and the `script` of this exception gives its reply, and runs it if it was not. Of a batch of values the
+    script is its packed changes."""
 
-    def __init__(self, request_id: str, reason: str) -> None:
-        super().__init__(request_id, reason)
-        self.request_id, self.reason = request_id, reason
+    def __init__(self, request_id: str, reason: str, script: bytes) -> None:
+        super().__init__(request_id, reason, script)
+        self.request_id, self.reason, self.script = request_id, reason, script
 
     def __str__(self) -> str:
         return f"{self.reason}. The script may run all the same: once({self.request_id!r}, script) gives its reply, and runs it if it was not"
+
+
+class PackedChanges(bytes):
+    """Packed changes, which `once` takes in place of a script."""
 
 
 class ReplyForgotten(Exception):
@@ -195,7 +202,7 @@ class Replicas(Reads):
         """Like `replies`, but always by the log. A script that comes again with the same request id is not run again: the call returns its replies. So a caller
         that got no reply sends the request again. RequestReused if another script had the id."""
         check_request_id(request_id)
-        text = as_script(script)
+        text = script if isinstance(script, PackedChanges) else _entry_of(as_script(script))
         self._run_by_log(request_id, text)
         outcome = self._outcomes.found.get(request_id)
         if outcome and outcome.script != zlib.crc32(text):
@@ -204,6 +211,12 @@ class Replicas(Reads):
         if replies is None:
             raise ReplyForgotten(request_id)
         return replies
+
+    def _packed(self, batch: Batch, table: Table, taken: int) -> bytes | None:
+        return reader_of(self, self._ready())._packed(batch, table, taken)
+
+    def _apply_packed(self, changes: bytes) -> bytes:
+        return self.once(uuid.uuid4().hex, PackedChanges(changes))
 
     def _run_by_log(self, request_id: str, script: bytes) -> int:
         """The position of a request in the log, after this replica has run it."""
@@ -214,9 +227,9 @@ class Replicas(Reads):
         except Diverged:
             raise
         except Exception as fault:
-            raise Unanswered(request_id, f"{type(fault).__name__}: {fault}") from fault
+            raise Unanswered(request_id, f"{type(fault).__name__}: {fault}", _script_of(script)) from fault
         if self._position <= position and request_id not in self._outcomes.found:
-            raise Unanswered(request_id, f"the log has lost it, which was script {position}")
+            raise Unanswered(request_id, f"the log has lost it, which was script {position}", _script_of(script))
         return position
 
     def _appended(self, request_id: str, script: bytes) -> int:
@@ -225,7 +238,7 @@ class Replicas(Reads):
             try:
                 position = self._reached(lambda: self._log.append(request_id, script, self._position, self._chain, ENGINE))
             except Exception as fault:
-                raise Unanswered(request_id, f"{type(fault).__name__}: {fault}") from fault
+                raise Unanswered(request_id, f"{type(fault).__name__}: {fault}", _script_of(script)) from fault
             if position is not None:
                 return position
             # Nothing was appended. The log is of another engine or another past, or has trimmed the script that this replica has run last.
@@ -395,7 +408,7 @@ class Replicas(Reads):
     def _outcome(self, script: bytes) -> Outcome:
         fault = None
         try:
-            replies = self._ready().replies(script)
+            replies = applied(self._ready(), script, self._state) if script.startswith(MAGIC) else self._ready().replies(script)
         except NotSharded as found:
             fault, replies = (found.reason, found.line), found.replies
         self._note(script, replies)
@@ -406,3 +419,13 @@ class Replicas(Reads):
         if DEFINED.search(replies):
             for command, reply, _ in answered(commands(script), replies):
                 note(self._state, command, reply)
+
+
+def _script_of(entry: bytes) -> bytes:
+    """What `once` takes for an entry of the log."""
+    return PackedChanges(entry) if entry.startswith(MAGIC) else entry
+
+
+def _entry_of(script: bytes) -> bytes:
+    """A script as an entry of the log, in which packed changes begin with their first bytes. An empty line before a script changes nothing else."""
+    return b"\n" + script if script.startswith(MAGIC) else script

@@ -10,8 +10,8 @@ then answered. If any of that fails, the session is dropped and the next call ma
 many commands it has. A batch of values is kept as the packed changes that the session has applied, and counts as a script.
 
 Each script is kept with a checksum of itself and its replies, which is compared when it runs again; packed changes have no replies. A checkpoint puts the
-definitions and the rows in place of the log. It rebuilds every tree first, and a load packs trees as a rebuild does, so that a table opened from it has the same
-images, byte for byte.
+definitions and the rows in place of the log. It rebuilds every tree first, and a load packs trees as a rebuild does, so that a table opened from it has the
+same images, byte for byte.
 """
 
 from __future__ import annotations
@@ -31,12 +31,13 @@ from hashlib import sha256
 from io import FileIO
 from typing import Any, NoReturn, Protocol, TypeVar
 
-from ..batches import Batch
+from ..batches import Batch, script_of_changes
 from ..calls import Calls, as_script, note
 from ..errors import before
 from ..language import PRIMARY, State, Table, commands
 from ..reads import Reads, reader_of
 from ..replies import Place, answered
+from ..rows import layout
 from ..session import ScriptSession, Session
 from .file_lock import lock
 from .wal import FIRST_GENERATION, FOREIGN, SYNCED, UNSYNCED, fault_of_log, mark_of, new_mark, renew_mark
@@ -362,7 +363,7 @@ class Durable(Reads):
                     raise Corrupt(self.path, self._number + 1, "it is missing, so restore a backup")
                 if not isinstance(script, bytes):
                     raise Corrupt(self.path, number, "it is not the script that was kept, so restore a backup")
-                replies, places = (_applied(session, script), None) if is_packed else _ran(session, script)
+                replies, places = (applied(session, script, self._state), None) if is_packed else _ran(session, script)
                 if _checksum(script, replies) != checksum:
                     raise Corrupt(self.path, number, _advice(engine))
                 self._note(script, replies, places)
@@ -471,7 +472,7 @@ class Durable(Reads):
 
     def _apply_packed(self, changes: bytes) -> bytes:
         with self._some_group(), self._all_or_nothing():
-            refusal = _applied(self._ready(), changes)
+            refusal = applied(self._ready(), changes, self._state)
             if not refusal:
                 self._keep(changes, b"", is_packed=True)
             return refusal
@@ -772,11 +773,12 @@ def _ran(runner: Runner, script: bytes) -> tuple[bytes, list[Place] | None]:
     return runner._replies_with_places(script) if isinstance(runner, Calls) else (runner.replies(script), None)
 
 
-def _applied(runner: Runner, changes: bytes) -> bytes:
-    """No bytes if a session has applied packed changes, or their refusal."""
-    if not isinstance(runner, ScriptSession):
-        raise RuntimeError("the log has packed changes, which only a session applies: open the table with a session, and write a checkpoint")
-    return runner._apply_packed(changes)
+def applied(runner: Runner, changes: bytes, state: State) -> bytes:
+    """No bytes if packed changes were applied, or their refusal. A layer over sessions runs them as a script."""
+    if isinstance(runner, ScriptSession):
+        return runner._apply_packed(changes)
+    reply = runner.replies(script_of_changes(changes, layout(state.table)))
+    return reply if reply.startswith(b"refused ") else b""
 
 
 def _checksum(script: bytes, replies: bytes) -> int:
