@@ -32,7 +32,7 @@ from io import FileIO
 from typing import Any, NoReturn, Protocol, TypeVar
 
 from ..batches import Batch, script_of_changes
-from ..calls import Calls, as_script, note
+from ..calls import Calls, Row, as_script, note
 from ..errors import before
 from ..language import PRIMARY, State, Table, commands
 from ..reads import Reads, reader_of
@@ -194,8 +194,12 @@ class Durable(Reads):
 
     def __init__(self, path: str | os.PathLike[str], *, sync: bool, most_requests: int, make: Callable[[], Runner]) -> None:
         self.path, self._sync, self._most_requests, self._make = os.path.abspath(os.fsdecode(path)), sync, most_requests, make
-        self._thread, self._process = threading.current_thread(), os.getpid()
+        # The thread that may use it: none in a forked child.
+        self._thread: threading.Thread | None = threading.current_thread()
+        self._process = os.getpid()
+        # What runs the scripts, and what reads the table that it has.
         self._session: Runner | None = None
+        self._reader: Calls | None = None
         self._is_closed = self._is_in_group = self._is_rolled_back = self._is_changed = False
         # Whether the file has what a crash has left, whether the generation of SQLite's log has the page of `about`, and about how many pages it has.
         self._is_settled = self._is_marked = False
@@ -333,7 +337,7 @@ class Durable(Reads):
                 if isinstance(fault, (sqlite3.Error, UnicodeDecodeError)):
                     raise named_fault(fault, self.path) from fault
                 raise
-            self._session = session
+            self._session, self._reader = session, reader_of(self, session)
         return self._session
 
     def _replay(self, session: Runner) -> None:
@@ -392,10 +396,22 @@ class Durable(Reads):
         if self._is_in_group:
             self._refuse_after_failure()
         try:
-            return call(reader_of(self, self._ready()))
+            self._ready()
+            return call(self._reader)
         except MemoryError:
             with self._some_group(), self._all_or_nothing():
                 raise
+
+    def get(self, *key: Any) -> Row | None:
+        # `_read` with fewer calls of Python, which would take longer than the get itself.
+        reader = self._reader
+        if reader is None or self._is_in_group:
+            return super().get(*key)
+        self._check_caller()
+        try:
+            return reader.get(*key)
+        except MemoryError:
+            return super().get(*key)
 
     def once(self, request_id: str, script: str | bytes) -> bytes:
         """Like `replies`, but a script that comes again with the same request id is not run again: the call returns the replies that were kept with the id.
@@ -467,7 +483,9 @@ class Durable(Reads):
             raise ScriptTooLong(len(script), self._most_bytes)
 
     def _packed(self, batch: Batch, table: Table, taken: int) -> bytes | None:
-        packed = reader_of(self, self._ready())._packed(batch, table, taken)
+        self._ready()
+        assert self._reader
+        packed = self._reader._packed(batch, table, taken)
         return None if packed is None or len(packed) > self._most_bytes else packed
 
     def _apply_packed(self, changes: bytes) -> bytes:
@@ -583,7 +601,7 @@ class Durable(Reads):
             return False
 
     def _drop(self) -> None:
-        session, self._session = self._session, None
+        session, self._session, self._reader = self._session, None, None
         if session is not None:
             with suppress(Exception):
                 session.close()
@@ -689,10 +707,9 @@ class Durable(Reads):
             raise ValueError("the table is closed")
 
     def _check_caller(self) -> None:
-        if os.getpid() != self._process:
-            raise RuntimeError("a durable table is used by the process that opened it alone")
         if threading.current_thread() is not self._thread:
-            raise RuntimeError("a durable table is used by the thread that opened it alone")
+            owner = "thread" if os.getpid() == self._process else "process"
+            raise RuntimeError(f"a durable table is used by the {owner} that opened it alone")
 
     def _check_outside(self, what: str) -> None:
         self._ready()
@@ -707,6 +724,7 @@ _OPEN: weakref.WeakSet[Durable] = weakref.WeakSet()
 
 def _leave_to_parent() -> None:
     for table in _OPEN:
+        table._thread = None
         ctypes.pythonapi.Py_IncRef(ctypes.py_object(table._db))
         table._file.close()
 
