@@ -5,7 +5,7 @@
 
     upserts    readings of 500 devices go into a row for each device and minute by four operations, with two indexes, one of them on a part of the rows:
                `upsert_columns` of arrays of NumPy; `executemany` of INSERT .. ON CONFLICT DO UPDATE, with the same values as lists
-    messages   the same by `batch` of the messages of `betable.upsert`, and by those of `betable.upsert_form`
+    by rows    the same by `upsert_rows`, by `batch` of the messages of `betable.upsert_form`, and of those of `betable.upsert`
     put        rows of an int, a text and an int in random order: `put` of columns, whose ints are arrays of NumPy; `executemany` of INSERT OR REPLACE
     put_csv    the same rows from a CSV file: `put_csv`; csv.reader and `executemany`
     get, page  single rows, and a hundred rows from a key on
@@ -61,6 +61,10 @@ class Betable:
     def upserts_by_messages(self, readings: Readings) -> None:
         rows = zip(*[column.tolist() for column in readings])
         self.table.batch((betable.upsert(a, b, add={"n": 1, "total": v}, max={"hi": v}, min={"lo": v}) for a, b, v in rows), BATCH)
+
+    def upserts_by_rows(self, readings: Readings) -> None:
+        rows = zip(*[column.tolist() for column in readings])
+        self.table.upsert_rows(((a, b, 1, v, v, v) for a, b, v in rows), BATCH, add=["n", "total"], max=["hi"], min=["lo"])
 
     def upserts_by_form(self, readings: Readings) -> None:
         reading, rows = betable.upsert_form(add=["n", "total"], max=["hi"], min=["lo"]), zip(*[column.tolist() for column in readings])
@@ -164,7 +168,7 @@ def measured(engine: type[Any], given: Input, on_disk: bool, folder: str) -> tup
         seconds[name] = time.process_time() - begin
         return found
 
-    for name in ("upserts", "upserts_by_messages", "upserts_by_form"):
+    for name in ("upserts", "upserts_by_rows", "upserts_by_form", "upserts_by_messages"):
         if hasattr(engine, name):
             table = opened()
             table.make_metrics()

@@ -33,6 +33,10 @@ VALUES = {
 KINDS = {"n": "int", "total": "int", "hi": "int", "note": "text", "ok": "flag", "raw": "bytes"}
 
 
+class Number(int):
+    """An int that the extension does not take as it is."""
+
+
 def setUpModule():
     library()
     build_extension()
@@ -188,6 +192,41 @@ class PreparedUpserts(TestCase):
         session = filled("table 4 6 3 2 a:int b:int n:int total:int hi:int\n")
         session.batch(form(number % 3, 0, 1, number, number) for number in range(10))
         self.assertEqual(session.scan(), [(0, 0, 4, 18, 9), (1, 0, 3, 12, 7), (2, 0, 3, 15, 8)])
+
+    def test_rows_of_upserts_leave_the_trees_of_the_same_messages(self):
+        """Of all kinds, in several batches, in rows that the extension takes and in others, by a session and by scripts."""
+        client = betable()
+        for seed in range(30):
+            dice = random.Random(seed)
+            by_rows, by_messages = filled(), filled()
+            given = {"set": dice.sample(["note", "ok", "raw", "hi"], dice.randrange(5)), "add": dice.sample(["n", "total"], dice.randrange(1, 3))}
+            given["min"] = ["hi"]
+            names = [name for operation in ("set", "add", "min") for name in given[operation]]
+            rows = [(dice.randrange(5), dice.choice(TEXTS), *(VALUES[KINDS[name]](dice) for name in names)) for _ in range(dice.randrange(1, 30))]
+            form = client.upsert_form(**{operation: some for operation, some in given.items() if some})
+            forms = [dice.choice([tuple, list, lambda row: [Number(row[0]), *row[1:]]])(row) for row in rows]
+            with self.subTest(seed=seed):
+                self.assertEqual(by_rows.upsert_rows(iter(forms), dice.choice([2, 65_536]), **{name: some for name, some in given.items() if some}), len(rows))
+                by_messages.batch([form(*row) for row in rows])
+                self.assertEqual(by_rows.replies(IMAGES[IMAGES.index("scan") :]), by_messages.replies(IMAGES[IMAGES.index("scan") :]))
+
+    def test_wrong_rows_of_upserts_change_nothing(self):
+        client, session = betable(), filled("table 4 6 3 2 a:int b:text n:int\n")
+        wrong = [
+            ([(1, "x")], {"add": ["n"]}, client.RowValueError, "row 1: 2 values, and a row has 3 (a, b, n)"),
+            ([(1, "x", 1), 5], {"add": ["n"]}, client.RowTypeError, "row 2: 5 is of type int, and a row is a tuple or a list: write (a, b, n)"),
+            ([(1, "x", "1")], {"add": ["n"]}, client.RowTypeError, "row 1, column 'n': '1' is of type str"),
+            ([(1, "x", 2**63)], {"add": ["n"]}, client.Refused, "'9223372036854775808' is over the largest int"),
+            ([(1, "x", "z")], {"set": ["b"]}, client.Refused, "'b' is a column of the key"),
+            ([(1, "x", 1)], {"add": ["town"]}, client.RowValueError, "'town' is no column (a, b, n)"),
+            ([(1, "x", 1)], {"add": "n"}, TypeError, "add is a list of columns, and not 'n': write add=['n']"),
+            ({"a": 1}, {"add": ["n"]}, TypeError, "rows are an iterable"),
+        ]  # fmt: skip
+        for number, (rows, operations, kind, words) in enumerate(wrong):
+            with self.subTest(number=number), self.assertRaises(kind) as found:
+                session.upsert_rows(rows, **operations)
+            self.assertIn(words, str(found.exception))
+            self.assertEqual(session.scan(), [])
 
     def test_a_wrong_form_and_wrong_numbers_of_values_are_told(self):
         client, session = betable(), filled("table 4 6 3 1 a:int n:int\n")

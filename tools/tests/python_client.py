@@ -330,6 +330,7 @@ class PythonClient(TestCase):
             "upsert": lambda s: s.upsert(4, set={text: 1}),
             "upsert_columns": lambda s: s.upsert_columns({"id": [4]}, set={text: 1}),
             "upsert_frame": None,
+            "upsert_rows": lambda s: s.upsert_rows([(4, 1)], set=[text]),
             "usage": lambda s: s.usage(text),
         }
         self.assertEqual(sorted(name for name in dir(client.Session) if not name.startswith("_")), sorted(methods))

@@ -13,8 +13,8 @@
  * from their rows only while no object is made and nothing of Python is called.
  *
  * One call at a time uses a session, of any thread. The lock of the session is a flag, which is written while the interpreter lock is held. It is set while
- * other threads run during a call of the library, and in the contexts in which the plain class calls it. A call that finds it set goes to the plain class, which
- * raises the fault.
+ * other threads run during a call of the library, and in the contexts in which the plain class calls it. A call that finds it set goes to the plain class,
+ * which raises the fault.
  */
 #define Py_LIMITED_API 0x030B0000
 #define PY_SSIZE_T_CLEAN
@@ -872,6 +872,60 @@ static outcome of_columns(caller *self, bytes_in_room *bytes, PyObject *given, c
     return found;
 }
 
+/* What `given` is, a list of the form of upserts and their rows: the values of a key, and those of the operations. */
+static outcome of_upsert_rows(caller *self, bytes_in_room *bytes, PyObject *given, const tree *there)
+{
+    (void)self;
+    PyObject *rows = item_of(given, 1);
+    const Py_ssize_t count = length_of(rows);
+    char *form;
+    Py_ssize_t length;
+    if (PyBytes_AsStringAndSize(item_of(given, 0), &form, &length) < 0)
+        return RAISED;
+    const unsigned char *operations = (const unsigned char *)form + 1;
+    const Py_ssize_t operation_count = (length - 1) / 2;
+    if (length < 1 || *form != UPS || operation_count < 1 || operation_count > MOST_OPERATIONS)
+        return OTHER;
+    for (Py_ssize_t place = 0; place < operation_count; place++) {
+        if (operations[2 * place + 1] >= there->columns)
+            return OTHER;
+    }
+    begin(bytes, (uint64_t)count);
+    for (Py_ssize_t number = 0; number < count; number++) {
+        PyObject *row = item_of(rows, number);
+        if (!is_sequence(row) || length_of(row) != there->keys + operation_count)
+            return OTHER;
+        if (!has_room(bytes, 2 + (size_t)(there->keys + operation_count) * (2 + MOST_VALUE_LENGTH)))
+            return RAISED;
+        add_byte(bytes, UPS);
+        outcome found = add_values(bytes, row, 0, there->keys, there->kinds);
+        add_byte(bytes, (unsigned)operation_count);
+        for (Py_ssize_t place = 0; found == DONE && place < operation_count; place++) {
+            const unsigned char *operation = operations + 2 * place;
+            add_bytes(bytes, operation, 2);
+            found = add_value(bytes, item_of(row, there->keys + place), operation[0] == SET ? there->kinds[operation[1]] : INT);
+        }
+        if (found != DONE)
+            return found;
+    }
+    return DONE;
+}
+
+/* _pack_upserts(form, rows): the bytes of upserts of one form. */
+static PyObject *pack_upserts(PyObject *self, PyObject *const *args, Py_ssize_t count)
+{
+    if (count != 2 || !PyBytes_CheckExact(args[0]) || !PyList_CheckExact(args[1])) {
+        PyErr_SetString(PyExc_TypeError, "_pack_upserts takes a form and a list of rows");
+        return NULL;
+    }
+    if (!is_batch(args[1]))
+        return Py_NewRef(Py_None);
+    PyObject *given = PyTuple_Pack(2, args[0], args[1]);
+    PyObject *found = given == NULL ? NULL : packed(self, of_upsert_rows, given);
+    Py_XDECREF(given);
+    return found;
+}
+
 /* _pack_columns(count, form, columns): the bytes of changes that are given by columns. */
 static PyObject *pack_columns(PyObject *self, PyObject *const *args, Py_ssize_t count)
 {
@@ -1248,6 +1302,7 @@ static PyMethodDef methods[] = {
      "For each group of rows that are equal in the tree's first columns: their number, the sum of a column, and the values of those columns."},
     {"_pack_rows", pack_rows, METH_O, "The bytes of the changes that put rows, or None."},
     {"_pack_messages", pack_messages, METH_O, "The bytes of the changes that messages are, or None."},
+    {"_pack_upserts", FAST(pack_upserts), METH_FASTCALL, "The bytes of upserts of one form, of the form and their rows, or None."},
     {"_pack_columns", FAST(pack_columns), METH_FASTCALL, "The bytes of changes by columns, of their number, their form and the columns, or None."},
     {"_rows_between", FAST(rows_between), METH_FASTCALL, "The rows of a scan, or None."},
     {"_columns_between", FAST(columns_between), METH_FASTCALL, "The columns of the rows of a scan, of ints their bytes, and lists of other values, or None."},

@@ -6,10 +6,11 @@ from __future__ import annotations
 from collections.abc import Sequence
 from typing import Any, Protocol
 
-from .language import Table
+from .errors import RowTypeError, RowValueError
+from .language import Table, counted
 from .messages import Message, Shape, message_lines, plain_messages
 from .packed import HEADER_BYTES, value_at
-from .rows import FIELDS, Layout, layout, line_fault, plain_rows, records, rows_of_columns, tuples_of_dicts
+from .rows import FIELDS, Layout, layout, line_fault, plain_rows, records, rows_of_columns, shown, tuples_of_dicts
 
 # The first byte of a packed change, by the word of its line, and that of each operation.
 WORDS = {"put": 0, "del": 1, "ups": 2}
@@ -24,6 +25,9 @@ class Packer(Protocol):
         ...
 
     def _pack_messages(self, messages: list[Any], /) -> bytes | None:
+        ...
+
+    def _pack_upserts(self, form: bytes, rows: list[Any], /) -> bytes | None:
         ...
 
     def _pack_columns(self, count: int, form: bytes, columns: list[Any], /) -> bytes | None:
@@ -80,6 +84,37 @@ class Messages:
         return message_lines(self.items, table, taken)
 
 
+class UpsertRows:
+    """Upserts of one shape, each a row of the values of its key and of its operations."""
+
+    def __init__(self, shape: Shape, rows: list[Any], there: Layout) -> None:
+        self.shape, self.rows, self._there = shape, rows, there
+
+    @property
+    def items(self) -> list[Any]:
+        return [Message("ups", tuple(row), self.shape) for row in self.rows]
+
+    def packed(self, packer: Packer) -> bytes | None:
+        form = form_of("ups", self.shape, self._there)
+        return None if form is None else packer._pack_upserts(form, self.rows)
+
+    def plain(self, table: Table, taken: int) -> Batch:
+        return Messages(self._checked(taken)).plain(table, taken)
+
+    def lines(self, table: Table, taken: int) -> str:
+        return Messages(self._checked(taken)).lines(table, taken)
+
+    def _checked(self, taken: int) -> list[Any]:
+        names = [f"{column.name}" for column in self._there.key] + [name for _, *some in self.shape for name in some]
+        for number, row in enumerate(self.rows, taken + 1):
+            if not isinstance(row, (tuple, list)):
+                reason = f"{shown(row)} is of type {type(row).__name__}, and a row is a tuple or a list: write ({', '.join(names)})"
+                raise RowTypeError(reason, row=number, value=row, taken=taken)
+            if len(row) != len(names):
+                raise RowValueError(f"{counted(len(row), 'value')}, and a row has {len(names)} ({', '.join(names)})", row=number, value=row, taken=taken)
+        return self.items
+
+
 class Columns:
     """Changes by columns, all with one word and shape. The columns are those of the rows or the keys, and after them those of the operations. Each is a buffer
     of ints, a list of values, or one value for all changes."""
@@ -93,8 +128,8 @@ class Columns:
         return [*rows] if self.word == "put" else [Message(self.word, values, self.shape) for values in rows]
 
     def packed(self, packer: Packer) -> bytes | None:
-        operations = operations_of(self.shape, self._there)
-        return None if operations is None else packer._pack_columns(self.count, bytes([WORDS[self.word]]) + operations, self.columns)
+        form = form_of(self.word, self.shape, self._there)
+        return None if form is None else packer._pack_columns(self.count, form, self.columns)
 
     def plain(self, table: Table, taken: int) -> Batch:
         return self._of_items().plain(table, taken)
@@ -106,6 +141,12 @@ class Columns:
         if self.word == "put":
             return Rows(self.items)
         return Messages(self.items)
+
+
+def form_of(word: str, shape: Shape, there: Layout) -> bytes | None:
+    """The word of packed changes, and their operations. None if these are not packed."""
+    operations = operations_of(shape, there)
+    return None if operations is None else bytes([WORDS[word]]) + operations
 
 
 def operations_of(shape: Shape, there: Layout) -> bytes | None:

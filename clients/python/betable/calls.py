@@ -15,13 +15,13 @@ from itertools import islice
 from typing import Any, NamedTuple, NoReturn
 
 from . import language
-from .batches import Batch, Columns, Messages, Rows, without_breaks
+from .batches import Batch, Columns, Messages, Rows, UpsertRows, without_breaks
 from .csv_input import BLOCK, Part, WrongRecords, has_line_breaks, parts, rows_of_records, several_are_wrong, wrong_records, wrong_records_of_load
 from .errors import OutOfMemory, Refused, RowTypeError, RowValueError, WrongRecord
 from .faults import MEANINGS, Fault, faults_of_refusal
 from .forms import head_faults, name_fault
 from .language import Command, State, Table
-from .messages import Message, Shape, columns_of_shape, delete, record, shape_of, upsert
+from .messages import Message, Shape, columns_of_shape, delete, record, shape_of, shape_of_columns, upsert
 from .packed import MOST_ROWS, TreeColumn, Usage
 from .replies import Place, Reply, answered, kinds_of_rows, rows_of_reply
 from .rows import (
@@ -131,6 +131,14 @@ class Calls(ABC):
         an array, or one value for all upserts."""
         shape, values = shape_of(operations, "upsert_columns({'id': ids}, add={'qty': 1})")
         return self._apply_columns("ups", shape, key, values, most)
+
+    def upsert_rows(self, rows: Iterable[Any], most: int = MOST_MESSAGES, **operations: Iterable[str]) -> int:
+        """Applies an upsert for each row, in batches as `put` does, and returns their number. `set`, `add`, `max` and `min` are each a list of columns. A row
+        is a tuple or a list of the values of the key, and those for the columns in the order set, add, max, min."""
+        shape = shape_of_columns(operations, "upsert_rows([(1, 5)], add=['qty'])")
+        columns_of_shape(shape, layout(self._table()))
+        given = as_iterator(rows, "rows", "[(1, ..), (2, ..)]")
+        return self._in_batches(given, most, lambda some: UpsertRows(shape, some, layout(self._table())))
 
     def upsert_frame(self, frame: Any, most: int = MOST_MESSAGES, **operations: Iterable[str] | Mapping[str, Any]) -> int:
         """Applies an upsert for each row of a data frame of pandas, whose columns have the names of the key's, and returns their number. `set`, `add`, `max`

@@ -81,15 +81,20 @@ def upsert_form(**columns: Iterable[str]) -> Callable[..., Message]:
         session.batch([count(device, minute, 1, cents, cents) for device, minute, cents in readings])
 
     It is called with the values of the key, and those for the columns in the order set, add, max, min."""
-    for operation, names in columns.items():
-        if isinstance(names, (str, bytes)):
-            raise TypeError(f"{operation} is a list of columns, and not {shown(names)}: write {operation}=[{shown(names)}]")
-    shape, _ = shape_of({operation: dict.fromkeys(names) for operation, names in columns.items()}, "upsert_form(add=['qty'])")
+    shape = shape_of_columns(columns, "upsert_form(add=['qty'])")
 
     def made(*values: Any) -> Message:
         return Message("ups", values, shape)
 
     return made
+
+
+def shape_of_columns(columns: Mapping[str, Iterable[str]], example: str) -> Shape:
+    """The shape of upserts, of lists of columns."""
+    for operation, names in columns.items():
+        if isinstance(names, (str, bytes)):
+            raise TypeError(f"{operation} is a list of columns, and not {shown(names)}: write {operation}=[{shown(names)}]")
+    return shape_of({operation: dict.fromkeys(names) for operation, names in columns.items()}, example)[0]
 
 
 def shape_of(operations: Mapping[str, Mapping[str, Any]], example: str) -> tuple[Shape, list[Any]]:
