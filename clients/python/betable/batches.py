@@ -105,7 +105,7 @@ class UpsertRows:
         return Messages(self._checked(taken)).lines(table, taken)
 
     def _checked(self, taken: int) -> list[Any]:
-        names = [f"{column.name}" for column in self._there.key] + [name for _, *some in self.shape for name in some]
+        names = [column.name for column in self._there.key] + [name for _, *some in self.shape for name in some]
         for number, row in enumerate(self.rows, taken + 1):
             if not isinstance(row, (tuple, list)):
                 reason = f"{shown(row)} is of type {type(row).__name__}, and a row is a tuple or a list: write ({', '.join(names)})"
