@@ -106,7 +106,7 @@ def setUpModule():
     library()
     build_extension()
     if betable().session._packed is None:
-        raise SkipTest("the extension of the Python package is not built, or BETABLE_PURE is set")
+        raise SkipTest("the extension of the Python package is not built")
 
 
 class PythonExtension(TestCase):
