@@ -314,12 +314,15 @@ class Clients(TestCase):
             self.assertEqual(type_of_fault(lambda: client.upsert(b"", most={"greatest": 1})), TypeError)
 
     def test_texts_that_no_line_has_are_told(self):
+        """Of a load by each session, and of other calls where they go by scripts."""
         client = betable()
-        with client.Session() as session:
-            session.run("table 16 64 16 1 id:text name:text\n")
-            for call in (lambda: session.put([("a", "b\nc")]), lambda: session.get("\r"), lambda: session.load([("a", "b\n.\nc")])):
-                self.assertEqual(type_of_fault(call), client.RowValueError)
-            self.assertEqual(session.scan(), [])
+        calls = [lambda s: s.load([("a", "b\n.\nc")]), lambda s: s.put([("a", "b\nc")]), lambda s: s.get("\r")]
+        for make, told in ((client.Session, calls[:1]), (client.session.ScriptSession, calls)):
+            with self.subTest(make=make.__name__), make() as session:
+                session.run("table 16 64 16 1 id:text name:text\n")
+                for call in told:
+                    self.assertEqual(type_of_fault(lambda: call(session)), client.RowValueError)
+                self.assertEqual(session.scan(), [])
 
     def test_refusals_have_line_and_name(self):
         client = betable()
