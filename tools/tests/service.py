@@ -281,7 +281,7 @@ class Endpoints(TestCase):
             self.assertEqual((said["refused"], said["number"]), (2, 2))
             first, second, third, fourth = said["replies"]
             self.assertEqual(
-                {**first["refused"], "reason": ""}, {"number": 6, "name": "BadField", "line": 1, "item": 1, "column": "qty", "value": "x", "reason": ""}
+                {**first["refused"], "reason": ""}, {"number": 6, "name": "BadField", "line": 2, "item": 1, "column": "qty", "value": "x", "reason": ""}
             )
             self.assertIn("qty", first["refused"]["reason"])
             self.assertEqual(second, {"line": 4, "command": "batch", "reply": ["batch 1 by_city:1"]})
@@ -1103,10 +1103,10 @@ class CommitsCrashesAndEnds(TestCase):
 
     def test_endpoints_and_statuses_of_the_document_are_those_of_the_server(self):
         package = TOP / "clients/python/betable/server"
-        code = "".join((package / name).read_text(encoding="utf-8") for name in ("serve.py", "requests.py", "answers.py"))
+        code = "".join((package / name).read_text(encoding="utf-8") for name in ("serve.py", "requests.py", "answers.py", "bodies.py"))
         text = (TOP / "docs/SERVICE.md").read_text(encoding="utf-8")
-        routes = {(method.upper(), path.replace("{tree}", "TREE")) for method, path in re.findall(r'web\.(get|post)\("([^"]+)"', code)}
-        self.assertEqual({tuple(found) for found in re.findall(r"^\| `(GET|POST) ([^`?]+)", text, re.MULTILINE)}, routes)
+        routes = {(method.upper(), path.replace("{tree}", "TREE")) for method, path in re.findall(r'web\.(get|post|delete)\("([^"]+)"', code)}
+        self.assertEqual({tuple(found) for found in re.findall(r"^\| `(GET|POST|DELETE) ([^`?]+)", text, re.MULTILINE)}, routes)
         statuses = {
             *re.findall(r"Problem\((\d{3})", code),
             *re.findall(r"\b(4\d\d|5\d\d) if", code),

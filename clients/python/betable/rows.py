@@ -69,6 +69,10 @@ def layout(table: Table | None, tree: str = "primary") -> Layout:
 
 # What a value of each kind is, as it is said to a user.
 TYPES = {"int": "an int", "text": "a str", "flag": "a bool", "bytes": "bytes"}
+# The type that a value of JSON has for each kind, and what it is in words. Bytes are in hexadecimal digits.
+JSON_TYPES: dict[str, tuple[Any, str]] = {
+    "int": (int, "a whole number"), "text": (str, "a string"), "flag": (bool, "true or false"), "bytes": (str, "a string of hexadecimal digits"),
+}  # fmt: skip
 # The types of arrays of NumPy that have the values of each kind.
 ARRAY_TYPES = {"int": "int64", "text": "object", "flag": "bool", "bytes": "object"}
 # What a text has that is written in quotes: also a byte order mark, which would be dropped at the start of a record, and what would be no record, or the end

@@ -19,10 +19,12 @@ from ..replies import BLOCK_BYTES, answered, line_blocks, whole_lines
 from ..rows import rows_of
 from ..trees import image_of_reply
 from .engine import Answer
+from .bodies import Batch
 from .requests import Problem, problem_of, refusal_fields
 
 MOST_CHANGES = 100  # replies in an event
 MOST_EXPLAINED = 1_000  # refusals of a script whose reasons are given
+MOST_REASON = 1_000  # letters of a reason in a header
 
 
 def content_policy(page: str) -> str:
@@ -69,7 +71,7 @@ def _json_replies(script: bytes, answer: Answer, state: State, refused: int) -> 
 
 def _explained(command: Command, reply: bytes, state: State) -> dict[str, Any]:
     fault = refusal(command, reply, state, [])
-    return {**refusal_fields(fault), "reason": fault.reason}
+    return {**refusal_fields(fault), "line": line_at_fault(command, fault.item), "reason": fault.reason}
 
 
 def _unexplained(command: Command, reply: bytes) -> dict[str, Any]:
@@ -100,14 +102,35 @@ def _in_blocks(texts: Iterator[str]) -> Iterator[bytes]:
     yield "".join(block).encode("utf-8", "replace")
 
 
-def refusal_of_rows(script: bytes, replies: bytes, state: State) -> Problem:
-    """The problem of a batch that was refused: `line` is the line of the body."""
-    command = next(commands(script))
+def refusal_of_batch(batch: Batch, replies: bytes, state: State) -> Problem:
+    """The problem of a batch that was refused, with the place in the body."""
+    command = next(commands(batch.script))
     fault = refusal(command, replies, state, [])
     problem = problem_of(fault)
     if fault.item is not None:
-        problem.fields["line"] = command.messages()[fault.item - 1].number - 1
+        problem.fields[batch.unit] = line_at_fault(command, fault.item) - 1 if batch.places is None else batch.places[fault.item - 1]
     return problem
+
+
+def line_at_fault(command: Command, item: int | None) -> int:
+    """The line of the script that is at fault in a command that was refused with this item: that of the message or the record, or the first."""
+    if item is not None and command.head.word == b"batch":
+        return command.messages()[item - 1].number
+    if item is not None and command.head.word == b"load":
+        return next((number for number, _ in islice(command.records(), item, None)), command.head.number)
+    return command.head.number
+
+
+def first_reason(script: bytes, replies: bytes, state: State) -> str:
+    """The line and the reason of the first command of a script that was refused, in letters that a header may have."""
+    state = copied(state)
+    for command, reply, is_refused in answered(commands(script), replies):
+        if is_refused:
+            fault = refusal(command, reply, state, [])
+            reason = " ".join(f"line {line_at_fault(command, fault.item)}: {fault.reason}".split())
+            return reason.encode("ascii", "backslashreplace").decode()[:MOST_REASON]
+        note(state, command, reply[: reply.find(b"\n") + 1])
+    return ""
 
 
 def start_event(number: int) -> str:

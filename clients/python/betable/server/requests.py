@@ -12,7 +12,7 @@ from aiohttp import web
 from ..durable.table import CHANGING_LINE, IndexBuilding, ReplyDamaged, RequestReused, ScriptTooLong
 from ..errors import Refused
 from ..forms import name_fault
-from ..language import NUMBER, broken_quotes_of_lines
+from ..language import NUMBER
 from ..messages import record
 from .engine import Closed, Lost, Page, WrongKey
 
@@ -20,7 +20,6 @@ REQUEST_ID = re.compile(r"[!-~]{1,200}")
 HOST = re.compile(r"(?:\[([^\[\]]*)\]|([^:\[\]]*))(?::\d*)?")
 # The statuses of refusals outside of /run, by their numbers; of the others it is 422.
 STATUSES = {3: 409, 8: 404, 11: 409, 18: 503}
-BLANK_LINES = re.compile(rb"^\r?\n|\n\r?\n")
 
 
 # ---- problems ----
@@ -58,20 +57,25 @@ def refusal_fields(fault: Refused) -> dict[str, Any]:
 # ---- parameters ----
 
 
-def query_of(request: web.Request, *names: str) -> dict[str, list[str]]:
-    """The parameters of a request, each with its values in order."""
+def pairs_of(request: web.Request, *names: str) -> list[tuple[str, str]]:
+    """The parameters of a request and their values, in order."""
     query = request.rel_url.raw_query_string
     if not query:
-        return {}
+        return []
     try:
         query.encode()  # bytes that are no UTF-8 are refused
         pairs = parse_qsl(query, keep_blank_values=True, strict_parsing=True, errors="strict", max_num_fields=64)
     except ValueError as fault:
         raise Problem(400, f"the query cannot be read: {fault}") from None
+    if unknown := next((name for name, _ in pairs if name not in names), None):
+        raise Problem(400, f"'{unknown[:40]}' is no parameter here: there are {', '.join(names)}")
+    return pairs
+
+
+def query_of(request: web.Request, *names: str) -> dict[str, list[str]]:
+    """The parameters of a request, each with its values in order."""
     found: dict[str, list[str]] = {}
-    for name, value in pairs:
-        if name not in names:
-            raise Problem(400, f"'{name[:40]}' is no parameter here: there are {', '.join(names)}")
+    for name, value in pairs_of(request, *names):
         found.setdefault(name, []).append(value)
     return found
 
@@ -101,6 +105,13 @@ def record_of(name: str, values: list[str]) -> str:
         return record(values)
     except ValueError as fault:
         raise Problem(400, f"'{name}': {fault}") from None
+
+
+def key_of(query: dict[str, list[str]]) -> str:
+    """The record of the key that is given."""
+    if "key" not in query:
+        raise Problem(400, "a key has a parameter 'key' for each of its columns")
+    return record_of("key", query["key"])
 
 
 def bounds_of(query: dict[str, list[str]]) -> str:
@@ -147,17 +158,6 @@ def is_loopback(name: str) -> bool:
         return name == "localhost" or ipaddress.ip_address(name).is_loopback
     except ValueError:
         return False
-
-
-def batch_of(body: bytes) -> bytes:
-    """The script of one batch that puts the rows of CSV lines. Line N of the body is line N + 1 of the script."""
-    if BLANK_LINES.search(body):
-        lines = re.sub(rb"^(?=.)(?!\r$)", b"put ", body, flags=re.MULTILINE)
-    else:
-        lines = b"put " + body.removesuffix(b"\n").replace(b"\n", b"\nput ") if body else b""
-    if b'"' in body and (broken := next(broken_quotes_of_lines(lines, 1), None)):
-        raise Problem(400, f"{broken} A row is one line here: a text with a line break comes in by a load", line=broken.first)
-    return b"batch\n" + lines.removesuffix(b"\n") + b"\nend\n"
 
 
 def changing_word(script: bytes) -> str | None:

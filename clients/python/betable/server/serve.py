@@ -26,16 +26,21 @@ from ..calls import refusal
 from ..durable.table import FAULTS
 from ..errors import Refused
 from ..language import MOST_SCRIPT_BYTES, State, commands
+from ..messages import OPERATIONS
 from ..replies import BLOCK_BYTES
+from ..rows import layout
 from .answers import (
-    CsvRows, CsvRowsWithHeader, JsonRows, RowsAnswer, content_policy, event_of, json_replies, picture_of, refusal_of_rows, refused_count, start_event,
-    too_large, trees_of,
+    CsvRows, CsvRowsWithHeader, JsonRows, RowsAnswer, content_policy, event_of, first_reason, json_replies, picture_of, refusal_of_batch, refused_count,
+    start_event, too_large, trees_of,
+)  # fmt: skip
+from .bodies import (
+    JSON, JSON_LINES, Batch, header_hint, is_json_body, operations_of, rows_of_csv, rows_of_json, upserts_of_csv, upserts_of_json,
 )  # fmt: skip
 from .connections import FILES_BESIDE, Connections, client_of, raised_limit_of_files
 from .engine import ALL_ROWS, Answer, Closed, Engine, Lost, Page, Result, Work, WrongKey
 from .notices import Notices
 from .requests import (
-    Problem, batch_of, bounds_of, changing_word, checked_name, flag_of, host_name, is_json, is_loopback, number_of, page_of, problem_of, query_of, record_of,
+    Problem, bounds_of, changing_word, checked_name, flag_of, host_name, is_json, is_loopback, key_of, number_of, page_of, pairs_of, problem_of, query_of,
     request_id, tree_of,
 )  # fmt: skip
 
@@ -126,7 +131,9 @@ class Service:
             web.get("/metrics", self.get_metrics),
             web.post("/run", self.post_run),
             web.post("/rows", self.post_rows),
+            web.post("/upserts", self.post_upserts),
             web.get("/row", self.get_row, allow_head=False),
+            web.delete("/row", self.delete_row),
             web.get("/rows/{tree}", self.get_rows, allow_head=False),
             web.get("/sums/{tree}", self.get_sums, allow_head=False),
             web.get("/trees", self.get_trees),
@@ -202,11 +209,12 @@ class Service:
         request["held"] += count
         self.held += count
 
-    async def body(self, request: web.Request) -> bytes:
+    async def body(self, request: web.Request, types: tuple[str, ...] = ()) -> bytes:
         if request.headers.get("Content-Encoding", "identity") != "identity":
             raise Problem(415, "a body is sent as it is, without a Content-Encoding")
-        if not request.content_type.startswith(BODY_TYPES):
-            raise Problem(415, f"a body is a script, or lines of CSV, and not {request.content_type}")
+        if not request.content_type.startswith((*BODY_TYPES, *types)):
+            forms = "lines of CSV, or JSON" if types else "a script"
+            raise Problem(415, f"a body here is {forms}, and not {request.content_type}")
         parts, length, size = [], 0, request.content_length or 0
         while size <= self.limits.body and length <= self.limits.body and not request.content.at_eof():
             parts.append(await self.next_part(request))
@@ -297,14 +305,44 @@ class Service:
         return await self.replies(request, script, answer, state)
 
     async def post_rows(self, request: web.Request) -> web.StreamResponse:
+        has_header = flag_of(query_of(request, "header"), "header")
+        if is_json_body(request):
+            return await self.change(request, True, rows_of_json, request.content_type)
+        return await self.change(request, has_header, rows_of_csv, has_header)
+
+    async def post_upserts(self, request: web.Request) -> web.StreamResponse:
+        pairs = pairs_of(request, "header", *OPERATIONS)
+        operations, has_header = operations_of(pairs, OPERATIONS), flag_of({name: [value] for name, value in pairs}, "header")
+        if is_json_body(request):
+            return await self.change(request, True, upserts_of_json, request.content_type, operations)
+        return await self.change(request, True, upserts_of_csv, has_header, operations)
+
+    async def change(self, request: web.Request, needs_table: bool, batch_of_body: Callable[..., Batch], form: Any, *more: Any) -> web.StreamResponse:
+        """The reply to the batch that a body is. A body of rows in the order of the columns is a batch without a look at the table."""
         self.expect_writable()
         with self.place():
-            body, state = await self.body(request), self.engine.state
-            script = await in_thread_if_large(len(body), batch_of, body)
+            body, state = await self.body(request, JSON + JSON_LINES), self.engine.state
+            there = layout(state.table)
+            if needs_table and state.table is None:
+                raise Problem(409, "there is no table yet: POST /run takes its 'table' command")
+            batch = await in_thread_if_large(len(body), batch_of_body, body, form, there, *more)
+            answer = await self.engine.run(Work(batch.script, request_id(request)))
+        if answer.replies.startswith(b"refused "):
+            self.metrics.refused.inc()
+            problem = await asyncio.to_thread(refusal_of_batch, batch, answer.replies, state)
+            if problem.fields.get("line") == 1 and batch_of_body is rows_of_csv:
+                problem.fields["reason"] = f"{problem.fields['reason']}{header_hint(body, there)}"
+            raise problem
+        return await self.replies(request, batch.script, answer, state)
+
+    async def delete_row(self, request: web.Request) -> web.StreamResponse:
+        self.expect_writable()
+        script, state = f"batch\ndel {key_of(query_of(request, 'key'))}\nend\n".encode(), self.engine.state
+        with self.place():
             answer = await self.engine.run(Work(script, request_id(request)))
         if answer.replies.startswith(b"refused "):
             self.metrics.refused.inc()
-            raise await asyncio.to_thread(refusal_of_rows, script, answer.replies, state)
+            raise refusal(next(commands(script)), answer.replies, state, [])
         return await self.replies(request, script, answer, state)
 
     async def post_checkpoint(self, request: web.Request) -> web.StreamResponse:
@@ -323,6 +361,8 @@ class Service:
         refused = await in_thread_if_large(len(answer.replies), refused_count, script, answer.replies)
         self.metrics.refused.inc(refused)
         headers = {"Betable-Refused": str(refused), "Betable-Number": str(answer.number)}
+        if refused:
+            headers["Betable-Reason"] = await in_thread_if_large(len(script), first_reason, script, answer.replies, state)
         if is_json(request, ""):
             headers["Content-Type"] = "application/json; charset=utf-8"
             return await self.response_in_parts(request, made_in_thread(json_replies(script, answer, state, refused)), headers)
@@ -336,9 +376,7 @@ class Service:
 
     async def get_row(self, request: web.Request) -> web.StreamResponse:
         query = query_of(request, "key", "format", "header")
-        if "key" not in query:
-            raise Problem(400, "a key has a parameter 'key' for each of its columns")
-        return await self.rows(request, f"get {record_of('key', query['key'])}\n", query)
+        return await self.rows(request, f"get {key_of(query)}\n", query)
 
     async def get_rows(self, request: web.Request) -> web.StreamResponse:
         query, tree = query_of(request, "from", "to", "after", "limit", "format", "header"), tree_of(request)
