@@ -967,7 +967,7 @@ class CommitsCrashesAndEnds(TestCase):
             self.assertEqual((status in (503, 507), "reason" in json.loads(body)), (True, True))
             if Path(f"/proc/{engine}").exists():
                 resource.prlimit(engine, resource.RLIMIT_FSIZE, (resource.RLIM_INFINITY, resource.RLIM_INFINITY))
-            until(lambda: found.ask("GET", "/healthz")[0] == 200)
+            until(lambda: found.ask("GET", "/row?key=1")[0] == 200)
             rows = quantities(found)
             self.assertEqual((rows.pop(1), len(rows) in ((0,) if status == 507 else (0, 9_990))), (1, True))
             self.assertEqual(found.run(adds(2)), b"batch 1 by_city:1\n")

@@ -260,11 +260,15 @@ def _frame(sent: Any) -> bytes:
 class Engine:
     """The engine's process, as its server sees it. `state` has the trees, `number` that of the last script that is kept, `starts` how often it was started.
 
-    `on_result` is called with the works and the result of each group, before their answers are given.
+    `on_result` is called with the works and the result of each group, before their answers are given, and `on_notice` with a line when the process has ended,
+    and when another one has taken its place.
     """
 
-    def __init__(self, path: str | os.PathLike[str], on_result: Callable[[list[Work], Result], None] = lambda group, result: None) -> None:
-        self.path, self.on_result = os.fspath(path), on_result
+    def __init__(
+        self, path: str | os.PathLike[str], on_result: Callable[[list[Work], Result], None] = lambda group, result: None,
+        on_notice: Callable[[str], None] = lambda line: None,
+    ) -> None:  # fmt: skip
+        self.path, self.on_result, self.on_notice = os.fspath(path), on_result, on_notice
         self.state, self.number, self.log_bytes, self.request_bytes, self.starts = State(), 0, 0, 0, 0
         self.is_open = False
         self._waiting: deque[tuple[Work, asyncio.Future[Answer]]] = deque()
@@ -299,12 +303,16 @@ class Engine:
                 continue
             failures = 0
             opened.set()
+            if self.starts > 1:
+                self.on_notice(f"the worker was started again, and has the table open, with {counted(self.number, 'script')}")
             try:
                 while True:
                     self._take(await self._receive())
             except (asyncio.IncompleteReadError, ConnectionError):
                 self._fail()
-            await self._process_end()
+            status = await self._process_end()
+            if not self._is_ending:
+                self.on_notice(f"the worker ended by {_ending(status)}; requests get 503 until it is started again")
 
     def end(self) -> None:
         """Ends `serve`. The process replies to the works that were sent to it before; one that is still opening the table is killed."""
@@ -398,3 +406,11 @@ class Engine:
         for future, fault in faults:
             if not future.done():
                 future.set_exception(fault)
+
+
+def _ending(status: int) -> str:
+    """How a process has ended, in words."""
+    try:
+        return f"the signal {signal.Signals(-status).name}" if status < 0 else f"itself, with status {status}"
+    except ValueError:
+        return f"signal {-status}"

@@ -1,4 +1,5 @@
-"""What the server prints on standard error: nothing of a request, since it may be a secret, and the same thing once a minute at most."""
+"""What the server prints on standard error: nothing of a request but its path, since the rest may be a secret, and the same thing once a minute at most. And
+its log of requests, if it keeps one."""
 
 from __future__ import annotations
 
@@ -6,8 +7,11 @@ import logging
 import sys
 import time
 import traceback
+from collections.abc import Callable
+from pathlib import Path
 
 PAUSE_SECONDS = 60  # between two lines of a kind
+MOST_PATH = 200  # letters of a path in a line
 
 
 class Notices(logging.Handler):
@@ -31,6 +35,29 @@ class Notices(logging.Handler):
         if now - self._last.get(line, -PAUSE_SECONDS) >= PAUSE_SECONDS:
             self._last[line] = now
             print(f"betable serve: {line}", file=sys.stderr, flush=True)
+
+
+class RequestLog:
+    """A line for each request in a file, and on standard error one for each that took long: time, address, method, path, status, and seconds."""
+
+    def __init__(self, file: Path | None, slow_seconds: float | None, tell: Callable[[str], None]) -> None:
+        self.slow_seconds, self.tell = slow_seconds, tell
+        self._stream = None if file is None else file.open("a", encoding="utf-8")
+
+    def take(self, address: str | None, method: str, path: str, status: int, seconds: float) -> None:
+        line = f"{address or '-'} {method} {path.encode('ascii', 'backslashreplace').decode()[:MOST_PATH]} {status} {seconds:.4f}"
+        if self._stream is not None:
+            try:
+                self._stream.write(f"{time.strftime('%Y-%m-%dT%H:%M:%SZ', time.gmtime())} {line}\n")
+                self._stream.flush()
+            except OSError as fault:
+                self.tell(f"the log of requests cannot be written: {name_of(fault)}")
+        if self.slow_seconds is not None and seconds >= self.slow_seconds:
+            print(f"betable serve: slow: {line}", file=sys.stderr, flush=True)
+
+    def close(self) -> None:
+        if self._stream is not None:
+            self._stream.close()
 
 
 def name_of(fault: BaseException) -> str:

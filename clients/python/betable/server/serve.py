@@ -38,7 +38,7 @@ from .bodies import (
 )  # fmt: skip
 from .connections import FILES_BESIDE, Connections, client_of, raised_limit_of_files
 from .engine import ALL_ROWS, Answer, Closed, Engine, Lost, Page, Result, Work, WrongKey
-from .notices import Notices
+from .notices import Notices, RequestLog
 from .requests import (
     Problem, bounds_of, changing_word, checked_name, flag_of, host_name, is_json, is_loopback, key_of, number_of, page_of, pairs_of, problem_of, query_of,
     request_id, tree_of,
@@ -47,6 +47,7 @@ from .requests import (
 Handler = Callable[[web.Request], Awaitable[web.StreamResponse]]
 MOST_EVENTS, MOST_WATCHERS = 256, 64  # that wait for a reader; readers
 PAGE_ROWS = 10_000  # of a page of all rows of a range
+FAILED_CHANGE_SECONDS = 60  # how long /healthz tells that a change has failed, so that whoever heeds it tries again
 EVENT_SECONDS = 15  # seconds after which a reader of events gets a comment, so that proxies keep the connection
 ENDING_SECONDS = 1  # seconds after which a server that is ending gives up a body whose next bytes do not arrive
 LEAST_TOKEN_BYTES = 16
@@ -79,10 +80,13 @@ class Metrics:
         self.group = Histogram("betable_group_scripts", "Scripts that were run as a group", buckets=(1, 2, 4, 8, 16, 32, 64, 128, 256), registry=registry)
         self.run_seconds = Histogram("betable_run_seconds", "A group in the engine", buckets=SECONDS, registry=registry)
         self.commit_seconds = Histogram("betable_commit_seconds", "A commit", buckets=SECONDS, registry=registry)
+        self.refused_connections = Counter("betable_refused_connections", "Connections that got 503, as each was in use", registry=registry)
         for name, help_text, value in (
             ("betable_kept_scripts", "The number of the last script that is kept", lambda: engine.number),
             ("betable_log_bytes", "Bytes of the scripts since the last checkpoint", lambda: engine.log_bytes),
             ("betable_request_bytes", "Bytes of the replies that are stored with an Idempotency-Key", lambda: engine.request_bytes),
+            ("betable_checkpoint_time", "When the last checkpoint was written, in seconds since 1970, or 0 if none was since the start",
+             lambda: service.checkpoint_time),
             ("betable_waiting_requests", "Requests that wait for the engine, or for the rest of their bodies", lambda: service.waiting),
             ("betable_queued_scripts", "Scripts that the engine has not answered", lambda: engine.waiting),
             ("betable_held_bytes", "Bytes of bodies and replies in memory", lambda: service.held),
@@ -98,6 +102,10 @@ class Metrics:
     def count(self, endpoint: str, status: int) -> None:
         self.requests.labels(endpoint, status).inc()
 
+    def count_refused_connection(self) -> None:
+        self.refused_connections.inc()
+        self.count("none", 503)
+
     def take(self, group: list[Work], result: Result, before: int) -> None:
         self.scripts.inc(len(group))
         self.group.observe(len(group))
@@ -110,13 +118,21 @@ class Metrics:
 class Service:
     """The handlers of the endpoints over an engine."""
 
-    def __init__(self, path: str, limits: Limits = Limits(), token: bytes | None = None, is_read_only: bool = False) -> None:
-        self.engine = Engine(path, self.take)
+    def __init__(
+        self, path: str, limits: Limits = Limits(), token: bytes | None = None, is_read_only: bool = False, log: Path | None = None,
+        slow_seconds: float | None = None,
+    ) -> None:  # fmt: skip
+        self.notices = Notices()
+        self.engine = Engine(path, self.take, self.notices.tell)
         self.limits, self.token, self.is_read_only = limits, token, is_read_only
+        self.log = RequestLog(log, slow_seconds, self.notices.tell)
+        # When a change failed for want of memory or disk, if none has succeeded since, and why.
+        self.failed_change: tuple[float, str] | None = None
+        self.checkpoint_time = 0.0
         self.waiting, self.held, self.is_ending = 0, 0, False
         self.watchers: set[asyncio.Queue[str | None]] = set()
-        self.metrics, self.notices = Metrics(self.engine, self), Notices()
-        self.connections = Connections(limits.connections, limits.seconds, self.notices, self.answer_to_no_head, lambda: self.metrics.count("none", 503))
+        self.metrics = Metrics(self.engine, self)
+        self.connections = Connections(limits.connections, limits.seconds, self.notices, self.answer_to_no_head, self.metrics.count_refused_connection)
         self.page = Path(__file__).with_name("page.html").read_text(encoding="utf-8")
 
     def application(self) -> web.Application:
@@ -162,6 +178,8 @@ class Service:
             response = response_of(problem)
         except (Refused, Lost, Closed, WrongKey, *FAULTS) as fault:
             response = response_of(problem_of(fault))
+            if response.status == 507 and request.method != "GET":
+                self.failed_change = time.monotonic(), str(fault)
         except web.RequestPayloadError:
             response = response_of(Problem(400, "the body cannot be read: its chunks are not those of HTTP/1.1"))
         except ConnectionError:
@@ -172,8 +190,10 @@ class Service:
         finally:
             self.held -= request["held"]
             self.connections.end_request(client)
+        seconds = time.perf_counter() - begin
         self.metrics.count(resource.canonical if resource else "none", response.status)
-        self.metrics.request_seconds.observe(time.perf_counter() - begin)
+        self.metrics.request_seconds.observe(seconds)
+        self.log.take(request.remote, request.method, request.rel_url.raw_path, response.status, seconds)
         return response
 
     def answer_to_no_head(self) -> web.Response:
@@ -262,6 +282,8 @@ class Service:
         before = self.engine.number
         if not group:
             return self.tell(start_event(result.number))
+        if result.number > before:
+            self.failed_change = None
         self.metrics.take(group, result, before)
         for work, answer in zip(group, result.answers):
             if isinstance(answer, Answer) and answer.number > before:
@@ -349,6 +371,7 @@ class Service:
         self.expect_writable()
         with self.place():
             answer = await self.engine.run(Work(None))
+        self.checkpoint_time = time.time()
         return json_response({"number": answer.number, "log_bytes": self.engine.log_bytes})
 
     def expect_writable(self) -> None:
@@ -474,8 +497,11 @@ class Service:
         return web.Response(body=generate_latest(self.metrics.registry), headers={**COMMON_HEADERS, "Content-Type": "text/plain; version=0.0.4; charset=utf-8"})
 
     async def get_health(self, request: web.Request) -> web.StreamResponse:
-        is_open = self.engine.is_open
-        return json_response({"status": "open" if is_open else "starting"}, status=200 if is_open else 503)
+        if not self.engine.is_open:
+            return json_response({"status": "starting"}, status=503)
+        if self.failed_change is not None and time.monotonic() - self.failed_change[0] < FAILED_CHANGE_SECONDS:
+            return json_response({"status": "changes fail", "reason": self.failed_change[1]}, status=503)
+        return json_response({"status": "open"})
 
     async def get_page(self, request: web.Request) -> web.StreamResponse:
         return web.Response(text=self.page, content_type="text/html", headers={**COMMON_HEADERS, "Content-Security-Policy": content_policy(self.page)})
@@ -532,6 +558,8 @@ def add_words(parser: argparse.ArgumentParser) -> None:
     parser.add_argument("--most-held", metavar="BYTES", type=number, default=limits.held, help="the most bytes of bodies and replies in memory (%(default)s)")
     of_files = f"{limits.connections}, or {FILES_BESIDE} fewer than the files that it may open"
     parser.add_argument("--most-connections", metavar="N", type=number, help=f"the most connections ({of_files})")
+    parser.add_argument("--access-log", metavar="FILE", type=Path, help="gets a line for each request: time, address, method, path, status, seconds")
+    parser.add_argument("--slow-seconds", metavar="S", type=seconds, help="prints a line on standard error for each request that takes as long")
     parser.add_argument("--client-seconds", metavar="S", type=seconds, default=limits.seconds, help="how long a client has for its next bytes (%(default)s)")
 
 
@@ -564,7 +592,10 @@ def run(words: argparse.Namespace) -> int:
     limits = Limits(words.most_body, words.most_waiting, words.most_held, words.client_seconds, connections)
     if limits.held < limits.body:
         return fail(f"--most-held is at least --most-body, which is {limits.body:,}", 2)
-    service = Service(words.path, limits, token, words.read_only)
+    try:
+        service = Service(words.path, limits, token, words.read_only, words.access_log, words.slow_seconds)
+    except OSError as fault:
+        return fail(f"{words.access_log}: {fault.strerror}", 2)
     logging.getLogger().addHandler(service.notices)
     try:
         return asyncio.run(serve(service, words.host, words.port))
@@ -601,6 +632,7 @@ async def serve(service: Service, host: str, port: int) -> int:
         await runner.cleanup()
         service.engine.end()
         await asyncio.wait([engine])
+        service.log.close()
     return 0
 
 
