@@ -7,8 +7,6 @@ tools/from_csv makes the records of each file those of the table: decimals becom
 the same are left out and told, and the others are put.
 """
 
-from __future__ import annotations
-
 import subprocess
 import sys
 from collections.abc import Iterator

@@ -1,23 +1,20 @@
 #!/usr/bin/env python3
 """A store of metrics on disk: for each device and minute the number of its readings, their total, the smallest and the largest, and how many were alarms.
 
-    python3 examples/python/metric_store.py metrics.table [READINGS]
+    python3 examples/python/metric_store.py metrics.table 100000
 
 Readings are ints, here hundredths of a degree. One upsert takes a reading in, whether its minute has a row or not. A row starts with zeros, so the smallest
 and the largest reading are kept as their distances from a number that is beyond all of them (docs/HOW_TO.md, The smallest number so far).
 """
 
-from __future__ import annotations
-
 import random
 import sys
-from collections.abc import Iterable, Iterator
+from collections.abc import Iterator, Sequence
 from typing import Any, NamedTuple
 
-from betable import delete, durable, upsert
+from betable import durable
 
-BEYOND = 1_000_000
-ALARM = 9_000
+BEYOND, ALARM = 1_000_000, 9_000
 COLUMNS = {"device": "int", "minute": "int", "n": "int", "total": "int", "least": "int", "most": "int", "alarms": "int"}
 
 
@@ -36,20 +33,23 @@ class Summary(NamedTuple):
 
 
 def open_store(path: str) -> durable.Durable:
-    """The store of a file. A new one gets its table and its indexes."""
+    """The store of a file. A new one gets its table and its indexes, all or none of them."""
     store = durable.open(path)
     if store.state.table is None:
-        store.table(COLUMNS, keys=2)
-        store.index("by_minute", on="minute", include=["n", "total"])
-        store.index("with_alarms", on=["minute", "device"], include="alarms", where=("alarms", ">=", 1))
+        with store.group():
+            store.table(COLUMNS, keys=2)
+            store.index("by_minute", on="minute", include=["n", "total"])
+            store.index("with_alarms", on=["minute", "device"], include="alarms", where=("alarms", ">=", 1))
     return store
 
 
-def ingest(store: durable.Durable, readings: Iterable[Reading]) -> int:
+def ingest(store: durable.Durable, readings: Sequence[Reading]) -> int:
     """Takes readings in, and returns how many. Once it returns they are on disk."""
-    return store.batch(
-        upsert(device, minute, add={"n": 1, "total": value, "alarms": int(value >= ALARM)}, max={"least": BEYOND - value, "most": BEYOND + value})
-        for device, minute, value in readings
+    devices, minutes, values = zip(*readings) if readings else ((), (), ())
+    return store.upsert_columns(
+        {"device": devices, "minute": minutes},
+        add={"n": 1, "total": values, "alarms": [int(value >= ALARM) for value in values]},
+        max={"least": [BEYOND - value for value in values], "most": [BEYOND + value for value in values]},
     )
 
 
@@ -68,12 +68,12 @@ def means(store: durable.Durable, start: int, stop: int) -> dict[int, float]:
 
 def expire(store: durable.Durable, minute: int) -> int:
     """Deletes the rows before a minute, and returns how many."""
-    return store.batch(delete(device, passed) for passed, device, *_ in store.scan("by_minute", None, (minute,)))
+    passed = store.scan_columns("by_minute", None, (minute,))
+    return store.delete_columns({"device": passed["device"], "minute": passed["minute"]})
 
 
 if __name__ == "__main__":
-    count = int(sys.argv[2]) if len(sys.argv) > 2 else 100_000
     with open_store(sys.argv[1]) as opened:
-        ingest(opened, (Reading(random.randrange(500), random.randrange(1_440), random.randrange(-2_000, 9_500)) for _ in range(count)))
+        ingest(opened, [Reading(random.randrange(500), random.randrange(1_440), random.randrange(-2_000, 9_500)) for _ in range(int(sys.argv[2]))])
         print(*summaries(opened, 7, 600, 605), sep="\n")
         print(f"mean at noon: {means(opened, 720, 721)}, alarms before one o'clock: {len(opened.scan('with_alarms', None, (60,)))}")

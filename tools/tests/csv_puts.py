@@ -169,6 +169,22 @@ class TextsWithLineBreaks(Files):
         self.assertEqual(self.rejects.read_bytes(), b'id,city,open\n2,"c\n\nd",no\n"x\n",e,true\n4,g\n')
 
 
+class DurableTables(Files):
+    def test_texts_with_line_breaks_and_rejects_are_those_of_a_session(self) -> None:
+        if client.session._packed is None:
+            self.skipTest("the extension is not built")
+        from betable import durable
+
+        self.write(HEADER + '1,"a\nb",true\nx,Oslo,true\n2,"c""\r\nd",false\n')
+        path = self.path.with_suffix(".table")
+        with durable.open(path) as table:
+            table.table(COLUMNS)
+            self.assertEqual(self.refusal(lambda: table.put_csv(self.path)).wrong_count, 1)
+            self.assertEqual((table.scan(), table.put_csv(self.path, rejects=self.rejects)), ([], 2))
+        with durable.open(path) as table:
+            self.assertEqual(table.scan(), [(1, "a\nb", True), (2, 'c"\r\nd', False)])
+
+
 class WrongRecordsGoToAFile(Files):
     def test_as_they_stood_and_the_others_are_put(self) -> None:
         dice = random.Random(84)
