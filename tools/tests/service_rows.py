@@ -10,6 +10,7 @@ import tempfile
 import unittest
 from http.client import HTTPConnection, IncompleteRead
 from typing import Any
+from urllib.parse import quote
 
 from .clients import library
 from .service import most_memory, python, server, until
@@ -51,6 +52,16 @@ class AllRows(unittest.TestCase):
                 self.assertTrue(read == rows)
                 middle = [row for row in rows if ("city, 2",) <= row < ("city, 5",)]
                 self.assertEqual(len(found.json("/rows/primary?from=city,%202&to=city,%205")["rows"]), len(middle))
+
+    def test_pages_go_on_after_keys_with_line_breaks(self) -> None:
+        keys = sorted(f"{'line' if number % 2 else 'a'}\n{number:06}\r\n\"," for number in range(20_010))
+        script = b"table 16 1024 256 1 name:text n:int\nload\nname,n\n"
+        script += "".join(f'"{key.replace(chr(34), chr(34) * 2)}",7\n' for key in keys).encode() + b".\n"
+        with server(script=script) as found:
+            self.assertTrue([key for key, _ in found.json("/rows/primary")["rows"]] == keys)
+            page = found.json(f"/rows/primary?limit=2&after={quote(keys[5])}")
+            self.assertEqual((page["rows"], page["more"]), ([[keys[6], 7], [keys[7], 7]], True))
+            self.assertEqual(found.ask("GET", f"/rows/primary?from={quote(keys[5])}")[0], 400)
 
     def test_a_header_line_comes_if_it_is_asked_for(self) -> None:
         with server(script=TABLE + b'batch\nput Oslo,1,"a,b"\nput Oslo,2,x\nend\n') as found:

@@ -128,8 +128,6 @@ def flag_of(query: dict[str, list[str]], name: str) -> bool:
 
 def page_of(tree: str, query: dict[str, list[str]]) -> Page:
     """The page that is asked for."""
-    if "after" in query:
-        record_of("after", query["after"])
     return Page(tree, query.get("from"), query.get("to"), query.get("after"))
 
 
