@@ -2,17 +2,19 @@
 
 from __future__ import annotations
 
+import csv
 import os
 from bisect import bisect_right
 from collections.abc import Iterable, Iterator, Sequence
-from itertools import accumulate
+from io import StringIO
+from itertools import accumulate, islice
 from types import TracebackType
 from typing import BinaryIO, NamedTuple
 
 from .errors import Refused, WrongRecord
 from .faults import Fault, faults_of_records
-from .language import KINDS, MARK, RECORD, Table, broken_quotes, fields
-from .rows import VALUES, Value
+from .language import MARK, RECORD, Table, broken_quotes
+from .rows import Value, values_of_fields
 
 # The bytes of a file that are read at once.
 BLOCK = 1 << 22
@@ -104,13 +106,12 @@ def wrong_records(part: Part, table: Table) -> dict[int, Fault]:
 
 def rows_of_records(records: Iterable[bytes], table: Table) -> list[tuple[Value, ...]]:
     """The rows that records are, none of which is wrong."""
-    columns = zip(*[fields(record.removeprefix(MARK)) for record in records])
-    return list(zip(*[_values_of(values, kind) for values, kind in zip(columns, table.kinds)]))
-
-
-def _values_of(values: Iterable[bytes], kind: bytes) -> list[Value]:
-    printed, value = KINDS[kind].printed, VALUES[kind.decode()]
-    return [value(printed(field).decode()) for field in values]
+    reader = csv.reader(StringIO(b"\n".join([record.removeprefix(MARK) for record in records]).decode(), newline=""))
+    rows: list[tuple[Value, ...]] = []
+    # Few at a time, since Python's collector of garbage looks through all lists that there are.
+    while some := list(islice(reader, 1_000)):
+        rows += zip(*[values_of_fields(fields, kind.decode()) for fields, kind in zip(zip(*some), table.kinds)])
+    return rows
 
 
 def wrong_records_of_load(faults: Iterable[Fault], line_before: int) -> tuple[list[WrongRecord], int]:

@@ -20,7 +20,7 @@ from collections.abc import Callable, Iterable, Iterator, Mapping, Sequence, Set
 from typing import Any, NamedTuple, TypeAlias, TypeVar
 
 from .errors import RowTypeError, RowValueError
-from .language import GREATEST_INT, KINDS, LEAST_INT, PRIMARY, Index, Table, counted
+from .language import GREATEST_INT, KINDS, LEAST_INT, PRIMARY, Index, Table, counted, int_of
 
 T = TypeVar("T")
 Value = int | str | bool | bytes
@@ -460,6 +460,16 @@ def value_of_field(field: str, column: Column) -> Value:
     if reason := kind.fault(given):
         raise ValueError(f"column '{column.name}' ({column.kind}): {reason}")
     return VALUES[column.kind](kind.printed(given).decode())
+
+
+def values_of_fields(fields: Sequence[str], kind: str) -> list[Value]:
+    """The values of fields that are surely of a kind."""
+    given = [field.lower() for field in fields] if kind == "flag" else fields
+    try:
+        return list(map(VALUES[kind], given))
+    except ValueError:
+        # Of thousands of digits, most of them zeros at the start.
+        return [int_of(field.encode()) for field in given]
 
 
 def rows_of(lines: list[str], kinds: Sequence[str]) -> list[tuple[Value, ...]]:
