@@ -3,14 +3,11 @@
 import subprocess
 import tempfile
 
-from betable.language import NAME, PRIMARY, State, commands, logical_lines, reply
+from betable.language import COMMANDS, NAME, PRIMARY, State, commands, logical_lines, reply
 from betable.trees import HEAD, Broken, KeyColumns, image_of
 
 MOST_STEPS = 1000
 MOST_REPLY = 16  # lines of a reply that are kept
-
-# Commands that change the tree that they name, and those that change all trees.
-CHANGING_ONE, CHANGING_ALL = (b"index", b"build", b"drain", b"rebuild"), (b"load", b"batch")
 
 
 class Failed(Exception):
@@ -107,13 +104,14 @@ def trees_that_change(command, names):
     A name that is none by then is no fault: its image is refused, and the refusal is taken out of the replies.
     """
     word, words = command.head.word, command.head.text.split()
+    changes = COMMANDS[word].changes if word in COMMANDS else "nothing"
     if command.closing and not command.is_closed:
         return []
     if word == b"table":
         return [PRIMARY]
-    if word in CHANGING_ALL:
+    if changes == "all trees":
         return list(names)
-    if word not in CHANGING_ONE or len(words) < 2 or not NAME.fullmatch(words[1]):
+    if changes != "its tree" or len(words) < 2 or not NAME.fullmatch(words[1]):
         return []
     if words[1] not in names:
         names.append(words[1])

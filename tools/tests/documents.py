@@ -1,15 +1,18 @@
 """Tests of the documents: their lines, links, names and numbers, the scripts and shell lines in them, and the pictures of docs/TOUR.md."""
 
+import io
 import re
 import shutil
 import subprocess
+import sys
 import tempfile
 import xml.etree.ElementTree as xml
 from collections import Counter
+from contextlib import redirect_stdout
 from functools import cache
 from importlib import import_module
 from pathlib import Path
-from unittest import TestCase
+from unittest import TestCase, mock
 
 from .common import imported, replies, run_forked, SECONDS, structure, TOP, ProgramTestCase, needs
 
@@ -398,9 +401,18 @@ class SaidTwice(TestCase):
         self.assertEqual(found, {option: constant("crates/bt_gang/src/crew.rt", name) for option, name in names.items()})
         self.assertEqual(found, {option: most for option, most in imported("tools/explain_words").OPTIONS.items() if most})
         self.assertEqual(int(re.search(r"^DEEPEST_CUT = (\d+)$", text_of("tools/fuzz/run"), re.MULTILINE)[1]), found["--cut"])
-        indexes = constant("crates/bt_table/src/table.rt", "MOST_INDEXES")
-        modules = [import_module("betable.language"), imported("tools/fuzz/model.py"), imported("tools/fuzz/scripts.py")]
-        self.assertEqual([module.MOST_INDEXES for module in modules], [indexes] * 3)
+        self.assertEqual(imported("tools/fuzz/scripts.py").MOST_INDEXES, import_module("betable.language").MOST_INDEXES)
+
+    def test_files_that_repeat_the_code_are_those_that_tools_generate_writes(self):
+        """And one that is not is named."""
+        generate = imported("tools/generate")
+        with mock.patch.object(sys, "argv", ["generate", "--check"]), redirect_stdout(io.StringIO()) as printed:
+            self.assertEqual((generate.main(), printed.getvalue()), (0, ""))
+            with mock.patch.object(generate, "help_text", lambda: "A script is a list of commands:\n"):
+                self.assertEqual((generate.main(), printed.getvalue()), (1, "tools/program_help.txt\n"))
+            with mock.patch.dict(import_module("betable.language").CLOSING, {b"image": b"go"}):
+                self.assertEqual(generate.main(), 1)
+        self.assertEqual(printed.getvalue().splitlines()[-2:], [generate.VIM, generate.TEXTMATE])
 
 
 # ---- scripts ----

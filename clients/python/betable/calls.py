@@ -325,10 +325,10 @@ class Calls(ABC):
     ) -> None:
         """Makes the table. Its columns are a text such as "id:int city:text", a dict from names to kinds, or a list of "id:int" or of pairs of a name and a
         kind. The first ones, as many as `keys`, are the key. The other numbers are those of `table` in a script: a buffer is a number of messages, or of bytes,
-        as in "65536b"."""
+        as in "4096b"."""
         words = [f"{checked_name(name, 'a column')}:{_checked_kind(kind)}" for name, kind in _columns_given(columns)]
         if isinstance(buffer, str) and not language.BUFFER.fullmatch(buffer.encode()):
-            raise ValueError(f"a buffer is a number of messages, or of bytes, as in '65536b', and not {shown(buffer)}")
+            raise ValueError(f"a buffer is a number of messages, or of bytes, as in '4096b', and not {shown(buffer)}")
         numbers = [_checked_number(fanout, "a fanout"), buffer if isinstance(buffer, str) else _checked_number(buffer, "a buffer")]
         numbers += [_checked_number(leaf, "a leaf"), _checked_number(keys, "the number of key columns")]
         self.run(f"table {' '.join(numbers)} {' '.join(words)}\n")

@@ -22,7 +22,7 @@ MEANINGS = {
     7: "The number of fields is wrong.",
     8: "The table itself is 'primary', which is not built or dropped.",
     9: "The name is taken.",
-    10: "This is over a limit, such as 65,536 messages a batch. Divide it.",
+    10: f"This is over a limit, such as {MOST_MESSAGES:,} messages a batch. Divide it.",
     11: "An index that is building shows its rows once it has those of the whole table: repeat 'build NAME N', which reads the next N "
     "rows for it, until its reply ends with 'complete'. A load needs each index to be complete: in a table without rows 'build NAME 1' completes it.",
     12: "Leave this command out.",

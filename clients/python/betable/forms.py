@@ -6,8 +6,8 @@ from typing import Iterable
 
 from .advice import instead_of, reason_for_more_words
 from .language import (
-    BLOCK_WORDS, BUFFER, CLOSING, FORMS, KINDS, Line, MARK, MOST_DIGITS, MOST_NAME_BYTES, NAME, NUMBER, OPERATORS, any_of, fault_of_int, fields, int_of,
-    record_of_line, visible,
+    BLOCK_WORDS, BUFFER, CLOSING, COMMANDS, FORMS, KINDS, Line, MARK, MOST_DIGITS, MOST_NAME_BYTES, NAME, NUMBER, OF_TREES, OPERATORS, any_of, fault_of_int,
+    fields, int_of, record_of_line, visible,
 )  # fmt: skip
 
 TAB = b"\t"
@@ -50,14 +50,7 @@ def number_fault(word: bytes, name: str) -> str | None:
 
 
 # The words after the first one, of the commands that have a fixed number of them.
-FIXED_WORDS: dict[bytes, tuple[str, ...]] = {
-    b"load": (), b"batch": (), b"scan": ("NAME",), b"image": ("NAME",), b"drop": ("NAME",), b"drain": ("NAME",), b"rebuild": ("NAME",),
-    b"build": ("NAME", "N"), b"sums": ("NAME", "G", "COLUMN"),
-}  # fmt: skip
-
-
-# The commands of a tree, which may be that of the rows.
-OF_TREES = (b"scan", b"sums", b"image", b"drain", b"rebuild")
+FIXED_WORDS = {word: form.text.split()[1:] for word, form in COMMANDS.items() if form.words is None}
 ALL_ROWS = ": the rows are 'primary', and an index has its own name"
 
 

@@ -10,62 +10,68 @@ Bytes stay bytes: a script, a line, a name, a kind and a field are bytes, and wh
 
 import re
 from functools import cached_property
-from typing import Callable, Iterable, Iterator, TypeAlias
+from typing import Callable, Iterable, Iterator, Literal, NamedTuple, TypeAlias
+
+from .limits import *  # noqa: F403
+from .limits import MOST_TEXT_BYTES
 
 # The names and kinds of columns, in order.
 Columns: TypeAlias = list[tuple[bytes, bytes]]
 
 # ---- commands ----
 
-# Each command with its form. A block follows those that have a closing line.
-FORMS = {
-    b"table": "table F C L K name:kind ..",
-    b"load": "load",
-    b"batch": "batch",
-    b"get": "get record",
-    b"scan": "scan NAME",
-    b"sums": "sums NAME G COLUMN",
-    b"image": "image NAME",
-    b"index": "index NAME on LIST [include LIST] [where COLUMN OP record]",
-    b"build": "build NAME N",
-    b"drop": "drop NAME",
-    b"drain": "drain NAME",
-    b"rebuild": "rebuild NAME",
+
+class Form(NamedTuple):
+    """What tools have to know of a command."""
+
+    text: str  # the form of its line
+    reply: tuple[bytes, ...]  # the first words of the lines of its reply
+    changes: Literal["nothing", "the table", "all trees", "its tree"] = "nothing"
+    names: Literal["", "a tree", "an index"] = ""  # what its first argument names, of those that are there
+    closing: bytes | None = None  # the closing line of its block
+    block: tuple[bytes, ...] = ()  # the first words of the lines of its block; each bound is given at most once, in this order
+    last: bytes | None = None  # the start of the last line of a reply with several lines
+    words: tuple[int, int] | None = None  # the smallest and the largest number of words in its line, if that varies
+
+
+COMMANDS = {
+    b"table": Form("table F C L K name:kind ..", (b"table",), "the table", words=(6, 21)),
+    b"load": Form("load", (b"loaded",), "all trees", closing=b"."),
+    b"batch": Form("batch", (b"batch",), "all trees", closing=b"end", block=(b"put", b"del", b"ups")),
+    b"get": Form("get record", (b"row", b"none"), words=(2, 99)),
+    b"scan": Form("scan NAME", (b"row", b"rows"), names="a tree", closing=b"go", block=(b"from", b"to"), last=b"rows "),
+    b"sums": Form("sums NAME G COLUMN", (b"sum", b"sums"), names="a tree", closing=b"go", block=(b"from", b"to"), last=b"sums "),
+    b"image": Form("image NAME", (b"image",), names="a tree", last=b"end\n"),
+    b"index": Form("index NAME on LIST [include LIST] [where COLUMN OP record]", (b"index",), "its tree", words=(4, 99)),
+    b"build": Form("build NAME N", (b"build",), "its tree", "an index"),
+    b"drop": Form("drop NAME", (b"dropped",), "the table", "an index"),
+    b"drain": Form("drain NAME", (b"drained",), "its tree", "a tree"),
+    b"rebuild": Form("rebuild NAME", (b"rebuilt",), "its tree", "a tree"),
 }
-
-# The closing line of each block.
-CLOSING = {b"batch": b"end", b"scan": b"go", b"sums": b"go", b"load": b"."}
-
-# The first words of the lines of a block; each bound is given at most once, in this order.
-BLOCK_WORDS = {b"batch": (b"put", b"del", b"ups"), b"scan": (b"from", b"to"), b"sums": (b"from", b"to")}
+FORMS = {word: form.text for word, form in COMMANDS.items()}
+CLOSING = {word: form.closing for word, form in COMMANDS.items() if form.closing}
+BLOCK_WORDS = {word: form.block for word, form in COMMANDS.items() if form.block}
+# The smallest and the largest number of words in a line of each command.
+WORDS = {word: form.words or (len(form.text.split()),) * 2 for word, form in COMMANDS.items()}
+DEFINING = (b"table", b"index", b"build", b"drop")  # create or drop something
+CHANGING = {word for word, form in COMMANDS.items() if form.changes != "nothing"}
+OF_TREES = [word for word, form in COMMANDS.items() if form.names == "a tree"]
+OF_INDEXES = [word for word, form in COMMANDS.items() if form.names == "an index"]
 
 # The words of an upsert's operations, those of them that only an int takes, and the operators of `where`.
 OPERATIONS = (b"set", b"add", b"max", b"min")
 INT_OPERATIONS = OPERATIONS[1:]
 OPERATORS = (b"=", b"<", b">=")
 
-# The smallest and the largest number of words in a line of each command.
-WORDS = {
-    b"table": (6, 21), b"batch": (1, 1), b"get": (2, 99), b"scan": (2, 2), b"image": (2, 2), b"load": (1, 1),
-    b"index": (4, 99), b"build": (3, 3), b"drop": (2, 2), b"sums": (4, 4), b"drain": (2, 2), b"rebuild": (2, 2),
-}  # fmt: skip
-
 NAME = re.compile(rb"[a-z][a-z0-9_]{0,31}")
 NUMBER = re.compile(rb"[0-9]{1,9}")
 BUFFER = re.compile(rb"[0-9]{1,9}b?")
 INDEX = re.compile(rb"index +\S+ +on +(\S+)(?: +include +(\S+))?(?: +where +(\S+) +(=|<|>=) (.*))? *\Z", re.DOTALL)
 
-# ---- limits ----
+# ---- limits that the engine has no constant for ----
 
-MOST_SCRIPT_BYTES = 67_108_864
-MOST_MESSAGES = 65_536  # of a batch
-MOST_COLUMNS, MOST_KEY_COLUMNS = 16, 4
-MOST_INDEXES, MOST_ON, MOST_INCLUDED = 16, 4, 8
-MOST_OPERATIONS = 16  # of an upsert
-MOST_TEXT_BYTES, MOST_NAME_BYTES, MOST_DIGITS = 255, 32, 9
+MOST_NAME_BYTES, MOST_DIGITS = 32, 9
 LEAST_INT, GREATEST_INT = -(2**63), 2**63 - 1
-FANOUTS, LEAVES = range(4, 65), range(2, 1025)
-BUFFERS, BUFFERS_IN_BYTES = range(1, 4097), range(1, 1_048_577)
 
 PRIMARY = b"primary"  # the name of the tree of rows
 MARK = b"\xef\xbb\xbf"  # is dropped once at the start of a record of a line, and of the text of a load
@@ -523,8 +529,8 @@ class Table:
         return [(name, kinds[name]) for name in names]
 
 
-# The commands that create or drop something, and the start of their replies.
-ANSWERS = {b"table": b"table ", b"index": b"index ", b"build": b"build ", b"drop": b"dropped "}
+# The start of the reply to each command that creates or drops something.
+ANSWERS = {word: COMMANDS[word].reply[0] + b" " for word in DEFINING}
 
 
 class State:
@@ -568,7 +574,7 @@ def index_of(line: Line) -> Index:
 
 
 # The start of the last line of a reply with several lines.
-LAST_LINES = {b"scan": b"rows ", b"sums": b"sums ", b"image": b"end\n"}
+LAST_LINES = {word: form.last for word, form in COMMANDS.items() if form.last}
 
 
 def logical_lines(replies: Iterable[bytes]) -> Iterator[bytes]:

@@ -34,7 +34,7 @@ from typing import Any, NoReturn, Protocol, TypeVar
 from ..batches import Batch, script_of_changes
 from ..calls import Calls, Row, as_script, note
 from ..errors import before
-from ..language import PRIMARY, State, Table, commands
+from ..language import CHANGING, DEFINING, PRIMARY, State, Table, commands
 from ..reads import Reads, reader_of
 from ..replies import Place, answered
 from ..rows import layout
@@ -57,8 +57,6 @@ LARGEST_IDLE_LOG = 1 << 24  # bytes that SQLite's log keeps on disk when it is e
 LOG_PAGES, PAGE_BYTES = 1_000, 4_096  # about as many pages are in SQLite's log when it is written back
 ROW_BYTES = 64  # at most, of a row of the log beside its script
 
-CHANGING = {b"table", b"load", b"batch", b"index", b"build", b"drop", b"drain", b"rebuild"}
-DEFINING = {b"table", b"index", b"build", b"drop"}
 # A line that may begin a changing command, the start of the reply to one that is not refused, and the start of a reply to a command that defines something.
 CHANGING_LINE = re.compile(rb"^ *(?:%b)" % b"|".join(sorted(CHANGING)), re.MULTILINE)
 DEFINED = re.compile(rb"^(?:%b)" % b"|".join(sorted(DEFINING)), re.MULTILINE)

@@ -11,9 +11,8 @@ from itertools import islice
 from typing import Any
 
 from ..calls import copied, note, refusal
-from ..durable.table import CHANGING
 from ..figures import picture
-from ..language import PRIMARY, Command, State, commands, counted
+from ..language import CHANGING, PRIMARY, Command, State, commands, counted
 from ..packed import Usage
 from ..replies import BLOCK_BYTES, answered, line_blocks, whole_lines
 from ..rows import rows_of

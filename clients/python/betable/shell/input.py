@@ -12,11 +12,9 @@ from io import TextIOWrapper
 from pathlib import Path
 from typing import BinaryIO, Protocol
 
-from ..language import BLOCK_WORDS, CLOSING, FORMS, KINDS, OPERATIONS, OPERATORS, PRIMARY, State
+from ..language import BLOCK_WORDS, CLOSING, FORMS, KINDS, OF_INDEXES, OF_TREES, OPERATIONS, OPERATORS, PRIMARY, State
 
 HISTORY_LINES = 10_000
-TREE_COMMANDS = (b"scan", b"sums", b"image", b"drain", b"rebuild")
-INDEX_COMMANDS = (b"build", b"drop")
 FILE_COMMANDS = (".import", ".export", ".read")
 
 
@@ -112,9 +110,9 @@ def completions(before: str, state: State, block: bytes | None, dot_commands: It
     word, place = words[0].encode(errors="surrogateescape"), len(words)
     if word.startswith(b"."):
         return _after_dot_command(words, trees)
-    if word in TREE_COMMANDS and place == 1:
+    if word in OF_TREES and place == 1:
         return trees
-    if word in INDEX_COMMANDS and place == 1:
+    if word in OF_INDEXES and place == 1:
         return indexes
     if word == b"sums" and place == 3:
         return columns
