@@ -3,12 +3,12 @@
 
     bench/layers.py [--rows N] [--rounds N]
 
-Rows are an int, a city of 1,000 and a quantity, in random order, in scripts of one batch, and the table has an index on the city that includes the quantity.
-The scripts are made before the clock runs. Shards are processes, of which the bounds take equal parts; rows that go to one shard alone are those of a caller
-that knows the bounds. The replicas are two in this process, of which one runs the scripts and the other runs what the log has at the end; the logs are
+Rows are an int, a city of 1,000 and a quantity, in random order, and the table has an index on the city that includes the quantity. Shards are processes, of
+which the bounds take equal parts; columns of NumPy are put into them, and into one session, a fourth of the rows at a time. The replicas are two in this
+process, of which one runs scripts of one batch, and the other runs what the log has at the end; the scripts are made before the clock runs. The logs are
 redis-server with an append-only file that is synced always, and PostgreSQL, both on this machine with their files in a temporary folder. Rounds take all
-in turn; printed is the middle one, by the clock, and the load of the machine before and after. The library is
-that of BETABLE_LIBRARY, or of out/ of this repository.
+in turn; printed is the middle one, by the clock, and the load of the machine before and after. The library is that of BETABLE_LIBRARY, or of out/ of this
+repository.
 """
 
 from __future__ import annotations
@@ -20,6 +20,7 @@ import sys
 import time
 from collections.abc import Callable, Iterable, Iterator
 from contextlib import contextmanager
+from functools import partial
 from importlib.machinery import SourceFileLoader
 from importlib.util import module_from_spec, spec_from_loader
 from pathlib import Path
@@ -34,11 +35,15 @@ from betable import Session
 from betable.cluster import ProcessShard, Replicas, Sharded
 
 HEAD = "table 16 1024 256 1 id:int city:text qty:int\nindex by_city on city include qty\nbuild by_city 1\n"
-LARGE = 65_536
 SHARDS = (1, 2, 4)
 BATCHES = (100, 1_000, 10_000)
 LOGS = ("redis", "postgresql")
-READS = {"sums of the cities": b"sums by_city 1 qty\ngo\n", "scan of the rows": b"scan primary\ngo\n", "scan of the index": b"scan by_city\ngo\n"}
+PARTS = 4  # in which the columns are put
+READS: dict[str, Callable[[Any], Any]] = {
+    "sums of the cities": lambda table: table.sums("by_city", 1, "qty"),
+    "columns of the rows": lambda table: table.scan_columns(),
+    "columns of the index": lambda table: table.scan_columns("by_city"),
+}
 
 
 def scripts_of(rows: list[tuple[int, str, int]], size: int) -> list[bytes]:
@@ -57,18 +62,18 @@ def run_all(table: Any, scripts: Iterable[bytes]) -> None:
         table.replies(script)
 
 
-def measured(table: Any, rows: list[tuple[int, str, int]]) -> tuple[list[float], list[bytes]]:
+def measured(table: Any, columns: dict[str, Any], has_index: bool) -> tuple[list[float], list[Any]]:
     """The rows a second, and the seconds of each read, with what the reads gave."""
+    count = len(columns["id"])
+    parts = [{name: values[count * part // PARTS : count * (part + 1) // PARTS] for name, values in columns.items()} for part in range(PARTS)]
     with table:
-        table.replies(HEAD)
-        found = [len(rows) / seconds(lambda: run_all(table, scripts_of_rows[id(rows)]))]
-        replies = []
-        for script in READS.values():
-            found.append(seconds(lambda: replies.append(table.replies(script))))
-    return found, replies
-
-
-scripts_of_rows: dict[int, list[bytes]] = {}
+        table.table("id:int city:text qty:int")
+        if has_index:
+            table.index("by_city", "city", "qty")
+        found, given = [count / seconds(lambda: [table.put(part) for part in parts])], []
+        for read in READS.values() if has_index else ():
+            found.append(seconds(lambda: given.append(read(table))))
+    return found, given
 
 
 def sharded(count: int, span: int) -> Sharded:
@@ -76,37 +81,30 @@ def sharded(count: int, span: int) -> Sharded:
 
 
 def shards(rows: list[tuple[int, str, int]], rounds: int) -> None:
-    """One session, tables among shards, and the same with rows that a caller has divided."""
+    """One session, and tables among shards, without an index and with one."""
+    import numpy
+
     span = max(row[0] for row in rows) + 1
-    in_order = sorted(rows)
-    parts = {count: [in_order[len(rows) * place // count : len(rows) * (place + 1) // count] for place in range(count)] for count in SHARDS}
-    divided = {count: [row for part in parts[count] for row in shuffled(part)] for count in SHARDS}
-    for one in (rows, *divided.values()):
-        scripts_of_rows[id(one)] = scripts_of(one, LARGE)
+    columns = {name: numpy.array(values) for name, values in zip(("id", "city", "qty"), zip(*rows))}
     results: dict[str, list[list[float]]] = {}
     for _ in range(rounds):
-        found, wanted = measured(Session(), rows)
-        results.setdefault("one session", []).append(found)
-        for count in SHARDS:
-            found, replies = measured(sharded(count, span), rows)
-            if replies != wanted:
-                sys.exit("layers: shards reply otherwise")
-            alone, _ = measured(sharded(count, span), divided[count])
-            results.setdefault(counted(count), []).append([*found, alone[0]])
-    print(f"| {len(rows):,} rows in batches of {LARGE:,} | rows a second | rows that a caller divides | {' | '.join(READS)} |\n|---|---|---|---|---|---|")
+        wanted = None
+        for name, made in {"one session": Session, **{counted(count): partial(sharded, count, span) for count in SHARDS}}.items():
+            (plain, _), (found, given) = measured(made(), columns, False), measured(made(), columns, True)
+            wanted = wanted or given
+            if given != wanted:
+                sys.exit("layers: shards give other rows")
+            results.setdefault(name, []).append([*plain, *found])
+    print(f"| {len(rows):,} rows | puts a second | with an index | {' | '.join(READS)} |\n|---|---|---|---|---|---|")
     for name, lines in results.items():
-        rate, *reads = [median(parts) for parts in zip(*lines)]
-        alone_rate = f"{round(reads.pop(), -3):,.0f}" if len(reads) > len(READS) else ""
-        print(f"| {name} | {round(rate, -3):,.0f} | {alone_rate} | {' | '.join(f'{1_000 * read:.0f} ms' for read in reads)} |")
+        found = [median(parts) for parts in zip(*lines)]
+        rates, reads = found[:2], found[2:]
+        cells = [f"{round(rate, -3):,.0f}" for rate in rates] + [f"{1_000 * read:.0f} ms" for read in reads]
+        print(f"| {name} | {' | '.join(cells)} |")
 
 
 def counted(count: int) -> str:
     return f"{count} shard" + "s" * (count > 1)
-
-
-def shuffled(rows: list[tuple[int, str, int]]) -> list[tuple[int, str, int]]:
-    random.Random(2).shuffle(rows)
-    return rows
 
 
 def replicas(rows: list[tuple[int, str, int]], rounds: int) -> None:

@@ -1,17 +1,18 @@
-"""Tests of tables among shards and on replicas: what they reply is what one session replies, byte for byte. tools/crash has the same at length.
+"""Tests of tables among shards and on replicas: their calls give what those of one session give. tools/crash has the same of replicas at length.
 
-Replicas are tested over a log in this process, and over redis-server and PostgreSQL, with their processes killed and by server_logs.py, and shards over Dask
-too. Where one of these is not installed a line says so, and what needs it passes without a look. Debian's modules are those of /usr/bin/python3, which runs
-these tests."""
+Replicas are tested over a log in this process, and over redis-server and PostgreSQL, with their processes killed and by server_logs.py. A test is skipped where
+one of these is not installed. Debian's modules are those of /usr/bin/python3, which runs these tests."""
 
 import os
 import pickle
+import random
 import re
 import shutil
 import signal
 import subprocess
 import sys
 import tempfile
+from array import array
 from functools import cache, partial
 from hashlib import sha256
 from pathlib import Path
@@ -41,199 +42,156 @@ def setUpModule():
 
 
 def sharded(*bounds):
-    """A table among shards in this process."""
-    package = betable()
-    return package.cluster.sharded.Sharded([package.cluster.shards.LocalShard() for _ in range(len(bounds) + 1)], [(bound,) for bound in bounds])
+    """A table among shards in processes."""
+    cluster = betable().cluster
+    return cluster.Sharded([cluster.ProcessShard() for _ in range(len(bounds) + 1)], [bound if isinstance(bound, tuple) else (bound,) for bound in bounds])
+
+
+ROWS = [(number * 37 % 100 - 20, f"x{number % 7},\n"[: number % 4], number) for number in range(100)]
+READS = (
+    lambda one: one.scan(),
+    lambda one: one.scan("primary", (-3,), (40,)),
+    lambda one: one.scan(limit=60),
+    lambda one: one.scan(after=(29,), limit=7),
+    lambda one: one.scan("c"),
+    lambda one: one.scan("c", ("O",), ("P",)),
+    lambda one: one.scan("c", limit=7),
+    lambda one: one.scan("c", ("x",), after=one.scan("c")[9][:2], limit=7),
+    lambda one: one.scan_columns(),
+    lambda one: one.scan_columns("c", ("x",), limit=30),
+    lambda one: one.scan_columns("c", ("z",)),
+    lambda one: one.sums("c", 1, "qty"),
+    lambda one: one.sums("primary", 1, "qty", (7,), (77,)),
+    lambda one: [one.get(key) for key in (-20, -1, 0, 5, 29, 30, 79, 80)],
+)
 
 
 class Shards(TestCase):
-    def test_shards_reply_as_one_session_does(self):
-        """Scripts of every command at random, over 1 to 4 shards in this process, and a few in processes."""
-        betable()
-        crash = imported("tools/crash/shards")
-        comparison = crash.Comparison()
-        for number in range(400):
-            comparison.take(number, 2, lambda count: [crash.LocalShard() for _ in range(count)])
-        for number in range(6):
-            comparison.take(number, 3, lambda count: [crash.ProcessShard() for _ in range(count)])
-        self.assertEqual(comparison.differences, [])
-        self.assertGreater(comparison.refusals, 1_000)
-
-    def test_batches_are_applied_by_all_shards_or_by_none(self):
-        """The lowest refusal of all parts is replied, with its place in the whole batch."""
-        with sharded(10, 20) as table:
-            table.replies(TABLE + INDEX)
-            for messages, wanted in [
-                (["put 1,a,1", "put 15,b,1", "put 25,c,x", "put 2,d,x"], b"refused 6 BadField 3\n"),
-                (["put 1,a", "put 15,b,x", "put 25,c,1"], b"refused 6 BadField 2\n"),
-                (["put 25,a", "put 1,b,1", "ups 15,add,city,1"], b"refused 7 BadLength 1\n"),
-                (["put 1,a,1", "ups 15,add,city,1", "ups 25,add,no,1"], b"refused 15 NoSuchColumn\n"),
-                (["put 1,a,1", "put 15,b,x", "pat 25"], b"refused 1 Syntax\n"),
-                (["del 1", "del 15"] * 32_769, b"refused 10 TooMany\n"),
-            ]:
-                self.assertEqual(table.replies("\n".join(["batch", *messages, "end\nscan primary\ngo\n"])), wanted + b"rows 0\n")
-            self.assertEqual(
-                table.replies("batch\nput 1,a,1\n put 25,c,1\n\nput 15,b,1\r\nput 05,d,2\nend\nsums c 1 qty\ngo\n").split(b"\n")[0], b"batch 4 c:4"
-            )
-            self.assertEqual(table.replies("scan primary\nfrom 2\nto 25\ngo\n"), b"row 5,d,2\nrow 15,b,1\nrows 2\n")
-
-    def test_steps_of_building_go_on_in_the_next_shard(self):
-        with sharded(10, 20) as table, betable().Session() as session:
-            for script in [
-                TABLE + "batch\n" + "".join(f"put {key},x,{key}\n" for key in (1, 2, 3, 21, 22)) + "end\nindex q on qty\nbuild q 2\n",
-                "batch\nput 1,y,5\nput 3,y,6\nput 21,y,7\nend\nscan q\ngo\n",
-                "build q 0\nbuild q 2\nbatch\nput 3,z,1\nput 11,z,2\nput 21,z,3\nput 22,z,4\nend\n",
-                "build q 1\nbuild q 1\nbuild q 1\nbuild q x\nscan q\ngo\nsums q 1 id\ngo\ndrop q\nbuild q 1\n",
-            ]:
-                self.assertEqual(table.replies(script), session.replies(script))
-
-    def test_odd_texts_are_in_their_shards(self):
-        """Records that are points, line breaks and quotes that are never closed in a load, marks, and ints with more zeros than Python reads."""
-        for table_line, bounds, script in [
-            ("table 4 3 2 1 k:text\n", ["b"], 'load\nk\r.\rc\r"b\n"\r\n"b\r.\rc"\na\n.\nscan primary\ngo\n'),
-            (TABLE, [5], "".join(f"batch{head}\n{line}\nput 1,a,1\nput 9,b,1\nend\n" for head, line in [(" \t", ""), ("\t", ""), ("  ", "\r\r"), ("", " \r")])),
-            (TABLE, [5], "image primary \t\nimage primary\t\nload \t\nid,city,qty\n1,a,1\n.\nscan primary \t\ngo\nsums primary 1\tid\ngo\n"),
-            (TABLE, [5], "index q on qty\nbuild q \t 1\nbuild q 1 \r\nget 1\t\ndrop q\x0b\nscan q\ngo\n"),
-            ("table 4 3 2 1 k:text w:text\n", ["b"], 'load\n\nk,w\na,1\rc,"open\n.\nscan primary\ngo\n'),
-            ("table 4 3 2 1 k:text w:text\n", ["b"], "load\n\n\ufeffk,w\na,1\rc,2\n.\nload\n\ufeffk,w\na,1\nc,2\n.\nget \ufeffc\nget \ufeff\ufeffc\n"),
-            (
-                TABLE,
-                [5],
-                f"batch\nput {'0' * 5_000}7,a,1\nput -{'0' * 5_000}7,b,2\n put \"6\",c,3\nput \ufeff8,d,4\nend\nscan primary\nto {'0' * 5_000}7\ngo\n",
-            ),
-        ]:
-            with sharded(*bounds) as table, betable().Session() as session:
-                self.assertEqual(table.replies(table_line + script), session.replies(table_line + script))
-
-    def test_what_shards_cannot_reply_is_refused_by_name(self):
-        """And what was carried out before it is reported."""
-        not_sharded = betable().cluster.sharded.NotSharded
-        with sharded(10) as table:
-            self.assertEqual(table.replies("image primary\nload x\n.\n"), b"refused 3 NoTable\nrefused 1 Syntax\n")
-            table.replies(TABLE)
-            self.assertEqual(table.replies("image c\n"), b"refused 8 NoSuchTree\n")
-            fault = raised(not_sharded, lambda: table.replies("get 1\n\nimage primary\nget 2\n"))
-            self.assertEqual((fault.line, fault.replies, pickle.loads(pickle.dumps(fault)).line), (3, b"none\n", 3))
-            self.assertIn("image primary", str(fault))
-            load = "load\nid,city,qty\n1,a,1\n11,b,2\n.\n"
-            self.assertEqual(table.replies(load + load), b"loaded 2\nrefused 13 NotEmpty\n")
-            fault = raised(not_sharded, lambda: table.replies("batch\ndel 1\nend\n" + load))
-            self.assertEqual((fault.line, fault.replies), (4, b"batch 1\n"))
-            self.assertIn("rebuild primary", str(fault))
-            self.assertEqual(table.replies("rebuild primary\n" + load), b"rebuilt primary\nrefused 13 NotEmpty\n")
-            replies = table.replies("batch\ndel 11\nend\nrebuild primary\nload\nid,city,qty\n11,a,x\n.\n" + load)
-            self.assertEqual(replies, b"batch 1\nrebuilt primary\nrefused 6 BadField 1\nloaded 2\n")
-            self.assertEqual(table.is_lost, False)
-
-    def test_bounds_are_keys_of_the_table(self):
-        package = betable()
-        for bounds, part in [
-            ([("a",)], "bound 1 has 'a', which is no value of column 'id' (int)"),
-            ([(True,)], "bound 1 has True"),
-            ([(2**63,)], "over the largest int"),
-            ([(1, 2)], "bound 1 has 2 values, and the key has 1 column"),
-            ([()], "bound 1 has 0 values"),
-            ([(2,), (2,)], "bound 2, (2,), is not after bound 1, (2,)"),
-        ]:
-            with package.cluster.sharded.Sharded([package.cluster.shards.LocalShard() for _ in range(len(bounds) + 1)], bounds) as table:
-                self.assertEqual(table.replies("table 3 1 2 1 id:int\n"), b"refused 20 BadShape\n")
-                self.assertIn(part, str(raised(package.cluster.sharded.NotSharded, lambda table=table: table.replies(TABLE))))
-                self.assertEqual(table.replies("get 1\n"), b"refused 3 NoTable\n")
-        self.assertEqual(type_of_fault(lambda: package.cluster.sharded.Sharded([package.cluster.shards.LocalShard()], [(1,)])), ValueError)
-        self.assertEqual(type_of_fault(lambda: package.cluster.sharded.Sharded([], [])), ValueError)
-
     def test_calls_on_shards_are_those_of_a_session(self):
+        """Rows and columns that are put, and all reads, with an index that was made before rows and one that was made after some."""
         package = betable()
-        rows = [(number * 37 % 100 - 20, f"x{number % 7},\n"[: number % 4], number) for number in range(100)]
         with sharded(0, 30) as table, package.Session() as session:
             for one in (table, session):
-                one.run(TABLE + INDEX)
-                self.assertEqual(one.load(rows), 100)
-                self.assertEqual(one.put([(5, "Oslo", 1), (-5, "Oslo", 2), (50, "Oslo", 3)]), 3)
-            for call in (
-                lambda one: one.scan(),
-                lambda one: one.scan("c", ("O",), ("P",)),
-                lambda one: one.sums("c", 1, "qty"),
-                lambda one: one.scan("c", limit=7),
-                lambda one: one.scan("c", ("x",), after=one.scan("c")[9][:2], limit=7),
-                lambda one: list(one.iterate("c", page=7)),
-                lambda one: one.columns("c"),
-                lambda one: [one.get(key) for key in (-20, 5, 79, 80)],
-                lambda one: one.run("batch\ndel 5\ndel 50\nend\nscan primary\nfrom 4\nto 6\ngo\n")[1].rows,
-                lambda one: str(raised(package.Refused, lambda: one.batch([package.delete(1), package.upsert(50, add={"id": 1})]))),
-            ):
-                self.assertEqual(call(table), call(session))
+                one.table("id:int city:text qty:int", fanout=4, buffer=8, leaf=4)
+                one.index("c", "city", "qty")
+                self.assertEqual([one.put(rows) for rows in ([], (row for row in ROWS), [{"qty": 1, "id": 5, "city": "Oslo"}, (50, "Oslo", 3)])], [0, 100, 2])
+                one.index("large", "qty", where=("qty", ">=", 90))
+                self.assertEqual(one.put({"qty": [7, 8, 9], "id": array("q", [70, -7, 7]), "city": ["a", "b", "c"]}), 3)
+            for number, call in enumerate((*READS, lambda one: one.scan("large"))):
+                with self.subTest(number=number):
+                    self.assertEqual(call(table), call(session))
+
+    def test_rows_of_random_tables_are_those_of_a_session(self):
+        """Keys of one and two columns of each kind, with bounds among them; later rows take the place of earlier ones."""
+        package, dice = betable(), random.Random(5)
+        values = {"int": range(-9, 9), "text": ["", "a", "a\0", "ab", "æ", "\ufeff", "z" * 255], "flag": [False, True], "bytes": [b"", b"\0", b"\xff", b"ab"]}
+        for number in range(12):
+            kinds = [dice.choice(list(values)) for _ in range(3)]
+            keys = dice.randrange(1, 3)
+            draw = lambda count: tuple(dice.choice(values[kind]) for kind in kinds[:count])  # noqa: E731
+            bounds = sorted({draw(dice.randrange(1, keys + 1)) for _ in range(dice.randrange(4))})
+            with self.subTest(number=number, bounds=bounds), sharded(*bounds) as table, package.Session() as session:
+                for one in (table, session):
+                    one.table([(f"c{place}", kind) for place, kind in enumerate(kinds)], keys)
+                    one.index("i", ("c2", "c0"))
+                for _ in range(4):
+                    rows = [draw(3) for _ in range(dice.randrange(40))]
+                    given = rows if dice.random() < 0.5 else {f"c{place}": list(column) for place, column in enumerate(zip(*rows))} if rows else []
+                    self.assertEqual(table.put(given), session.put(given))
+                for call in (lambda one: one.scan(), lambda one: one.scan("i"), lambda one: one.sums("i", 1, "c0") if kinds[0] == "int" else None):
+                    self.assertEqual(call(table), call(session))
+
+    def test_columns_of_numpy_are_divided(self):
+        try:
+            import numpy
+        except ImportError:
+            self.skipTest("NumPy is not installed")
+        ids = numpy.arange(1_000) * 7 % 1_000 - 300
+        columns = {"id": ids, "city": numpy.array([f"city{number % 9}" for number in range(1_000)]), "qty": ids * 2}
+        with sharded(-100, 0, 500) as table, betable().Session() as session:
+            for one in (table, session):
+                one.table("id:int city:text qty:int")
+                self.assertEqual(one.put(columns), 1_000)
+                self.assertEqual(one.put({name: values[:0] for name, values in columns.items()}), 0)
+            self.assertEqual(table.scan(), session.scan())
+
+    def test_a_row_at_fault_is_that_of_the_call(self):
+        """Of several the first one. The shard that refuses it changes nothing, and the others put theirs."""
+        wrong = (
+            [(1, "a", 1), (150, "b", 2), (3, "c", "x")],
+            [(1, "a", 1), (150, 5, 2), (3, "c", "x")],
+            [(1, "a", 1), (150,)],
+            [(1, "a", 1), 5],
+            {"id": [1, 150, 3], "city": ["a", 5, "c"], "qty": [1, 2, 3]},
+            {"id": [1, 150, 2**70], "city": ["a", "b", "c"], "qty": [1, 2, 3]},
+            {"id": [1, 2], "city": ["a"], "qty": [1, 2]},
+            {"id": [1]},
+            7,
+        )
+        for number, rows in enumerate(wrong):
+            with self.subTest(number=number), sharded(100) as table, betable().Session() as session:
+                for one in (table, session):
+                    one.table("id:int city:text qty:int")
+                faults = [fault_of(lambda one=one: one.put(rows)) for one in (table, session)]
+                self.assertEqual(*[(type(fault), str(fault), getattr(fault, "row", None)) for fault in faults])
+                self.assertEqual((session.scan(), [row[0] for row in table.scan()]), ([], [[150], [], [1], [], [1, 3], [1], [], [], []][number]))
+
+    def test_bounds_are_keys_of_the_table(self):
+        cluster = betable().cluster
+        for bounds in ([], [(1,), (2,)], [(2,), (1,), (3,)], [(1,), (1,), (2,)], [(), (1,), (2,)]):
+            with self.subTest(bounds=bounds):
+                self.assertIs(type_of_fault(lambda: cluster.Sharded([None] * 4, bounds)), ValueError)
+        for bound, kind in (("a", "RowTypeError"), ((1, 2), "RowValueError"), (2**63, "Refused")):
+            with self.subTest(bound=bound), sharded(bound) as table:
+                self.assertEqual(type_of_fault(lambda: table.table("id:int city:text")).__name__, kind)
+                self.assertEqual(fault_of(table.scan).name, "NoTable")
 
     def test_a_killed_shard_loses_the_table(self):
         package = betable()
-        shards = [package.cluster.shards.ProcessShard() for _ in range(2)]
-        with package.cluster.sharded.Sharded(shards, [(10,)]) as table:
-            table.replies(TABLE)
-            shards[1].process.kill()
-            shards[1].process.wait()
-            self.assertEqual(table.replies("get 1\n"), b"none\n")
-            lost = raised(package.cluster.sharded.ShardLost, lambda: table.replies("batch\nput 1,a,1\nput 11,a,1\nend\n"))
+        with sharded(10) as table:
+            table.table("id:int")
+            process = table._shards[1].process
+            process.kill()
+            process.wait()
+            self.assertIsNone(table.get(1))
+            lost = raised(package.cluster.ShardLost, lambda: table.put([(1,), (11,)]))
             self.assertEqual((lost.shard, table.is_lost, pickle.loads(pickle.dumps(lost)).shard), (1, True, 1))
-            self.assertEqual(type_of_fault(lambda: table.replies("get 1\n")), package.cluster.sharded.ShardLost)
+            self.assertEqual(type_of_fault(lambda: table.get(1)), package.cluster.ShardLost)
+        self.assertEqual(type_of_fault(table.scan), ValueError)
 
     def test_a_shard_that_hangs_loses_the_table(self):
-        """Its process is stopped: it takes no more of a script that is longer than the pipe to it, or gives no reply. A durable table makes its shards
-        again."""
-        package = betable()
+        """Its process is stopped: it takes no more of rows that are longer than the pipe to it, or gives no reply."""
+        cluster = betable().cluster
         for wrong in (0, -1, 1.9, float("inf"), float("nan")):
-            self.assertEqual(type_of_fault(lambda wrong=wrong: package.cluster.shards.ProcessShard(patience=wrong)), ValueError)
-        shards = [package.cluster.shards.ProcessShard(patience=4) for _ in range(2)]
-        with package.cluster.sharded.Sharded(shards, [(10,)]) as table:
-            table.replies(TABLE)
-            os.kill(shards[1].process.pid, signal.SIGSTOP)
-            batch = "batch\n" + "put 11,a,1\n" * 400_000 + "end\n"
-            self.assertEqual(raised(package.cluster.sharded.ShardLost, lambda: table.replies(batch)).shard, 1)
-            self.assertEqual(
-                (shards[1].process.returncode, type_of_fault(lambda: table.replies("get 1\n"))), (-signal.SIGKILL, package.cluster.sharded.ShardLost)
-            )
-        with tempfile.TemporaryDirectory() as folder:
-            made = []
-
-            def make():
-                made.append([package.cluster.shards.ProcessShard(patience=4) for _ in range(2)])
-                return package.cluster.sharded.Sharded(made[-1], [(10,)])
-
-            with package.durable.open(os.path.join(folder, "table"), make=make) as table:
-                table.replies(TABLE + "batch\nput 1,a,1\nput 11,a,1\nend\n")
-                os.kill(made[0][0].process.pid, signal.SIGSTOP)
-                batch = "batch\nups 1,add,qty,1\nups 11,add,qty,1\nend\nscan primary\ngo\n"
-                self.assertEqual(type_of_fault(lambda: table.replies(batch)), package.durable.RolledBack)
-                self.assertEqual(table.replies(batch), b"batch 2\nrow 1,a,2\nrow 11,a,2\nrows 2\n")
-            self.assertEqual([[shard.process.returncode for shard in shards] for shards in made], [[-signal.SIGKILL, 0], [0, 0]])
+            self.assertEqual(type_of_fault(lambda wrong=wrong: cluster.ProcessShard(patience=wrong)), ValueError)
+        for count in (1, 400_000):
+            with self.subTest(count=count), cluster.Sharded([cluster.ProcessShard(patience=4) for _ in range(2)], [(10,)]) as table:
+                table.table("id:int")
+                os.kill(table._shards[1].process.pid, signal.SIGSTOP)
+                lost = raised(cluster.ShardLost, lambda: table.put({"id": [11] * count}))
+                self.assertEqual((lost.shard, "gave no sign of life for 4 s" in str(lost.__cause__)), (1, True))
+            self.assertEqual(table._shards[1].process.returncode, -signal.SIGKILL)
 
     def test_a_shard_that_works_for_longer_than_the_patience_is_not_lost(self):
         """It gives signs of life meanwhile."""
-        code = "import time; from betable.cluster import shard; shard.SIGN_SECONDS = 0.1; shard.Worker.run = lambda *_: time.sleep(6) or b'done'; shard.main()"
-        shard = betable().cluster.shards.ProcessShard([sys.executable, "-P", "-c", code], patience=4)
-        self.assertEqual(shard.call("run", b"")(), b"done")
+        code = "import time; from betable.cluster import shard; shard.Shard._carried_out = lambda *_: time.sleep(6) or 'done'; shard.main()"
+        shard = betable().cluster.ProcessShard([sys.executable, "-P", "-c", code], patience=4)
+        shard.send("scan")
+        self.assertEqual(shard.receive(), "done")
         shard.close()
 
-    def test_a_durable_table_makes_its_shards_again(self):
-        betable()
-        self.assertEqual(imported("tools/crash/shards").durable_is_equal(2, 3), True)
-
     def test_shards_are_started_by_a_command(self):
-        """As one of ssh would be. What does not speak as a shard is one that is lost."""
-        package = betable()
-        shard = package.cluster.shards.ProcessShard(["env", sys.executable, "-P", "-m", "betable.cluster.shard"])
-        with package.cluster.sharded.Sharded([package.cluster.shards.LocalShard(), shard], [(10,)]) as table:
-            self.assertEqual(
-                table.replies(TABLE + "batch\nput 1,a,1\nput 11,b,1\nend\nscan primary\ngo\n"), b"table 3\nbatch 2\nrow 1,a,1\nrow 11,b,1\nrows 2\n"
-            )
-        self.assertEqual((type_of_fault(lambda: table.replies("get 1\n")), type_of_fault(table.scan)), (ValueError, ValueError))
-        for command in (["echo", "welcome"], ["echo", "done 5"], ["true"], ["cat"]):
-            with package.cluster.sharded.Sharded([package.cluster.shards.LocalShard(), package.cluster.shards.ProcessShard(command)], [(10,)]) as table:
-                self.assertEqual((raised(package.cluster.sharded.ShardLost, lambda table=table: table.replies(TABLE)).shard, table.is_lost), (1, True))
-
-    def test_shards_are_actors_of_dask(self):
-        skip_without(self, "dask")
-        # The processes of Dask that take the place of killed ones may print faults of their own when the cluster ends.
-        run(self, "tools/crash/shards", "--scripts", "0", "--processes", "0", "--kills", "0", "--dask", "8", is_silent=False)
+        """As one of ssh would be. What does not speak as a shard is one that is lost, and a shard carries out its calls alone."""
+        cluster = betable().cluster
+        shard = cluster.ProcessShard(["env", sys.executable, "-P", "-m", "betable.cluster.shard"])
+        with cluster.Sharded([cluster.ProcessShard(), shard], [(10,)]) as table:
+            table.table("id:int city:text")
+            self.assertEqual((table.put([(1, "a"), (11, "b")]), table.scan()), (2, [(1, "a"), (11, "b")]))
+            shard.send("run", "drop primary\n")
+            self.assertEqual(str(shard.receive()), "run is no call of a shard")
+        for command in (["echo", "welcome"], ["true"], ["cat"]):
+            with self.subTest(command=command), cluster.Sharded([cluster.ProcessShard(), cluster.ProcessShard(command)], [(10,)]) as table:
+                self.assertEqual((raised(cluster.ShardLost, lambda: table.table("id:int")).shard, table.is_lost), (1, True))
 
 
 # ---- replicas ----
@@ -576,7 +534,7 @@ class Replicas(TestCase):
         package, log, letters = betable(), Log(), betable().cluster.replicas.MOST_REPLY_LETTERS
         add = b"batch\nups 1,add,qty,1\nend\nget 1\n"
         try:
-            with package.cluster.replicas.Replicas(log) as one, package.cluster.replicas.Replicas(log, make=lambda: sharded(10)) as two:
+            with package.cluster.replicas.Replicas(log) as one, package.cluster.replicas.Replicas(log) as two:
                 one.run(TABLE)
                 self.assertEqual(one.once("id", add), b"batch 1\nrow 1,,1\n")
                 log.add("id", add)
@@ -644,18 +602,6 @@ class Replicas(TestCase):
             self.assertEqual(one.get(1), (1, "a", 2))
         self.assertEqual(type_of_fault(lambda: one.replies("get 1\n")), ValueError)
 
-    def test_replicas_may_have_shards(self):
-        """What shards cannot reply is reported to the caller, at the same place on each replica, and changes none."""
-        package, log = betable(), Log()
-        made = lambda: sharded(10, 20)  # noqa: E731
-        with package.Session() as session, package.cluster.replicas.Replicas(log, make=made) as one, package.cluster.replicas.Replicas(log, make=made) as two:
-            one.run(TABLE + INDEX)
-            session.run(TABLE + INDEX)
-            fault = raised(package.cluster.sharded.NotSharded, lambda: two.replies("batch\nput 1,a,1\nput 11,b,1\nend\nimage c\n"))
-            self.assertEqual((fault.replies, fault.line), (b"batch 2 c:2\n", 5))
-            session.put([(1, "a", 1), (11, "b", 1)])
-            self.assertEqual(one.replies("scan c\ngo\n"), session.replies("scan c\ngo\n"))
-
     def test_logs_are_named_by_urls(self):
         log_of = betable().cluster.logs.log_of
         for url, name in (("http://127.0.0.1", "betable"), ("betable", "betable"), ("redis://127.0.0.1", "a b"), ("redis://127.0.0.1", "A")):
@@ -664,7 +610,7 @@ class Replicas(TestCase):
 
     def test_replicas_over_redis_are_killed_and_come_back(self):
         skip_without(self, "redis")
-        run(self, "tools/crash/replicas", "redis", "--scripts", "60", "--kills", "5", "--server-kills", "1", "--checkpoints", "2", "--sharded")
+        run(self, "tools/crash/replicas", "redis", "--scripts", "60", "--kills", "5", "--server-kills", "1", "--checkpoints", "2")
 
     def test_replicas_over_postgresql_are_killed_and_come_back(self):
         skip_without(self, "postgresql")
@@ -697,7 +643,7 @@ class ThePage(TestCase):
         """Those of docs/CLUSTER.md, by the lines after them. The one of replicas has a separate server."""
         library()
         programs = re.findall(r"```python\n(.*?)```\n\n```text\n(.*?)```", (TOP / "docs/CLUSTER.md").read_text(), re.DOTALL)
-        self.assertEqual(len(programs), 3)
+        self.assertEqual(len(programs), 2)
         for program, wanted in programs:
             if "Replicas" in program:
                 if not missing("redis"):
@@ -724,7 +670,7 @@ def raised(kind, call):
 
 
 # The program, or its folder, and the module that a test needs.
-NEEDED = {"redis": ("redis-server", "redis"), "postgresql": ("/usr/lib/postgresql", "psycopg2"), "dask": ("sh", "distributed")}
+NEEDED = {"redis": ("redis-server", "redis"), "postgresql": ("/usr/lib/postgresql", "psycopg2")}
 
 
 @cache
@@ -741,8 +687,8 @@ def skip_without(test, what):
         test.skipTest(f"{name} is not installed")
 
 
-def run(test, *words, is_silent=True):
+def run(test, *words):
     library()
     ended = subprocess.run([PYTHON, TOP / words[0], *words[1:]], capture_output=True, text=True, timeout=2 * SECONDS)
-    test.assertEqual((ended.returncode, ended.stderr if is_silent or ended.returncode else ""), (0, ""))
+    test.assertEqual((ended.returncode, ended.stderr), (0, ""))
     test.assertIn(" 0 differences", ended.stdout)

@@ -54,6 +54,14 @@ def durable():
     return betable().durable
 
 
+class Layer:
+    """A layer over a session, which replies to scripts alone."""
+
+    def __init__(self):
+        session = betable().Session()
+        self.replies, self.close = session.replies, session.close
+
+
 class Folder(TestCase):
     def setUp(self):
         folder = tempfile.TemporaryDirectory()
@@ -381,12 +389,7 @@ class LogsOfPackedChanges(Folder):
 
     def test_a_layer_over_sessions_runs_packed_changes_as_scripts(self):
         """All kinds, messages and operations. A text with a line break is none of a script, and a checkpoint puts it in place of the log."""
-        cluster = __import__("betable.cluster").cluster
         dice, client = random.Random(3), betable()
-
-        def sharded():
-            return cluster.Sharded([cluster.LocalShard(), cluster.LocalShard()], [(10,)])
-
         with durable().open(self.path) as table:
             table.run(SCHEMA)
             for number in range(60):
@@ -395,16 +398,16 @@ class LogsOfPackedChanges(Folder):
                 changes = {"add": {"n": 1}, "set": {"note": row[1], "ok": True, "raw": b"\0"}, "min": {"hi": -5}}
                 table.batch([client.upsert(number, row[0], **changes), client.delete(number - 9, "")])
             wanted = table.scan()
-        with durable().open(self.path, make=sharded) as table:
+        with durable().open(self.path, make=Layer) as table:
             self.assertEqual(table.scan(), wanted)
         with durable().open(self.path) as table:
             table.put([(99, "a\nb", 0, 0, 0, "", True, b"")])
             wanted = table.scan()
         with self.assertRaisesRegex(ValueError, "'a.nb' has a line break"):
-            durable().open(self.path, make=sharded)
+            durable().open(self.path, make=Layer)
         with durable().open(self.path) as table:
             table.checkpoint()
-        with durable().open(self.path, make=sharded) as table:
+        with durable().open(self.path, make=Layer) as table:
             self.assertEqual(table.scan(), wanted)
 
 
@@ -439,11 +442,8 @@ class ReplicasOfPackedChanges(TestCase):
             self.assertEqual(one.once("id", text), session.replies(text))
             self.assertEqual((other.once("id", text), other.scan(), other.position), (session.replies(text), [(1, 1)], 2))
 
-    def test_a_replica_over_shards_has_the_same_rows(self):
-        def sharded():
-            return self.cluster.Sharded([self.cluster.LocalShard(), self.cluster.LocalShard()], [(10,)])
-
-        with self.cluster.Replicas(self.log) as one, self.cluster.Replicas(self.log, make=sharded) as other:
+    def test_a_replica_over_a_layer_has_the_same_rows(self):
+        with self.cluster.Replicas(self.log) as one, self.cluster.Replicas(self.log, make=Layer) as other:
             one.run("table 4 6 3 1 id:int n:int\n")
             one.upsert_columns({"id": range(20)}, add={"n": range(20)})
             other.put([(5, 50), (15, 150)])

@@ -1,5 +1,5 @@
 """Reads of a table whose scripts are kept, as by a durable table or by a replica. They change nothing, so nothing of them is kept: they are the calls of the
-session that has the table, on packed bytes. A layer over sessions, as shards, replies to scripts alone, so reads go to it by scripts."""
+session that has the table, on packed bytes. A layer over sessions replies to scripts alone, so reads go to it by scripts."""
 
 from __future__ import annotations
 

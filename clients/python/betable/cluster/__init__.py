@@ -12,8 +12,8 @@
         table.put((number, "Oslo", 30) for number in range(1_000_000))
 
 Replicas run the scripts of one ordered log, in a stream of Redis or a table of PostgreSQL, so all of them have the same trees; each answers reads, and any of
-them can be lost. Shards have the rows of one range of the key each, for a table that needs more memory than one machine has. Both have the calls of a session,
-and their replies are those of one session.
+them can be lost, and a replica has the calls of a session. Shards have the rows of one range of the key each, for a table that needs more memory than one
+machine has, and a table among them has the calls on rows and columns.
 
 | Name | What it is |
 |---|---|
@@ -21,23 +21,19 @@ and their replies are those of one session.
 | `Unanswered`, `ReplyForgotten`, `Diverged` | why a call of a replica has no reply |
 | `Unreachable`, `UnusableLog` | why its log cannot be used |
 | `Sharded(shards, bounds)` | a table among shards, whose ranges end at the bounds |
-| `LocalShard`, `ProcessShard`, `DaskShard` | a shard in this process, in another process, or in a worker of Dask |
-| `NotSharded`, `ShardLost`, `ShardEnded` | what shards cannot reply, and a shard that is gone |
+| `ProcessShard(command=.., patience=..)` | a shard in a process, on this machine or another one |
+| `ShardLost`, `ShardEnded` | a shard that is gone |
 
-docs/CLUSTER.md says what is promised, and what happens when something fails. `replicas.py` has the replica and `logs.py` its logs; `sharded.py` divides scripts
-among the shards of `shards.py`, and `shard.py` is the process of one.
+docs/CLUSTER.md says what is promised, and what happens when something fails. `replicas.py` has the replica and `logs.py` its logs; `sharded.py` divides rows
+among shards, and `shard.py` is the process of one.
 """
 
 from .logs import Unreachable, UnusableLog
 from .replicas import Diverged, Replicas, ReplyForgotten, Unanswered
-from .sharded import NotSharded, Sharded, ShardLost
-from .shards import DaskShard, LocalShard, ProcessShard, ShardEnded
+from .sharded import ProcessShard, Sharded, ShardEnded, ShardLost
 
 __all__ = [
-    "DaskShard",
     "Diverged",
-    "LocalShard",
-    "NotSharded",
     "ProcessShard",
     "Replicas",
     "ReplyForgotten",

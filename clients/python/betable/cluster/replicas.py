@@ -35,7 +35,6 @@ from ..reads import Reads, reader_of
 from ..replies import answered
 from ..session import Session
 from .logs import ANOTHER_CHECKPOINT, LONGEST_WAIT, Checkpoint, Entry, Log, Unreachable, UnusableLog, check_request_id, log_of
-from .sharded import NotSharded
 
 T = TypeVar("T")
 # The number of last requests that a replica knows, the same for all replicas of a log, and the largest size of their replies.
@@ -85,23 +84,17 @@ class Diverged(Exception):
 
 
 class Outcome(NamedTuple):
-    """What a request gave: the checksum of its script, its replies, or None if they are not kept, and if shards could not reply, why and in which line."""
+    """What a request gave: the checksum of its script, and its replies, or None if they are not kept."""
 
     script: int
     replies: str | None
-    fault: tuple[str, int] | None
 
     def given(self) -> bytes | None:
-        if self.replies is None:
-            return None
-        replies = self.replies.encode()
-        if self.fault:
-            raise NotSharded(*self.fault, replies)
-        return replies
+        return None if self.replies is None else self.replies.encode()
 
 
 class Outcomes:
-    """What the last requests gave. All replicas know the same ones at a position, also where their replies differ since some have shards."""
+    """What the last requests gave. All replicas know the same ones at a position."""
 
     def __init__(self, found: dict[str, list[Any]] | None = None) -> None:
         self.found = {request_id: Outcome(*parts) for request_id, parts in (found or {}).items()}
@@ -374,8 +367,6 @@ class Replicas(Reads):
         """What a call of the runner gives. One that fails leaves it in an unknown state, so that it goes."""
         try:
             return call(self._ready())
-        except NotSharded:
-            raise
         except BaseException:
             self._drop()
             raise
@@ -406,13 +397,9 @@ class Replicas(Reads):
             raise
 
     def _outcome(self, script: bytes) -> Outcome:
-        fault = None
-        try:
-            replies = applied(self._ready(), script, self._state) if script.startswith(MAGIC) else self._ready().replies(script)
-        except NotSharded as found:
-            fault, replies = (found.reason, found.line), found.replies
+        replies = applied(self._ready(), script, self._state) if script.startswith(MAGIC) else self._ready().replies(script)
         self._note(script, replies)
-        return Outcome(zlib.crc32(script), replies.decode(), fault)
+        return Outcome(zlib.crc32(script), replies.decode())
 
     def _note(self, script: bytes, replies: bytes) -> None:
         """Takes what a script defines into the state."""

@@ -1,5 +1,4 @@
-"""A shard in a separate process: `python3 -m betable.cluster.shard` carries out the operations on standard input, which `ProcessShard` writes, until that
-ends."""
+"""A shard in a process: `python3 -m betable.cluster.shard` carries out the calls on standard input, which `ProcessShard` sends, until that ends."""
 
 from __future__ import annotations
 
@@ -8,62 +7,56 @@ import signal
 import sys
 import time
 from contextlib import suppress
+from multiprocessing.connection import Connection
 from threading import Lock, Thread
-from typing import IO
+from typing import Any
 
-from ..errors import OutOfMemory
-from .shards import SIGN_SECONDS, WORKING, Worker, read_frame, write_frame
+from ..session import Session
 
-
-def serve(requests: IO[bytes], replies: IO[bytes]) -> None:
-    """Carries out the operations that are read from one stream, and writes each outcome to the other."""
-    worker, outcomes = Worker(), Outcomes(replies)
-    Thread(target=outcomes.give_signs, daemon=True).start()
-    while frame := read_frame(requests):
-        operation, arguments = frame
-        outcomes.is_working = True
-        try:
-            if operation not in Worker.OPERATIONS:
-                raise ValueError(f"{operation} is no operation of a shard")
-            outcome, text = "done", getattr(worker, operation)(*arguments)
-        except OutOfMemory:
-            outcome, text = "out_of_memory", b""
-        except Exception as fault:
-            outcome, text = "failed", f"{type(fault).__name__}: {fault}".encode()
-        outcomes.write(outcome, text)
-    worker.close()
+CALLS = ("table", "index", "put", "get", "scan", "scan_columns", "sums")
+SIGN_SECONDS = 1
 
 
-class Outcomes:
-    """The stream of outcomes, on which a thread gives signs of life while an operation is carried out. The calls of the library let this thread run."""
+class Shard:
+    """A session, and the stream of what its calls give, on which a thread gives signs of life while one is carried out."""
 
-    def __init__(self, stream: IO[bytes]) -> None:
-        self._stream, self._lock, self.is_working = stream, Lock(), False
+    def __init__(self, replies: Connection) -> None:
+        self._session, self._replies, self._lock, self._is_working = Session(), replies, Lock(), False
+        Thread(target=self._give_signs, daemon=True).start()
 
-    def write(self, outcome: str, text: bytes) -> None:
-        with self._lock:
-            self.is_working = False
-            write_frame(self._stream, outcome, [text])
-
-    def give_signs(self) -> None:
+    def _give_signs(self) -> None:
         with suppress(OSError):
             while True:
                 time.sleep(SIGN_SECONDS)
                 with self._lock:
-                    if self.is_working:
-                        write_frame(self._stream, WORKING, [])
+                    if self._is_working:
+                        self._replies.send(None)
+
+    def answer(self, name: str, arguments: tuple[Any, ...]) -> None:
+        self._is_working = True
+        try:
+            if name not in CALLS:
+                raise ValueError(f"{name} is no call of a shard")
+            outcome: tuple[str, Any] = "gives", self._carried_out(name, arguments)
+        except Exception as fault:
+            outcome = "raises", fault
+        with self._lock:
+            self._is_working = False
+            self._replies.send(outcome)
+
+    def _carried_out(self, name: str, arguments: tuple[Any, ...]) -> Any:
+        return getattr(self._session, name)(*arguments)
 
 
 def main() -> int:
     # An interrupt at the terminal is for the process that asks, which ends this one.
     signal.signal(signal.SIGINT, signal.SIG_IGN)
+    requests, shard = Connection(os.dup(0), writable=False), Shard(Connection(os.dup(1), readable=False))
     # What anything else prints is not to be taken for a reply.
-    replies = os.fdopen(os.dup(1), "wb")
     os.dup2(2, 1)
-    try:
-        serve(sys.stdin.buffer, replies)
-    except BrokenPipeError:
-        return 1
+    with suppress(EOFError, BrokenPipeError):
+        while True:
+            shard.answer(*requests.recv())
     return 0
 
 

@@ -2,49 +2,40 @@
 
     shards = [cluster.ProcessShard() for _ in range(3)]
     with cluster.Sharded(shards, [(250_000,), (500_000,)]) as table:
-        table.run("table 16 1024 256 1 id:int city:text qty:int\\n")
-        table.put((number, "Oslo", 30) for number in range(1_000_000))
+        table.table("id:int city:text qty:int")
+        table.put({"id": ids, "city": cities, "qty": quantities})
 
 Each bound is a tuple of values for the first columns of the key: the first shard has the keys before the first bound, the second those from there to before the
-second bound, and so on. The replies are those of one session, byte for byte. What shards cannot reply as one session does raises NotSharded: an `image`, and a
-`load` after deletes.
-
-A batch is applied by all of its shards or by none. Which refusal a batch gets does not depend on the rows, so each shard first checks its part on a table
-without rows; if none refuses, all apply. If a shard is lost, the table is: a durable table over shards makes all of them again from its log.
+second bound, and so on. A call gives what it gives of one session. Rows are put by each shard for itself, so if a shard refuses a row, those of others may have
+been put. If a shard is lost, the table is.
 """
 
 from __future__ import annotations
 
-import re
-from bisect import bisect_left, bisect_right
-from collections.abc import Callable, Iterable, Sequence
-from enum import Enum, auto
-from io import BytesIO
-from typing import NamedTuple
+import heapq
+import os
+import subprocess
+import sys
+from array import array
+from bisect import bisect_right
+from collections.abc import Iterable, Iterator, Mapping, Sequence
+from contextlib import contextmanager, suppress
+from functools import reduce
+from itertools import chain, islice
+from multiprocessing.connection import Connection
+from operator import add
+from pathlib import Path
+from threading import Timer
+from typing import Any
 
-from ..calls import Calls, as_script, note
-from ..errors import OutOfMemory
-from ..language import ANSWERS, KINDS, MARK, MOST_MESSAGES, PRIMARY, Command, State, Table, commands, counted, fields, int_of, logical_lines
-from ..rows import FIELDS, Value
-from .shards import Shard
+from ..calls import MOST_MESSAGES, Bound, Row
+from ..errors import OutOfMemory, Refused, RowError
+from ..language import counted
+from ..rows import ColumnValues, as_iterator
+from ..session import Session
 
-Key = tuple[int | bool | bytes, ...]
-# An operation of a shard, with its arguments.
-Request = tuple[str, tuple[bytes, ...]]
-DELETES = re.compile(rb"^ *del ", re.MULTILINE)
-PUTS = re.compile(rb"^ *(?:put|ups) ", re.MULTILINE)
-
-
-class NotSharded(Exception):
-    """What shards cannot reply as one session does. The commands of the script before it were carried out, and `replies` are their replies; it and those after
-    it were not. `line` is the line of the script where it begins, counted from 1."""
-
-    def __init__(self, reason: str, line: int = 0, replies: bytes = b"") -> None:
-        super().__init__(reason, line, replies)
-        self.reason, self.line, self.replies = reason, line, replies
-
-    def __str__(self) -> str:
-        return f"line {self.line}: {self.reason}"
+PATIENCE = 30.0  # seconds
+SECONDS_TO_END = 10
 
 
 class ShardLost(Exception):
@@ -55,58 +46,92 @@ class ShardLost(Exception):
         self.shard, self.reason = shard, reason
 
     def __str__(self) -> str:
-        return f"shard {self.shard} is lost, and the table with it: {self.reason}. Make a new table; a durable one makes its shards again from its log"
+        return f"shard {self.shard} is lost, and the table with it: {self.reason}. Make a new table"
 
 
-class Rows(Enum):
-    """What is known about the tree of rows that one session would have; `load` requires that it is one leaf without rows."""
-
-    NONE = auto()  # It is one leaf without rows.
-    SOME = auto()  # It has rows.
-    UNKNOWN = auto()  # Rows were deleted: it may have none, and be more than one leaf.
-    REBUILT = auto()  # Rows were deleted, and it was rebuilt since: without rows it is one leaf.
+class ShardEnded(Exception):
+    """The process of a shard has ended, or was killed since it was silent for too long."""
 
 
-class Refusal(NamedTuple):
-    """A refusal of a batch or a load, in the order in which the smallest is replied. The item is 0 if there is none."""
+class ProcessShard:
+    """A shard in a process, which `command` starts, and which ends with this one. On another machine it is
+    `ProcessShard(["ssh", "machine", "python3", "-m", "betable.cluster.shard"])`. `patience` is for how many seconds the process may be silent in a call: it
+    gives a sign of life each second while it works. One that is silent for longer is killed, and lost."""
 
-    number: int
-    item: int
-    name: bytes
+    def __init__(self, command: Sequence[str] | None = None, *, patience: float = PATIENCE) -> None:
+        if not 2 <= patience < float("inf"):
+            raise ValueError(f"the patience is a number of seconds, at least 2, and not {patience!r}")
+        self._patience = patience
+        # The process finds the package in the same folder as this one.
+        folders = [str(Path(__file__).resolve().parents[2]), os.environ.get("PYTHONPATH", "")]
+        environment = {**os.environ, "PYTHONPATH": os.pathsep.join(filter(None, folders))}
+        words = command or [sys.executable, "-P", "-m", "betable.cluster.shard"]
+        self.process = subprocess.Popen(words, stdin=subprocess.PIPE, stdout=subprocess.PIPE, bufsize=0, env=environment)
+        assert self.process.stdin and self.process.stdout
+        with self.process.stdin as requests, self.process.stdout as replies:
+            self._requests, self._replies = Connection(os.dup(requests.fileno()), readable=False), Connection(os.dup(replies.fileno()), writable=False)
 
-    def reply(self) -> bytes:
-        return b"refused %d %b" % (self.number, self.name) + (b" %d\n" % self.item if self.item else b"\n")
+    @contextmanager
+    def _watched(self) -> Iterator[None]:
+        """Kills a process that does not take or give anything within the patience, which ends the wait for it."""
+        timer = Timer(self._patience, self.process.kill)
+        timer.daemon = True
+        timer.start()
+        try:
+            yield
+        except (EOFError, OSError) as fault:
+            silent = "" if timer.is_alive() else f": it gave no sign of life for {self._patience:g} s"
+            raise ShardEnded(f"the process {self.process.pid} of a shard has ended{silent}") from fault
+        finally:
+            timer.cancel()
+
+    def send(self, name: str, *arguments: Any) -> None:
+        """Sends a call, which the process carries out while others work."""
+        with self._watched():
+            self._requests.send((name, arguments))
+
+    def receive(self) -> Any:
+        """What the call gives, or the exception that it raises."""
+        outcome = None
+        while outcome is None:
+            with self._watched():
+                outcome = self._replies.recv()
+        if outcome[0] not in ("gives", "raises"):
+            raise ShardEnded(f"the process {self.process.pid} is no shard")
+        return outcome[1]
+
+    def close(self) -> None:
+        """Ends the process, whose standard input ends."""
+        with suppress(OSError):
+            self._requests.close()
+        with suppress(OSError):
+            self._replies.close()
+        for _ in range(2):
+            try:
+                self.process.wait(SECONDS_TO_END)
+                break
+            except subprocess.TimeoutExpired:
+                self.process.kill()
 
 
-class Sharded(Calls):
+class Sharded:
     """A table among shards, which are new and belong to it from now on. It is used by one thread at a time."""
 
-    def __init__(self, shards: Sequence[Shard], bounds: Sequence[Sequence[Value]]) -> None:
+    def __init__(self, shards: Sequence[ProcessShard], bounds: Sequence[Sequence[Any]]) -> None:
         if not shards or len(bounds) != len(shards) - 1:
             raise ValueError(f"{counted(len(shards), 'shard')} and {counted(len(bounds), 'bound')}: between two shards there is one bound")
-        self._shards, self._given_bounds = list(shards), [tuple(bound) for bound in bounds]
-        self._all = range(len(shards))
-        self._state, self._rows_known = State(), Rows.NONE
-        # By the indexes that are building: the first shard that is not complete.
-        self._building: dict[bytes, int] = {}
-        self._bounds: list[Key] = []
+        self._shards, self._bounds = list(shards), [tuple(bound) for bound in bounds]
+        if any(low >= high for low, high in zip([(), *self._bounds], self._bounds)):
+            raise ValueError(f"the bounds are values of the first columns of the key, in ascending order, and not {self._bounds}")
+        self._key: list[str] = []
         self._lost: ShardLost | None = None
         self._is_closed = False
-        self._commands: dict[bytes, Callable[[Table, Command], bytes]] = {
-            b"get": self._get, b"batch": self._batch, b"load": self._load, b"scan": self._scan, b"sums": self._sums, b"image": self._image,
-            b"index": self._index, b"build": self._build, b"drop": self._drop, b"drain": self._everywhere, b"rebuild": self._rebuild,
-        }  # fmt: skip
 
     def __enter__(self) -> Sharded:
         return self
 
     def __exit__(self, *_: object) -> None:
         self.close()
-
-    @property
-    def state(self) -> State:
-        self._check()
-        return self._state
 
     @property
     def is_lost(self) -> bool:
@@ -119,44 +144,78 @@ class Sharded(Calls):
         for shard in self._shards:
             shard.close()
 
-    def _check(self) -> None:
+    def table(self, columns: str | Iterable[tuple[str, str]], keys: int = 1, fanout: int = 16, buffer: int | str = 1024, leaf: int = 256) -> None:
+        """Makes the table, as `Session.table` does."""
+        columns = columns if isinstance(columns, str) else list(columns)
+        with Session() as session:
+            session.table(columns, keys, fanout, buffer, leaf)
+            for bound in self._bounds:
+                session.scan("primary", bound)  # refused if it is no beginning of a key
+            key = [column.name for column in session.columns() if column.is_key]
+        self._of_each("table", columns, keys, fanout, buffer, leaf)
+        self._key = key
+
+    def index(self, name: str, on: str | Sequence[str], include: str | Sequence[str] = (), where: tuple[str, str, Any] | None = None) -> None:
+        """Makes and builds an index, as `Session.index` does."""
+        self._of_each("index", name, on, include, where)
+
+    def put(self, rows: Iterable[Any] | Mapping[str, Any]) -> int:
+        """Puts rows, or rows by columns, as `Session.put` does, and returns their number. The rows of each shard are in batches of their own. If one refuses a
+        row, the exception is that of the first row at fault, and those of other batches may have been put."""
+        if isinstance(rows, Mapping):
+            return self._put(*self._parts_of_columns(rows))
+        given, count = as_iterator(rows, "rows", "[(1, ..), (2, ..)]"), 0
+        while some := list(islice(given, len(self._shards) * MOST_MESSAGES)):
+            places = [self._shard_of(key_of(row, self._key)) for row in some]
+            positions = [[at for at, place in enumerate(places) if place == shard] for shard in range(len(self._shards))]
+            count += self._put([[some[at] for at in part] for part in positions], [[count + at for at in part] for part in positions])
+        return count
+
+    def get(self, *key: Any) -> Row | None:
+        """The row of a key, or None."""
+        shard = self._shard_of(key)
+        return self._given({shard: ("get", *key)})[0]  # type: ignore[no-any-return]
+
+    def scan(self, tree: str = "primary", start: Bound = None, stop: Bound = None, limit: int | None = None, after: Bound = None) -> list[Row]:
+        """The rows of a tree in a range, as `Session.scan` gives them."""
+        parts = self._of_each("scan", tree, start, stop, limit, after)
+        # The rows of an index begin with its key, and no two are equal in that.
+        return list(islice(chain(*parts) if tree == "primary" else heapq.merge(*parts), limit))
+
+    def scan_columns(self, tree: str = "primary", start: Bound = None, stop: Bound = None, limit: int | None = None) -> dict[str, ColumnValues]:
+        """The rows of `scan` by columns, as `Session.scan_columns` gives them."""
+        parts = self._of_each("scan_columns", tree, start, stop, limit)
+        found = {name: reduce(add, (part[name] for part in parts)) for name in parts[0]}
+        if tree == "primary":
+            return {name: values[:limit] for name, values in found.items()}
+        rows = list(zip(*found.values()))
+        order = sorted(range(len(rows)), key=rows.__getitem__)[:limit]
+        return {name: taken(values, order) for name, values in found.items()}
+
+    def sums(self, tree: str, columns: int, column: str, start: Bound = None, stop: Bound = None) -> list[Row]:
+        """The groups of a tree, as `Session.sums` gives them."""
+        totals: dict[Row, tuple[int, int]] = {}
+        for count, total, *group in chain(*self._of_each("sums", tree, columns, column, start, stop)):
+            before = totals.get(tuple(group), (0, 0))
+            totals[tuple(group)] = before[0] + count, before[1] + total
+        return [(*totals[group], *group) for group in sorted(totals)]
+
+    # ---- what the calls share ----
+
+    def _ask(self, requests: Mapping[int, tuple[Any, ...]]) -> list[Any]:
+        """What shards, which work at the same time, give or raise for a call."""
         if self._is_closed:
             raise ValueError("the table is closed")
         if self._lost:
             raise self._lost
-
-    def replies(self, script: str | bytes) -> bytes:
-        """The bytes of the replies to a script. ShardLost, or OutOfMemory, if a shard fails; NotSharded for what shards cannot reply."""
-        found: list[bytes] = []
-        for command in commands(as_script(script)):
-            try:
-                reply = self._reply(command)
-            except NotSharded as fault:
-                raise NotSharded(fault.reason, command.head.number, b"".join(found)) from None
-            if command.head.word in ANSWERS:
-                note(self._state, command, reply)
-            found.append(reply)
-        return b"".join(found)
-
-    def _reply(self, command: Command) -> bytes:
-        word, table = command.head.word, self._state.table
-        if table is None:
-            return self._make_table(command) if word == b"table" else self._of_one(command)
-        if word not in self._commands or (command.closing and not command.is_closed):
-            return self._of_one(command)
-        return self._commands[word](table, command)
-
-    # ---- calls of shards ----
-
-    def _ask(self, requests: dict[int, Request]) -> list[bytes]:
-        """The replies of shards, which work at the same time."""
-        self._check()
-        waits, found, at = [], [], 0
+        found, at = [], 0
         try:
-            for at, (operation, arguments) in requests.items():
-                waits.append((at, self._shards[at].call(operation, *arguments)))
-            for at, wait in waits:
-                found.append(wait())
+            for at, request in requests.items():
+                self._shards[at].send(*request)
+            for at in requests:
+                found.append(self._shards[at].receive())
+                if isinstance(found[-1], OutOfMemory):
+                    raise found[-1]
         except BaseException as fault:
             # Replies of other shards may still arrive, and it is not known what was applied.
             self._lost = ShardLost(at, f"{type(fault).__name__}: {fault}")
@@ -167,339 +226,75 @@ class Sharded(Calls):
             raise
         return found
 
-    def _of_one(self, command: Command, shard: int = 0) -> bytes:
-        """The reply of one shard, to a command that all of them reply to alike, or that concerns only this one."""
-        return self._ask({shard: ("run", (script_of(command),))})[0]
+    def _given(self, requests: Mapping[int, tuple[Any, ...]]) -> list[Any]:
+        """What shards give for a call that all of them refuse if one does."""
+        found = self._ask(requests)
+        for outcome in found:
+            if isinstance(outcome, Exception):
+                raise outcome
+        return found
 
-    def _of_each(self, script: bytes, shards: Iterable[int] | None = None) -> list[bytes]:
-        return self._ask({shard: ("run", (script,)) for shard in (self._all if shards is None else shards)})
+    def _of_each(self, *request: Any) -> list[Any]:
+        return self._given(dict.fromkeys(range(len(self._shards)), request))
 
-    def _everywhere(self, table: Table, command: Command) -> bytes:
-        """The reply to a command that all shards carry out and reply to alike."""
-        replies = self._of_each(script_of(command))
-        for shard, reply in enumerate(replies):
-            if reply != replies[0]:
-                self._lost = ShardLost(shard, f"it replied {reply!r}, and shard 0 {replies[0]!r}")
-                raise self._lost
-        return replies[0]
-
-    # ---- definitions ----
-
-    def _make_table(self, command: Command) -> bytes:
-        reply = self._ask({0: ("check", (b"", script_of(command)))})[0]
-        if reply.startswith(b"refused "):
-            return reply
-        table = Table(command.head)
-        self._bounds = keys_of_bounds(table, self._given_bounds)
-        return self._everywhere(table, command)
-
-    def _index(self, table: Table, command: Command) -> bytes:
-        reply = self._everywhere(table, command)
-        if not reply.startswith(b"refused "):
-            self._building[second_word(command)] = 0
-        return reply
-
-    def _drop(self, table: Table, command: Command) -> bytes:
-        reply = self._everywhere(table, command)
-        if not reply.startswith(b"refused "):
-            self._building.pop(second_word(command), None)
-        return reply
-
-    def _rebuild(self, table: Table, command: Command) -> bytes:
-        reply = self._everywhere(table, command)
-        if reply == b"rebuilt primary\n" and self._rows_known is Rows.UNKNOWN:
-            self._rows_known = Rows.REBUILT
-        return reply
-
-    def _build(self, table: Table, command: Command) -> bytes:
-        """Of a step the first shard that is not complete reads the first rows, and if that completes it, the next one the rest."""
-        name, words = second_word(command), command.head.words
-        if name not in self._building or len(words) != 3:
-            return self._of_one(command)
-        script, number, count = script_of(command), 0, 0
-        while True:
-            reply = self._of_each(script, [self._building[name]])[0]
-            if reply.startswith(b"refused "):
-                return reply
-            read = int(reply.split()[2])
-            number, count = number or int(words[2]), count + read
-            if reply.endswith(b" complete\n"):
-                self._building[name] += 1
-            if reply.endswith(b" building\n") or self._building[name] == len(self._shards):
-                break
-            script = b"build %b %d\n" % (name, number - count)
-        if reply.endswith(b" complete\n"):
-            del self._building[name]
-        return b"build %b %d %b\n" % (name, count, reply.split()[3])
-
-    def _image(self, table: Table, command: Command) -> bytes:
-        if len(command.head.words) == 2 and table.has_tree(name := second_word(command)):
-            raise NotSharded(f"image {name.decode()}: the shards have trees of their own, and not one")
-        return self._of_one(command)
-
-    # ---- keys ----
-
-    def _shard_of(self, table: Table, values: Sequence[bytes]) -> int:
-        """The shard of the key that these fields begin with. What is no key is refused by any shard."""
+    def _shard_of(self, key: tuple[Any, ...]) -> int:
+        """The shard of a key. What is no key is refused by any shard."""
         try:
-            return bisect_right(self._bounds, key_of(table.key, values))
-        except ValueError:
+            return bisect_right(self._bounds, key)
+        except TypeError:
             return 0
 
-    def _shard_of_line(self, table: Table, line: bytes) -> int:
-        """The shard of the key with which the record of a line begins."""
-        return self._shard_of(table, fields(record_of(line)))
+    def _parts_of_columns(self, columns: Mapping[str, Any]) -> tuple[list[dict[str, Any]], list[Any]]:
+        """The columns of the rows of each shard, and the places of these rows."""
+        keys = [columns[name] for name in self._key if name in columns]
+        if len(self._shards) == 1 or len(keys) < len(self._key) or len({len(values) for values in columns.values()}) != 1:
+            return [dict(columns)], [range(1 << 62)]
+        if hasattr(keys[0], "searchsorted") and all(len(bound) == 1 for bound in self._bounds) and not hasattr(columns[self._key[0]], "iloc"):
+            import numpy
 
-    def _get(self, table: Table, command: Command) -> bytes:
-        return self._of_one(command, self._shard_of_line(table, command.head.raw))
-
-    def _shards_of_lines(self, table: Table, lines: list[bytes]) -> list[int]:
-        """The shard of each line of a batch."""
-        if not self._bounds:
-            return [0] * len(lines)
-        if [kind for _, kind in table.key] != [b"int"]:
-            return [self._shard_of_line(table, line) for line in lines]
-        bounds, found = [bound[0] for bound in self._bounds], []
-        for line in lines:
-            end = line.find(b",")
-            try:
-                # A field that Python reads as an int and that is none, such as ` 1`, is refused by any shard.
-                found.append(bisect_right(bounds, int(line[4:end] if end >= 0 else line[4:])))
-            except ValueError:
-                found.append(self._shard_of_line(table, line))
-        return found
-
-    # ---- batches and loads ----
-
-    def _batch(self, table: Table, command: Command) -> bytes:
-        if command.head.words != [b"batch"]:
-            return self._of_one(command)
-        # Most lines begin with a letter; the others may be blank.
-        lines = [line for line in command.block.split(b"\n") if line >= b"!" or line.removesuffix(b"\r").strip(b" ")]
-        places = self._shards_of_lines(table, lines)
-        busy = sorted(set(places)) or [0]
-        if len(busy) == 1:
-            replies = [self._of_one(command, busy[0])]
+            places: Any = numpy.searchsorted(numpy.array([bound[0] for bound in self._bounds]), keys[0], side="right")
+            positions: list[Any] = [numpy.flatnonzero(places == shard) for shard in range(len(self._shards))]
         else:
-            parts: dict[int, list[bytes]] = {shard: [b"batch"] for shard in busy}
-            for shard, line in zip(places, lines):
-                parts[shard].append(line)
-            scripts = {shard: b"\n".join([*part, b"end\n"]) for shard, part in parts.items()}
-            refusals = self._refusals_of_check(table, scripts, places)
-            if len(lines) > MOST_MESSAGES:
-                refusals.append(Refusal(10, 0, b"TooMany"))
-            if refusals:
-                return min(refusals).reply()
-            replies = self._applied(busy)
-        if replies[0].startswith(b"refused "):
-            return replies[0]
-        self._note_batch(command.block)
-        return b"batch %d%b\n" % (len(lines), sums_of_sent(replies))
+            places = [self._shard_of(key) for key in zip(*keys)]
+            positions = [[at for at, place in enumerate(places) if place == shard] for shard in range(len(self._shards))]
+        return [{name: taken(values, part) for name, values in columns.items()} for part in positions], positions
 
-    def _refusals_of_check(self, table: Table, scripts: dict[int, bytes], places: list[int]) -> list[Refusal]:
-        """The lowest refusal of each part, with the item that it has in the whole; `places` has the shard of each item."""
-        found = []
-        replies = self._ask({shard: ("check", (table.line.text + b"\n", script)) for shard, script in scripts.items()})
-        for shard, reply in zip(scripts, replies):
-            if reply.startswith(b"refused "):
-                number, name, *item = reply.split()[1:]
-                items = [place for place, of in enumerate(places, 1) if of == shard] if item else []
-                found.append(Refusal(int(number), items[int(item[0]) - 1] if item else 0, name))
-        return found
-
-    def _applied(self, shards: Sequence[int]) -> list[bytes]:
-        """The replies of shards to what they have checked, and now apply."""
-        replies = self._ask({shard: ("apply", ()) for shard in shards})
-        for shard, reply in zip(shards, replies):
-            if not reply.startswith((b"batch ", b"loaded ")):
-                self._lost = ShardLost(shard, f"it has checked a command, and now replies {reply!r}")
-                raise self._lost
-        return replies
-
-    def _note_batch(self, block: bytes) -> None:
-        """What a batch that was applied makes known of the rows."""
-        if self._rows_known is Rows.UNKNOWN:
-            return
-        has_puts = PUTS.search(block) is not None
-        has_deletes = b"del " in block and DELETES.search(block) is not None
-        if has_deletes and (has_puts or self._rows_known is not Rows.NONE):
-            self._rows_known = Rows.UNKNOWN
-        elif has_puts:
-            self._rows_known = Rows.SOME
-
-    def _load(self, table: Table, command: Command) -> bytes:
-        if command.head.words != [b"load"]:
-            return self._of_one(command)
-        header, *records = [raw for _, raw in command.records()] or [b""]
-        places = [self._shard_of(table, fields(record)) for record in records]
-        # Carriage returns before the records: no record is a line by itself, which might close the block, and no byte order mark is at the start.
-        parts = {shard: [b"", header] for shard in self._all}
-        for shard, record in zip(places, records):
-            parts[shard].append(record)
-        scripts = {shard: b"load\n" + block_of_load(part) + b".\n" for shard, part in parts.items()}
-        refusals = self._refusals_of_check(table, scripts, places)
-        if self._building:
-            refusals.append(Refusal(11, 0, b"Building"))
-        if not any(refusal.number < 13 for refusal in refusals) and self._has_nodes(table):
-            refusals.append(Refusal(13, 0, b"NotEmpty"))
-        if refusals:
-            return min(refusals).reply()
-        replies = self._applied(self._all)
-        self._rows_known = Rows.SOME if records else self._rows_known
-        return b"loaded %d\n" % sum(int(reply.split()[1]) for reply in replies)
-
-    def _has_nodes(self, table: Table) -> bool:
-        """Whether the tree of rows of one session would be more than one leaf without rows."""
-        if self._rows_known is Rows.UNKNOWN:
-            raise NotSharded("a load after deletes: whether one session's tree of rows would be one leaf again is unknown. Run 'rebuild primary' before it")
-        if self._rows_known is Rows.REBUILT:
-            # A shard takes a load of no rows only if its tree is one leaf without rows, and then it changes nothing.
-            replies = self._of_each(b"load\n%b\n.\n" % b",".join(table.names))
-            self._rows_known = Rows.SOME if any(reply.startswith(b"refused ") for reply in replies) else Rows.NONE
-        return self._rows_known is Rows.SOME
-
-    # ---- reads ----
-
-    def _shards_of_range(self, table: Table, command: Command) -> Sequence[int]:
-        """The shards that have keys between the bounds of a read of the rows; of bounds that are refused, any shard."""
-        lines = [line for line in command.lines if line.text]
-        if [line.word for line in lines] not in ([], [b"from"], [b"to"], [b"from", b"to"]):
-            return [0]
-        first, last = 0, len(self._bounds)
-        try:
-            for line in lines:
-                key = key_of(table.key, fields(record_of(line.raw)))
-                if line.word == b"from":
-                    first = bisect_right(self._bounds, key)
-                else:
-                    last = bisect_left(self._bounds, key)
-        except ValueError:
-            return [0]
-        return range(first, max(first, last) + 1)
-
-    def _parts_of_read(self, table: Table, command: Command) -> list[bytes]:
-        """The replies of the shards to a scan or to sums; a refusal of one shard is the reply of all."""
-        name = second_word(command)
-        if not table.has_tree(name):
-            return [self._of_one(command)]
-        if name in self._building:
-            # The last shard is the last to be complete.
-            return [self._of_one(command, len(self._shards) - 1)]
-        shards = self._shards_of_range(table, command) if name == PRIMARY else self._all
-        return self._of_each(script_of(command), shards)
-
-    def _scan(self, table: Table, command: Command) -> bytes:
-        replies = self._parts_of_read(table, command)
-        if len(replies) == 1 or replies[0].startswith(b"refused "):
-            return replies[0]
-        bodies, lasts = zip(*map(body_and_last_line, replies))
-        body = b"".join(bodies)
-        name = second_word(command)
-        if name != PRIMARY and sum(map(bool, bodies)) > 1:
-            body = b"row " + b"row ".join(in_order(table.key_of(name), [line[4:] for line in lines_of(body)]))
-        return body + b"rows %d\n" % sum(int(last.split()[1]) for last in lasts)
-
-    def _sums(self, table: Table, command: Command) -> bytes:
-        replies = self._parts_of_read(table, command)
-        if len(replies) == 1 or replies[0].startswith(b"refused "):
-            return replies[0]
-        groups: dict[bytes, tuple[int, int]] = {}
-        for reply in replies:
-            for line in lines_of(body_and_last_line(reply)[0]):
-                _, count, total, group = line.split(b" ", 3)
-                counts, totals = groups.get(group, (0, 0))
-                groups[group] = counts + int(count), totals + int(total)
-        lines = [b"sum %d %d %b" % (*groups[group], group) for group in in_order(table.key_of(second_word(command)), list(groups))]
-        return b"".join(lines) + b"sums %d\n" % len(groups)
+    def _put(self, parts: Sequence[Any], positions: Sequence[Any]) -> int:
+        """Puts a part by each shard. `positions` has the place of each of its rows in the call."""
+        requests = {shard: ("put", part) for shard, part in enumerate(parts) if len(positions[shard])} or {0: ("put", parts[0])}
+        faults, count = [], 0
+        for shard, outcome in zip(requests, self._ask(requests)):
+            if isinstance(outcome, Exception):
+                row = getattr(outcome, "row", None)
+                place = None if row is None else int(positions[shard][row - 1]) + 1
+                faults.append((place or 0, outcome))
+            else:
+                count += outcome
+        if faults:
+            raise renumbered(*min(faults, key=lambda fault: fault[0]))
+        return count
 
 
-# ---- values and keys ----
+def key_of(row: Any, names: Sequence[str]) -> tuple[Any, ...]:
+    """The values of a row's key. What is no row has none."""
+    if isinstance(row, Mapping):
+        return tuple(row[name] for name in names if name in row)
+    return tuple(row[: len(names)]) if isinstance(row, (tuple, list)) else ()
 
 
-Values = dict[bytes, Callable[[bytes], int | bool | bytes]]
-# By kind: a value that is ordered as the kind is. A field that is no value may have one, and is refused by any shard.
-VALUES: Values = {
-    b"int": int_of,
-    b"text": lambda field: field,
-    b"flag": lambda field: field.lower() == b"true",
-    b"bytes": lambda field: bytes.fromhex(field.decode("ascii")),
-}
-VALUES_AS_PRINTED: Values = {**VALUES, b"int": int}
+def taken(values: Any, places: Any) -> Any:
+    """The values of a column at some places."""
+    if hasattr(values, "take") and not isinstance(places, list):
+        return values.take(places)
+    found = [values[place] for place in places]
+    return array(values.typecode, found) if isinstance(values, array) else found
 
 
-def key_of(columns: Sequence[tuple[bytes, bytes]], values: Sequence[bytes]) -> Key:
-    """The values of fields by the first columns of a key. ValueError if there is none."""
-    return tuple([VALUES[kind](field) for (_, kind), field in zip(columns, values)])
-
-
-def in_order(columns: Sequence[tuple[bytes, bytes]], records: list[bytes]) -> list[bytes]:
-    """Records as they are printed, with their line breaks, in the order of a key whose first columns come first in them."""
-    values = [VALUES_AS_PRINTED[kind] for _, kind in columns]
-    return sorted(records, key=lambda record: [value(field) for value, field in zip(values, fields(record[:-1]))])
-
-
-def keys_of_bounds(table: Table, bounds: Sequence[tuple[Value, ...]]) -> list[Key]:
-    """Bounds as keys of a table, each larger than the one before."""
-    found: list[Key] = []
-    for place, bound in enumerate(bounds, 1):
-        if not 1 <= len(bound) <= table.key_length:
-            raise NotSharded(f"bound {place} has {counted(len(bound), 'value')}, and the key has {counted(table.key_length, 'column')}")
-        values = []
-        for value, (name, kind) in zip(bound, table.key):
-            try:
-                field = str(FIELDS[kind.decode()](value)).encode()
-            except (TypeError, ValueError):
-                raise NotSharded(f"bound {place} has {value!r}, which is no value of column '{name.decode()}' ({kind.decode()})") from None
-            if reason := KINDS[kind].fault(field):
-                raise NotSharded(f"bound {place}, column '{name.decode()}' ({kind.decode()}): {reason}")
-            values.append(field)
-        found.append(key_of(table.key, values))
-        if len(found) > 1 and not found[-2] < found[-1]:
-            raise NotSharded(f"bound {place}, {bound!r}, is not after bound {place - 1}, {bounds[place - 2]!r}")
-    return found
-
-
-# ---- scripts and replies ----
-
-
-def script_of(command: Command) -> bytes:
-    """A command as a script."""
-    closing = command.closing + b"\n" if command.closing and command.is_closed else b""
-    return b"%b\n%b%b" % (command.head.raw, command.block, closing)
-
-
-def record_of(line: bytes) -> bytes:
-    """The record of a line, after its first word and one space."""
-    return line.removesuffix(b"\r").lstrip(b" ").partition(b" ")[2].removeprefix(MARK)
-
-
-def second_word(command: Command) -> bytes:
-    words = command.head.words
-    return words[1] if len(words) > 1 else b""
-
-
-def block_of_load(records: list[bytes]) -> bytes:
-    """Records as the block of a load. The last one of a block may have quotes that are never closed, and then its line break is in it already."""
-    text = b"\r".join(records)
-    return text if text.endswith(b"\n") else text + b"\n"
-
-
-def sums_of_sent(replies: list[bytes]) -> bytes:
-    """What the reply to a batch says of the indexes, of the replies of shards."""
-    sent: dict[bytes, int] = {}
-    for reply in replies:
-        for word in reply.split()[2:]:
-            name, number = word.split(b":")
-            sent[name] = sent.get(name, 0) + int(number)
-    return b"".join(b" %b:%d" % one for one in sent.items())
-
-
-def body_and_last_line(reply: bytes) -> tuple[bytes, bytes]:
-    end = reply.rfind(b"\n", 0, -1) + 1
-    return reply[:end], reply[end:]
-
-
-def lines_of(body: bytes) -> list[bytes]:
-    """The lines of a reply with their line breaks. One whose text has a line break in quotes is one line."""
-    lines = BytesIO(body).readlines()
-    return lines if b'"' not in body else list(logical_lines(lines))
+def renumbered(row: int, fault: Exception) -> Exception:
+    """The exception of a shard, whose row is that of the call."""
+    if isinstance(fault, RowError) and fault.row is not None:
+        return type(fault)(fault.reason, row=row, column=fault.column, value=fault.value)
+    if isinstance(fault, Refused) and fault.row is not None:
+        item = row if fault.item == fault.row else fault.item
+        return Refused(fault.line, fault.number, fault.name, item, reason=fault.reason, column=fault.column, value=fault.value, row=row)
+    return fault
