@@ -296,6 +296,8 @@ class PagesForDevelopers(TestCase):
             *(TOP / "tools/fuzz").glob("*.py"),
             *(TOP / "tools/drawing").glob("*.py"),
         ]
+        # Laws are stated of the commands that have them.
+        sources = [path for path in sources if "bt_laws" not in path.parts and path.name != "Contents.antt"]
         command = {path for path in sources if re.search(r"\bRebuil[dt]\b", path.read_text())} | {path for path in scripts if 'b"rebuild"' in path.read_text()}
         kind = {path for path in scripts if re.search(r'"flag"', path.read_text())}
         for title, named in (("## How to add a command", command), ("## How to add a kind of values", kind)):

@@ -5,7 +5,7 @@ import tempfile
 from pathlib import Path
 from unittest import TestCase
 
-from .common import run, run_forked, TOP
+from .common import imported, run, run_forked, TOP
 
 # Two crates, and a function `answer` with the clauses that the list begins with. No definition named `unused` counts.
 LISTED = {
@@ -164,12 +164,7 @@ def definitions_of(test, *roots):
 
 
 def steps_of_reading():
-    """The steps of what there is to read in docs/VERIFYING.md: the number of lines, and the files."""
-    section = (TOP / "docs/VERIFYING.md").read_text().split("## What to read, in order\n")[1].split("\n## ")[0]
-    for step in re.findall(r"^\d+\. (.+(?:\n   .+)*)", section, re.MULTILINE):
-        step = " ".join(step.split())
-        files = [f"{crate}/specs/{name}" for crate, names in re.findall(r"(bt_\w+)/specs: (\w+(?:, \w+)*)", step) for name in names.split(", ")]
-        yield int(re.match(r"\*\*(\d+) lines\.\*\*", step).group(1)), files
+    return imported("tools/generate").steps_of_reading((TOP / "docs/VERIFYING.md").read_text())
 
 
 class ReadingList(TestCase):
