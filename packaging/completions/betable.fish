@@ -1,8 +1,8 @@
 # Completion of betable for fish.
-complete -c betable -l script -r -F -d 'Read the script from a file'
-complete -c betable -l workers -x -d 'Number of threads, 1 to 64'
-complete -c betable -l cut -x -d 'Depth at which trees are cut into jobs, 1 to 6'
-complete -c betable -l grain -x -d 'Messages from which a packet is divided into jobs, 1 to 65536'
+complete -c betable -l script -r -F -d 'Reads the script from FILE and not from standard input'
+complete -c betable -l workers -x -d 'Works in N threads, 1 to 64 (default 4)'
+complete -c betable -l cut -x -d 'Cuts trees into jobs at depth D, 1 to 6 (default 2)'
+complete -c betable -l grain -x -d 'Divides packets of G messages or more into jobs, 1 to 65536 (default 64)'
 complete -c betable -l help -d 'Print help'
 complete -c betable -l version -d 'Print the version and what was proved'
 complete -c betable -n __fish_use_subcommand -a shell -d 'A prompt for commands'

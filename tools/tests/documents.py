@@ -408,9 +408,10 @@ class SaidTwice(TestCase):
     def test_files_that_repeat_the_code_are_those_that_tools_generate_writes(self):
         """And one that is not is named."""
         generate = imported("tools/generate")
+        other_help = generate.help_text() + "More.\n"
         with mock.patch.object(sys, "argv", ["generate", "--check"]), redirect_stdout(io.StringIO()) as printed:
             self.assertEqual((generate.main(), printed.getvalue()), (0, ""))
-            with mock.patch.object(generate, "help_text", lambda: "A script is a list of commands:\n"):
+            with mock.patch.object(generate, "help_text", lambda: other_help):
                 self.assertEqual((generate.main(), printed.getvalue()), (1, "tools/program_help.txt\n"))
             with mock.patch.dict(import_module("betable.language").CLOSING, {b"image": b"go"}):
                 self.assertEqual(generate.main(), 1)

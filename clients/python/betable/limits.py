@@ -8,5 +8,3 @@ MOST_OPERATIONS = 16  # of an upsert
 MOST_TEXT_BYTES = 255  # of a text, and of bytes
 FANOUTS, LEAVES = range(4, 64 + 1), range(2, 1_024 + 1)
 BUFFERS, BUFFERS_IN_BYTES = range(1, 4_096 + 1), range(1, 1_048_576 + 1)
-# The largest number that each option of the command line takes.
-MOST_OF_OPTIONS = {"--workers": 64, "--cut": 6, "--grain": 65_536}
