@@ -92,7 +92,7 @@ class Shards(TestCase):
             bounds = sorted({draw(dice.randrange(1, keys + 1)) for _ in range(dice.randrange(4))})
             with self.subTest(number=number, bounds=bounds), sharded(*bounds) as table, package.Session() as session:
                 for one in (table, session):
-                    one.table([(f"c{place}", kind) for place, kind in enumerate(kinds)], keys)
+                    one.table({f"c{place}": kind for place, kind in enumerate(kinds)}, keys)
                     one.index("i", ("c2", "c0"))
                 for _ in range(4):
                     rows = [draw(3) for _ in range(dice.randrange(40))]

@@ -144,9 +144,11 @@ class Sharded:
         for shard in self._shards:
             shard.close()
 
-    def table(self, columns: str | Iterable[tuple[str, str]], keys: int = 1, fanout: int = 16, buffer: int | str = 1024, leaf: int = 256) -> None:
+    def table(
+        self, columns: str | Mapping[str, str] | Iterable[str | tuple[str, str]], keys: int = 1, fanout: int = 16, buffer: int | str = 1024, leaf: int = 256
+    ) -> None:
         """Makes the table, as `Session.table` does."""
-        columns = columns if isinstance(columns, str) else list(columns)
+        columns = columns if isinstance(columns, (str, Mapping)) else list(columns)
         with Session() as session:
             session.table(columns, keys, fanout, buffer, leaf)
             for bound in self._bounds:
@@ -296,5 +298,7 @@ def renumbered(row: int, fault: Exception) -> Exception:
         return type(fault)(fault.reason, row=row, column=fault.column, value=fault.value)
     if isinstance(fault, Refused) and fault.row is not None:
         item = row if fault.item == fault.row else fault.item
-        return Refused(fault.line, fault.number, fault.name, item, reason=fault.reason, column=fault.column, value=fault.value, row=row)
+        return Refused(
+            fault.line, fault.number, fault.name, item, reason=fault.reason, column=fault.column, value=fault.value, row=row, is_of_script=False
+        )  # fmt: skip
     return fault
