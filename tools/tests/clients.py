@@ -14,7 +14,7 @@ from functools import cache, wraps
 from pathlib import Path
 from unittest import TestCase
 
-from .common import needs, output_of, SECONDS, TOP, type_of_fault
+from .common import build_extension, needs, output_of, SECONDS, TOP, type_of_fault
 
 from betable import language
 
@@ -36,13 +36,6 @@ def library():
             raise RuntimeError(f"bin/build_c: {built.stderr.decode()}")
     os.environ["BETABLE_LIBRARY"] = folder
     return folder
-
-
-@cache
-def build_extension():
-    """Builds the extension of the Python client, if it can be. It is built in the checkout, so it is done before tests run side by side."""
-    words = [sys.executable, TOP / "clients/python/setup.py", "-q", "build_ext", "--inplace", "--build-temp", programs().name]
-    subprocess.run(words, capture_output=True)
 
 
 @cache

@@ -36,6 +36,14 @@ def build_program():
         raise RuntimeError("tools/build_program does not build the program")
 
 
+@cache
+def build_extension():
+    """Builds the extension of the Python client, if it can be. It is built in the checkout, so it is done before tests run side by side."""
+    with tempfile.TemporaryDirectory() as folder:
+        words = [sys.executable, TOP / "clients/python/setup.py", "-q", "build_ext", "--inplace", "--build-temp", folder]
+        subprocess.run(words, capture_output=True)
+
+
 class ProgramTestCase(unittest.TestCase):
     """Tests that run the program."""
 

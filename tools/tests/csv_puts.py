@@ -5,12 +5,13 @@ import pickle
 import random
 import tempfile
 import unittest
+from importlib import import_module
 from pathlib import Path
 from typing import Any
 
-from .clients import betable, library
+from .clients import library
 
-client: Any = betable()
+client: Any = import_module("betable")
 csv_input: Any = __import__("betable.csv_input").csv_input
 
 COLUMNS = "id:int city:text open:flag"

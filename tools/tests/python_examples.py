@@ -6,13 +6,14 @@ import subprocess
 import sys
 import tempfile
 import unittest
+from importlib import import_module
 from importlib.util import module_from_spec, spec_from_file_location
 from pathlib import Path
 from typing import Any
 
-from .clients import betable, library
+from .clients import library
 
-client: Any = betable()
+client: Any = import_module("betable")
 TOP = Path(__file__).resolve().parents[2]
 EXAMPLES = TOP / "examples/python"
 
