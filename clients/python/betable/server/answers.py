@@ -75,7 +75,8 @@ def _explained(command: Command, reply: bytes, state: State) -> dict[str, Any]:
 
 def _unexplained(command: Command, reply: bytes) -> dict[str, Any]:
     _, number, name, *item = reply.decode().split()
-    return {"number": int(number), "name": name, "line": command.head.number, **({"item": int(item[0])} if item else {})}
+    known = {"item": int(item[0])} if item else {}
+    return {"number": int(number), "name": name, "line": line_at_fault(command, known.get("item")), **known}
 
 
 def _blocks_of_lines(reply: bytes) -> Iterator[list[str]]:
