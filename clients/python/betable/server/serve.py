@@ -126,7 +126,7 @@ class Service:
         self.engine = Engine(path, self.take, self.notices.tell)
         self.limits, self.token, self.is_read_only = limits, token, is_read_only
         self.log = RequestLog(log, slow_seconds, self.notices.tell)
-        # When a change failed for want of memory or disk, if none has succeeded since, and why.
+        # When a change failed because memory or disk ran out, if none has succeeded since, and why.
         self.failed_change: tuple[float, str] | None = None
         self.checkpoint_time = 0.0
         self.waiting, self.held, self.is_ending = 0, 0, False
