@@ -139,7 +139,8 @@ betable_status betable_page(betable_session *session, const unsigned char *page,
 /* Replies with the groups of the rows of a range of a tree, in order, with the sum of an int column. The rows are grouped by the first columns of the tree's key,
    as many as the number in the header. After the header are the name of the tree and that of the summed column, as texts, and the bounds of a page. The reply
    is the letters BTV, the version, and of each group: the values of its columns, the number of its rows in eight bytes, and the sum in sixteen bytes (two's
-   complement). DONE, OUT_OF_MEMORY, NOT_OPEN or REFUSED. */
+   complement). With the number 0 all rows of the range are one group, even if there are none. If the name of the summed column is empty, no column is summed,
+   and each sum is 0. So the number 0 and an empty name count the rows of a range. DONE, OUT_OF_MEMORY, NOT_OPEN or REFUSED. */
 betable_status betable_sums(betable_session *session, const unsigned char *sums, size_t length, betable_fault *fault) BETABLE_NOT_NULL;
 
 /* Replies with the columns of the rows of a tree. After the header, whose number is 1, is the name of the tree, as a text. The reply is the letters BTV, the
@@ -151,6 +152,13 @@ betable_status betable_columns(betable_session *session, const unsigned char *na
    rows in the leaves of the tree, the messages in the buffers of its inner nodes, and its height. A row can be in a buffer, as a message, and a message can
    delete a row of a leaf, so the first number is not that of the tree's rows. All nodes are read. DONE, OUT_OF_MEMORY, NOT_OPEN or REFUSED. */
 betable_status betable_usage(betable_session *session, const unsigned char *name, size_t length, betable_fault *fault) BETABLE_NOT_NULL;
+
+/* Replies with the trees of the table: that of the rows, which is called primary, and then the indexes, in the order in which they were created. The request is a
+   header, whose number is 1 to reply with how much each tree holds too, which reads all nodes, and otherwise 0. The reply is the letters BTV, the version, and of
+   each tree: its name, as a text; its state in one byte, 0 if it is complete and 1 if it is an index that is building; the number of its key columns and that
+   of all its columns, each in eight bytes; its columns, as those of betable_columns; and, if that was requested, the three numbers of betable_usage. DONE,
+   OUT_OF_MEMORY, NOT_OPEN or REFUSED. */
+betable_status betable_trees(betable_session *session, const unsigned char *request, size_t length, betable_fault *fault) BETABLE_NOT_NULL;
 
 /* The number of bytes of the replies to the last script, or to the last call on packed bytes. 0 after betable_check, and if the session is not open. */
 size_t betable_replies_length(betable_session *session) BETABLE_NOT_NULL;

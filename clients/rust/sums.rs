@@ -28,7 +28,8 @@ pub struct Sums<'r> {
 
 impl Session {
     /// Groups the rows of a tree by the values of that many of its first key columns, and gives the number of rows in each group and the sum of a column. The
-    /// bounds are those of [`scan`](Session::scan).
+    /// bounds are those of [`scan`](Session::scan). Without columns all rows are one group, even if there are none, and without a name no column is summed: so
+    /// `sums(tree, 0, "", from, to)` counts the rows.
     pub fn sums<F, T>(&mut self, tree: &str, columns: u32, column: &str, from: &F, to: &T) -> Result<Sums<'_>, Fault>
     where
         F: Values + ?Sized,
@@ -52,8 +53,11 @@ impl<'r> Iterator for Sums<'r> {
     type Item = Group<'r>;
 
     fn next(&mut self) -> Option<Group<'r>> {
+        if self.bytes.is_empty() {
+            return None;
+        }
         let ends = self.ends.get(..self.columns.len())?;
-        let (bytes, rest) = self.bytes.split_at(*ends.last()?);
+        let (bytes, rest) = self.bytes.split_at(ends.last().copied().unwrap_or(0));
         let (numbers, rest) = rest.split_at(NUMBERS);
         let (count, total) = numbers.split_at(COUNT);
         (self.bytes, self.ends) = (rest, &self.ends[ends.len()..]);
@@ -62,7 +66,7 @@ impl<'r> Iterator for Sums<'r> {
     }
 
     fn size_hint(&self) -> (usize, Option<usize>) {
-        let count = self.ends.len() / self.columns.len().max(1);
+        let count = if self.columns.is_empty() { self.bytes.len() / NUMBERS } else { self.ends.len() / self.columns.len() };
         (count, Some(count))
     }
 }

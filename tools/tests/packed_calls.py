@@ -19,7 +19,7 @@ from betable import language
 
 DONE, NOT_OPEN, REFUSED = 0, 3, 5
 SYNTAX, NO_TABLE, BAD_FIELD, BAD_LENGTH, NO_SUCH_TREE, BUILDING, NO_SUCH_COLUMN, NOT_INT = 1, 3, 6, 7, 8, 11, 15, 16
-CALLS = ("betable_apply", "betable_get", "betable_page", "betable_sums", "betable_columns", "betable_usage")
+CALLS = ("betable_apply", "betable_get", "betable_page", "betable_sums", "betable_columns", "betable_usage", "betable_trees")
 UNWRITTEN = (99, 98, 97)
 PUT, DEL, UPS = range(3)
 WORDS = ("set", "add", "max", "min")
@@ -323,7 +323,7 @@ def call_in_values(command, table):
         bounds[line.word] = from_values(*values_of_fields(fields_of_line(line), table.key_of(words[1])))
     if words[0] == b"scan":
         return "betable_page", page(2**32 - 1, tree, *bounds.values())
-    if not words[2].isdigit():
+    if not words[2].isdigit() or int(words[2]) == 0:  # In values, all rows are one group then.
         raise NotInValues
     return "betable_sums", sums(int(words[2]), tree, words[3].decode(), *bounds.values())
 
@@ -452,6 +452,39 @@ class BesideScripts(TestCase):
                     reply = raw.reply("betable_sums", sums(keys, tree, "qty", after_row(*row[:keys])))
                     self.assertEqual([group[2:] for group in groups_of(self, reply, raw.kinds(tree)[:keys])], [later[:keys] for later in whole[place + 1 :]])
 
+    def test_one_group_of_no_columns_counts_and_sums_the_rows_of_a_range(self):
+        """Between bounds of each length and after a row, of ranges with rows and without, with a summed column and without one, which is no column of the
+        table."""
+        counts = set()
+        for seed in range(6):
+            dice = random.Random(seed)
+            raw = filled(dice, dice.choice([0, 1, 40, 200]))
+            for tree, columns in (("primary", ("id", "qty")), ("by_city", ("id", "qty")), ("large", ("qty", "id"))):
+                whole, names = raw.session.scan(tree), [column.name for column in raw.session.columns(tree)]
+                keys = len(raw.session.state.table.key_of(tree.encode()))
+                for _ in range(40):
+                    row = random_row(dice)
+                    key = dice.choice([*whole, {"primary": row[:1], "by_city": (row[1], row[0]), "large": (row[4], row[0])}[tree]])[:keys]
+                    bounds = [dice.choice([b"\0", from_values(*key[: dice.randrange(1, keys + 1)]), after_row(*key)]) for _ in range(2)]
+                    rows = rows_of(self, raw.reply("betable_page", page(2**32 - 1, tree, *bounds)), raw.kinds(tree))[0]
+                    counts.add(min(len(rows), 2))
+                    for column in ("", *columns):
+                        with self.subTest(tree=tree, column=column):
+                            total = sum(found[names.index(column)] for found in rows) if column else 0
+                            found = groups_of(self, raw.reply("betable_sums", sums(0, tree, column, *bounds)), [])
+                            self.assertEqual(found, [(len(rows), total)], bounds)
+        self.assertEqual(counts, {0, 1, 2})
+
+    def test_groups_are_counted_without_a_summed_column(self):
+        """By each number of columns, beside the groups with the sum of a column."""
+        raw = filled(random.Random(11), 200)
+        for tree, keys in (("primary", 1), ("by_city", 2), ("large", 2)):
+            for columns in range(1, keys + 1):
+                with self.subTest(tree=tree, columns=columns):
+                    kinds = raw.kinds(tree)[:columns]
+                    wanted = [(group[0], 0, *group[2:]) for group in groups_of(self, raw.reply("betable_sums", sums(columns, tree)), kinds)]
+                    self.assertEqual(groups_of(self, raw.reply("betable_sums", sums(columns, tree, "")), kinds), wanted)
+
     @both_ways
     def test_a_page_after_a_row_repeats_and_loses_no_row(self):
         """Pages that begin with 2 and the first bytes of the last row, which a program has without decoding it."""
@@ -538,6 +571,32 @@ class BesideScripts(TestCase):
                         seen.add((min(height, 3), counts["inner"] > 0))
         self.assertGreaterEqual(seen, {(1, False), (2, True), (3, True)})
 
+    def test_trees_are_those_of_the_calls_on_each_of_them(self):
+        """Their names, states and columns, and how much they hold if that is requested, of a table without rows and with several levels, and with indexes that
+        are complete, building and dropped, one of them under the first bytes of another name."""
+        for count in (0, 1, 100):
+            raw = filled(random.Random(count), count)
+            raw.session.run("index by on ok include qty,city\n")
+            is_building = {"primary": False, "by_city": False, "large": False, "by": True}
+            for change in ("", "drop large\n", "index later on qty,city where qty >= 6\n", "build by 100000\n", "build later 3\n", "drop by_city\n"):
+                raw.session.run(change)
+                words = change.split()
+                if words[:1] == ["drop"]:
+                    del is_building[words[1]]
+                elif words[:1] == ["index"]:
+                    is_building[words[1]] = True
+                elif words[:1] == ["build"]:
+                    is_building[words[1]] = not raw.session.state.table.indexes[words[1].encode()].is_complete
+                for number in (0, 1):
+                    with self.subTest(count=count, change=change, number=number):
+                        wanted = b"BTV\x01"
+                        for tree, state in is_building.items():
+                            columns = raw.reply("betable_columns", header(1) + value_bytes(tree))
+                            wanted += value_bytes(tree) + bytes([state]) + columns[4:12] + struct.pack("<Q", len(raw.kinds(tree))) + columns[12:]
+                            wanted += raw.reply("betable_usage", header(1) + value_bytes(tree))[4:] if number else b""
+                        self.assertEqual(raw.reply("betable_trees", header(number)), wanted)
+            self.assertEqual(is_building, {"primary": False, "by": False, "later": count == 100})
+
 
 # ---- bytes that are none of the layout ----
 
@@ -612,9 +671,12 @@ MALFORMED = [
     ("betable_sums", sums(1, "nothing"), (NO_SUCH_TREE, 0, 0)),
     ("betable_sums", sums(1, "begun"), (BUILDING, 0, 0)),
     ("betable_sums", sums(1, column="nothing"), (NO_SUCH_COLUMN, 0, 0)),
-    ("betable_sums", sums(1, column=""), (NO_SUCH_COLUMN, 0, 0)),
-    ("betable_sums", sums(0), (NO_SUCH_COLUMN, 0, 0)),
+    ("betable_sums", sums(0, column="nothing"), (NO_SUCH_COLUMN, 0, 0)),
+    ("betable_sums", sums(0, column="city"), (NOT_INT, 0, 0)),
+    ("betable_sums", sums(0, "begun", ""), (BUILDING, 0, 0)),
+    ("betable_sums", sums(0, "nothing", ""), (NO_SUCH_TREE, 0, 0)),
     ("betable_sums", sums(2), (NO_SUCH_COLUMN, 0, 0)),
+    ("betable_sums", sums(2, column=""), (NO_SUCH_COLUMN, 0, 0)),
     ("betable_sums", sums(2**32 - 1), (NO_SUCH_COLUMN, 0, 0)),
     ("betable_sums", sums(3, "by_city"), (NO_SUCH_COLUMN, 0, 0)),
     ("betable_sums", sums(1, "large", "city"), (NO_SUCH_COLUMN, 0, 0)),
@@ -637,6 +699,12 @@ MALFORMED = [
     ("betable_usage", header(1) + b"\x08primary", (BAD_FIELD, 0, 0)),
     ("betable_usage", header(1) + value_bytes("primary") + b"\0", (BAD_FIELD, 1, 0)),
     ("betable_usage", header(1) + value_bytes("nothing"), (NO_SUCH_TREE, 0, 0)),
+    ("betable_trees", b"", (SYNTAX, 0, 0)),
+    ("betable_trees", header(2), (SYNTAX, 0, 0)),
+    ("betable_trees", header(1, b"BTV\0"), (SYNTAX, 0, 0)),
+    ("betable_trees", header(1)[:-1], (SYNTAX, 0, 0)),
+    ("betable_trees", header(0) + b"\0", (BAD_FIELD, 1, 0)),
+    ("betable_trees", header(1) + value_bytes("primary"), (BAD_FIELD, 1, 0)),
 ]
 
 
@@ -820,11 +888,11 @@ def rows_between(read, tree, rows):
 
 
 def grouped(found, columns, place):
-    """Of each group of rows the number of rows, the sum, and the first values."""
-    groups = {}
+    """Of each group of rows the number of rows, the sum, and the first values. Without columns there is one group, and without a place the sums are 0."""
+    groups = {} if columns else {(): (0, 0)}
     for row in found:
         count, total = groups.get(row[:columns], (0, 0))
-        groups[row[:columns]] = (count + 1, total + row[place])
+        groups[row[:columns]] = (count + 1, total if place is None else total + row[place])
     return [(*numbers, *first) for first, numbers in groups.items()]
 
 
@@ -855,10 +923,12 @@ def tree_of(name):
 
 
 def place_to_sum(tree, column, number):
-    """The place of the column to sum by groups of that many columns."""
+    """The place of the column to sum by groups of that many columns, or None without a name."""
     kinds, keys, names, _ = TREES[tree]
-    if column not in names or not 1 <= number <= keys:
+    if number > keys or column and column not in names:
         raise Fault(NO_SUCH_COLUMN, 0, 0)
+    if not column:
+        return None
     if kinds[names.index(column)] != "int":
         raise Fault(NOT_INT, 0, 0)
     return names.index(column)
@@ -890,7 +960,7 @@ def random_request(dice, name):
     bounds = [dice.choice([b"\0", from_values(*keys[: dice.randrange(1, len(keys) + 1)]), after_row(*keys)]) for _ in range(2)]
     if name == "betable_page":
         return page(dice.choice([0, 1, 2, 5, 2**32 - 1]), tree, *bounds)
-    return sums(dice.randrange(4), tree, dice.choice(["qty", "qty", "qty", "id", "city", "ok", "nothing"]), *bounds)
+    return sums(dice.randrange(4), tree, dice.choice(["qty", "qty", "qty", "id", "city", "ok", "nothing", ""]), *bounds)
 
 
 class RandomBytes(TestCase):

@@ -1117,7 +1117,7 @@ static PyObject *summed(caller *self, PyObject *const given[5], outcome *ended)
     const int are_there = described(description, &there) && given[1] != NULL && given[2] != NULL;
     if (are_there && PyLong_CheckExact(given[1]) && PyUnicode_CheckExact(given[2])) {
         const long long grouped = PyLong_AsLongLongAndOverflow(given[1], &overflow);
-        if (grouped >= 1 && grouped <= there.keys) {
+        if (grouped >= 1 && grouped <= there.keys && PyUnicode_GetLength(given[2]) > 0) {
             found = taken(self, &bytes) ? begin_range(&bytes, &there, (uint64_t)grouped) : RAISED;
             if (found == DONE)
                 found = has_room(&bytes, MOST_VALUE_LENGTH) ? add_value(&bytes, given[2], TEXT) : RAISED;

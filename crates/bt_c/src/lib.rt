@@ -20,7 +20,7 @@ ghost use Rattle.bt_shell.specs.Runs.{AreOneRun, EndsBetweenCommands, after_comm
 ghost use Rattle.bt_shell.specs.Steps.{State};
 ghost use Rattle.bt_table.specs.Standing.{IsConsistent, IsSound};
 ghost use Rattle.bt_table.specs.Tables.{Lost};
-ghost use Rattle.bt_packed.specs.Calls.{columns_reply, get_reply, page_reply, sums_reply, usage_reply};
+ghost use Rattle.bt_packed.specs.Calls.{columns_reply, get_reply, page_reply, sums_reply, trees_reply, usage_reply};
 ghost use Rattle.bt_c.specs.Replies.{checked_marks, marks_of, reply_at};
 ghost use Rattle.bt_c.specs.Sessions.{IsAnswered, IsFault, IsUnmarked, StaysOpen, StaysOrIsLostIn, answer_of, applied_to, code_of, fault_of, is_lost, reply_from, session_of};
 ghost use Rattle.bt_c.specs.declared.status.Status.TheVariants as status;
@@ -288,6 +288,19 @@ pub extern "C" fn betable_usage(
     ensures answered { IsAnswered usage_reply name.now handle.old handle.new fault.new result }
 {
     answered(alloc, handle, Question::Usage, name, fault)
+}
+
+/// Replies with the packed trees of the table, as [`betable_get`] does.
+#[unsafe(no_mangle)]
+pub extern "C" fn betable_trees(
+    alloc: Global,
+    handle: &mut Handle,
+    request: &[u8],
+    fault: &mut FaultInC,
+) -> u32
+    ensures answered { IsAnswered trees_reply request.now handle.old handle.new fault.new result }
+{
+    answered(alloc, handle, Question::Trees, request, fault)
 }
 
 /// The number of bytes of the replies to the last script: none, if there is no session.

@@ -11,7 +11,7 @@ ghost use Rattle.bt_c.specs.Sessions.{StaysOrIsLostIn, answer_of, applied_to, is
 use crate::reply::{ReplyMark, ReplyMarks};
 use bt_packed::{
     Fault, ReplyRoom, apply_packed, columns_packed, get_packed, page_packed, sums_packed,
-    usage_packed,
+    trees_packed, usage_packed,
 };
 use bt_script::{Counted, RunFault};
 use bt_shell::{Context, check_commands, run_commands};
@@ -72,6 +72,8 @@ pub enum Question {
     Columns,
     /// How much does a tree hold?
     Usage,
+    /// Which trees are there?
+    Trees,
 }
 
 // The reply to a question.
@@ -91,6 +93,7 @@ fn answer(
         Question::Sums => sums_packed(alloc, table, bytes, room),
         Question::Columns => columns_packed(alloc, table, bytes, room),
         Question::Usage => usage_packed(alloc, table, bytes, room),
+        Question::Trees => trees_packed(alloc, table, bytes, room),
     }
 }
 

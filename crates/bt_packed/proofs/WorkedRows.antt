@@ -9,7 +9,7 @@ use Rattle.bt_value.specs.declared.value.Value.TheVariants as value
 use Rattle.bt_row.specs.Schemas.{Schema}
 use Rattle.bt_row.specs.declared.rows.schema.Column.{Column}
 use Rattle.bt_row.specs.declared.operations.op.Op.TheVariants.{Add, Set}
-use Rattle.bt_packed.specs.Calls.{count_bytes, packed_rows, packed_sums, packed_usage, total_bytes}
+use Rattle.bt_packed.specs.Calls.{count_bytes, packed_rows, packed_sums, packed_usage, total_bytes, tree_bytes}
 use Rattle.bt_packed.specs.Changes.{op_at, ops_at}
 use Rattle.bt_packed.specs.Layout.{bad_bytes, fault_at, header_at, int_bytes, int_from, number_from, row_bytes, value_at, values_at}
 
@@ -87,6 +87,12 @@ rows_messages_height : packed_usage (record { rows = 258; messages = 7; height =
     ≡ codes "BTV" ++ (1 ∷ 2 ∷ 1 ∷ 0 ∷ 0 ∷ 0 ∷ 0 ∷ 0 ∷ 0 ∷ [] ++ (seven ++ (1 ∷ 0 ∷ 0 ∷ 0 ∷ 0 ∷ 0 ∷ 0 ∷ 0 ∷ [])))
 unfolding count_bytes
 rows_messages_height = refl
+
+-- a tree a of the key id, which is building
+building_tree : tree_bytes (codes "a") false (record { columns = column (codes "id") kind.Int ∷ []; keys = 1 })
+    ≡ 1 ∷ 97 ∷ 1 ∷ [] ++ (1 ∷ 0 ∷ 0 ∷ 0 ∷ 0 ∷ 0 ∷ 0 ∷ 0 ∷ [] ++ (1 ∷ 0 ∷ 0 ∷ 0 ∷ 0 ∷ 0 ∷ 0 ∷ 0 ∷ [] ++ (0 ∷ 2 ∷ 105 ∷ 100 ∷ [])))
+unfolding count_bytes
+building_tree = refl
 
 -- ---- headers
 

@@ -1,5 +1,5 @@
 -- The calls of a table on packed bytes: the table after each, the reply, or the fault.
-use Rattle.std.specs.Prelude.{ℕ, ℤ, ◌==◌, ◌&&◌, ◌++◌, List, [], ◌∷◌, fold, length, take, nat_le, nat_lt, Option, Some, None, Result, Ok, Err, if◌then◌else◌}
+use Rattle.std.specs.Prelude.{ℕ, ℤ, ◌==◌, ◌&&◌, ◌++◌, Bool, true, false, List, [], ◌∷◌, fold, length, take, nat_le, nat_lt, Option, Some, None, Result, Ok, Err, if◌then◌else◌}
 use Rattle.std.specs.FinMap.{find}
 use Rattle.std.specs.Int.{cast_unsigned, to_le_bytes, w64, w128}
 use Rattle.bt_value.specs.Kinds.{tag_of}
@@ -15,10 +15,12 @@ use Rattle.bt_keycode.specs.Keys.{Key, key_cmp}
 use Rattle.bt_message.specs.Messages.{sorted_batch}
 use Rattle.bt_form.specs.Messages.{Rows}
 use Rattle.bt_batch.specs.Batches.{RowMessages}
-use Rattle.bt_table.specs.Tables.{Intact, Lost, TableState, after_batch}
-use Rattle.bt_view.specs.Groups.{sums_between}
-use Rattle.bt_view.specs.Ranges.{page, tree_columns}
-use Rattle.bt_view.specs.Usage.{usage}
+use Rattle.bt_table.specs.Calls.{primary}
+use Rattle.bt_table.specs.Indexes.{Index, is_complete}
+use Rattle.bt_table.specs.Tables.{Intact, Lost, PlainTable, TableState, after_batch}
+use Rattle.bt_view.specs.RangeSums.{sums_between}
+use Rattle.bt_view.specs.Ranges.{index_schema, page, tree_columns}
+use Rattle.bt_view.specs.Usage.{usage, usage_of}
 use Rattle.bt_show.specs.declared.groups.Sum.{Sum}
 use Rattle.bt_show.specs.declared.range.KeyRange.{KeyRange}
 use Rattle.bt_show.specs.declared.tree_usage.TreeUsage.{TreeUsage}
@@ -214,11 +216,54 @@ abbrev pub columns_reply : TableState → List ℕ → Result (List ℕ) Fault
 columns_reply state bytes = then_do (columns_named state) (packed_name bytes)
 
 -- how much a tree holds: its rows, messages and height, each in eight bytes
+abbrev pub usage_bytes : TreeUsage → List ℕ
+usage_bytes usage = count_bytes usage.rows ++ (count_bytes usage.messages ++ count_bytes usage.height)
+
 abbrev pub packed_usage : TreeUsage → List ℕ
-packed_usage usage = magic ++ (count_bytes usage.rows ++ (count_bytes usage.messages ++ count_bytes usage.height))
+packed_usage usage = magic ++ usage_bytes usage
 
 abbrev pub usage_named : TableState → List ℕ → Result (List ℕ) Fault
 usage_named state name = on_ok packed_usage (of_call (usage state name))
 
 abbrev pub usage_reply : TableState → List ℕ → Result (List ℕ) Fault
 usage_reply state bytes = then_do (usage_named state) (packed_name bytes)
+
+-- ---- the trees of a table
+
+-- a tree: its name after its length; 0 if it is complete, and 1 if it is an index that is building; the number of its key columns; and its columns after their
+-- number
+abbrev pub tree_bytes : List ℕ → Bool → Schema → List ℕ
+tree_bytes name is_complete schema =
+    (length name ∷ name) ++ ((if is_complete then 0 else 1) ∷ (count_bytes schema.keys ++ (count_bytes (length schema.columns) ++ columns_bytes schema.columns)))
+
+-- how much it holds follows, if that is asked for
+abbrev pub with_usage : Bool → TreeUsage → List ℕ → List ℕ
+with_usage has_usage usage bytes = bytes ++ (if has_usage then usage_bytes usage else [])
+
+-- the tree of the rows
+abbrev pub rows_bytes : Bool → PlainTable → List ℕ
+rows_bytes has_usage table = with_usage has_usage (usage_of table.tree) (tree_bytes primary true table.schema)
+
+-- an index of a table with this schema
+abbrev pub index_bytes : Bool → Schema → Index → List ℕ
+index_bytes has_usage schema index = with_usage has_usage (usage_of index.tree.1) (tree_bytes index.name (is_complete index) (index_schema schema index.def))
+
+abbrev pub indexes_bytes : Bool → Schema → List Index → List ℕ
+indexes_bytes has_usage schema [] = []
+indexes_bytes has_usage schema (index ∷ indexes) = index_bytes has_usage schema index ++ indexes_bytes has_usage schema indexes
+
+-- the tree of the rows, and the indexes in order of creation
+abbrev pub packed_trees : Bool → PlainTable → List ℕ
+packed_trees has_usage table = magic ++ (rows_bytes has_usage table ++ indexes_bytes has_usage table.schema table.indexes)
+
+abbrev pub trees_of : Bool → TableState → Result (List ℕ) Fault
+trees_of has_usage Lost = Err (fault_at Failed 0 0)
+trees_of has_usage (Intact table) = Ok (packed_trees has_usage table)
+
+-- whether the trees are asked for with how much each holds: a header with the number 0 or 1, and nothing after it
+abbrev pub usage_asked : Option (Read ℕ) → Result Bool Fault
+usage_asked None = Err no_header
+usage_asked (Some read) = if read.0 == 0 then whole 1 (false, read.1) else if read.0 == 1 then whole 1 (true, read.1) else Err no_header
+
+abbrev pub trees_reply : TableState → List ℕ → Result (List ℕ) Fault
+trees_reply state bytes = then_do (λ has_usage. trees_of has_usage state) (usage_asked (header_at bytes))

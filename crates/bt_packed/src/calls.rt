@@ -15,6 +15,7 @@ use crate::fault::Fault;
 use crate::page::{name_at, range_at};
 use crate::reading::header_at;
 use crate::rows::{PackedRows, ReplyRoom};
+use crate::trees::packed_trees;
 use bt_keycode::encode_row;
 use bt_messages::Packet;
 use bt_row::{Row, Schema};
@@ -244,4 +245,36 @@ pub fn sums_packed(
     let (column, rest) = name_at(alloc, rest)?;
     let range = read_range(alloc, table, &name, rest)?;
     groups_between(alloc, table, &name, grouping, &column, &range, room)
+}
+
+// Whether packed bytes ask for how much each tree holds, beside its columns.
+fn read_usage_asked(bytes: &[u8]) -> Result<bool, Fault>
+    ensures { result ≡ spec.usage_asked (bytes_header bytes.now) }
+{
+    let Some((number @ (0 | 1), rest)) = header_at(bytes) else {
+        return Err(Fault::no_header());
+    };
+    if rest.is_empty() {
+        Ok(number == 1)
+    } else {
+        Err(Fault::bad_bytes(1, 0))
+    }
+}
+
+/// The packed trees of the table: their names, states and columns, and how much each holds if packed bytes ask for it.
+pub fn trees_packed(
+    alloc: Global,
+    table: &Table,
+    bytes: &[u8],
+    room: ReplyRoom,
+) -> Result<Vec<u8>, Fault>
+    ensures done { IfOk result (λ reply. spec.trees_reply table.now bytes.now ≡ Ok reply.items) }
+    ensures headless { bytes_header bytes.now ≡ None → IsErrOf result no_header }
+    ensures fault { IfErr result (λ fault. fault.refusal ≢ Refusal.OutOfMemory → spec.trees_reply table.now bytes.now ≡ Err fault) }
+{
+    let has_usage = read_usage_asked(bytes)?;
+    match table.trees() {
+        Ok(trees) => Ok(packed_trees(alloc, trees, has_usage, room)?),
+        Err(refusal) => Err(Fault::of_call(refusal)),
+    }
 }

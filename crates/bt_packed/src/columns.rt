@@ -14,8 +14,8 @@ fn add_column(out: &mut Vec<u8>, column: &Column) -> Result<(), AllocError>
     add_bytes(out, column.name.as_bytes())
 }
 
-// Adds columns.
-fn add_columns(out: &mut Vec<u8>, columns: &[Column]) -> Result<(), AllocError>
+/// Adds columns.
+pub(crate) fn add_columns(out: &mut Vec<u8>, columns: &[Column]) -> Result<(), AllocError>
     ensures { OnOk result (out.new.items ≡ out.old.items ++ spec.columns_bytes columns.now) }
 {
     for column in columns {

@@ -42,13 +42,20 @@ pub(crate) fn packed_sums(sums: &[Sum], room: ReplyRoom) -> Result<Vec<u8>, Allo
     Ok(out)
 }
 
+/// Adds how much a tree holds.
+pub(crate) fn add_usage(out: &mut Vec<u8>, usage: TreeUsage) -> Result<(), AllocError>
+    ensures { OnOk result (out.new.items ≡ out.old.items ++ spec.usage_bytes usage) }
+{
+    out.extend_from_slice(&count_bytes(usage.rows))?;
+    out.extend_from_slice(&count_bytes(usage.messages))?;
+    out.extend_from_slice(&count_bytes(usage.height))
+}
+
 /// How much a tree holds.
 pub(crate) fn packed_usage(usage: TreeUsage, room: ReplyRoom) -> Result<Vec<u8>, AllocError>
     ensures { IfOk result (λ bytes. bytes.items ≡ spec.packed_usage usage) }
 {
     let mut out = room.begin()?;
-    out.extend_from_slice(&count_bytes(usage.rows))?;
-    out.extend_from_slice(&count_bytes(usage.messages))?;
-    out.extend_from_slice(&count_bytes(usage.height))?;
+    add_usage(&mut out, usage)?;
     Ok(out)
 }

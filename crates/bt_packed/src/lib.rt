@@ -14,8 +14,12 @@
 //!   columns in eight bytes, and of each column the kind in one byte (0 int, 1 text, 2 flag, 4 bytes) and the name as a text.
 //! - The name of a tree ([`usage_packed`]), in the same form: the reply has, after the first four bytes, the number of rows in the leaves of the tree, the number
 //!   of messages in its buffers and its height, each in eight bytes.
+//! - Trees ([`trees_packed`]): the number 0 in four bytes, or 1 for how much each tree holds too. The reply has, after the first four bytes, of the tree of the rows
+//!   and then of each index: its name as a text, one byte (0 complete, 1 building), the numbers of its key columns and of all its columns in eight bytes each, its
+//!   columns as above, and, with the number 1, how much it holds as above.
 //! - Sums ([`sums_packed`]): the number of columns of a group in four bytes, the name of the tree and that of the summed column as texts, and two bounds as for a
-//!   page. The reply has, after the first four bytes, of each group the values of its columns, the number of its rows in eight bytes and the sum in sixteen.
+//!   page. The reply has, after the first four bytes, of each group the values of its columns, the number of its rows in eight bytes and the sum in sixteen. The
+//!   number 0 makes one group of all rows of the range, even of none; with an empty name for the column, no column is summed, and each sum is 0.
 //! - Rows (the replies to a key and to a page): after the first four bytes, the values of each row, one row after the other, to the end of the bytes.
 //!
 //! ```text
@@ -36,8 +40,11 @@ mod operations;
 mod page;
 mod reading;
 mod rows;
+mod trees;
 
-pub use calls::{apply_packed, columns_packed, get_packed, page_packed, sums_packed, usage_packed};
+pub use calls::{
+    apply_packed, columns_packed, get_packed, page_packed, sums_packed, trees_packed, usage_packed,
+};
 pub use changes::read_changes;
 pub use fault::Fault;
 pub use rows::{PackedRows, ReplyRoom};

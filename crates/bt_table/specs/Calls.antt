@@ -62,9 +62,13 @@ pub data Call : Type 0 where
 abbrev pub unless_any : {A : Type 0} → List Refusal → A → Result A Refusal
 unless_any refusals value = unless (lowest refusals) value
 
--- whether a name is that of the tree of rows
+-- the name of the tree of rows
+abbrev pub primary : List ℕ
+primary = codes "primary"
+
+-- whether a name is that
 abbrev pub is_primary : List ℕ → Bool
-is_primary name = pointwise ◌==◌ name (codes "primary")
+is_primary name = pointwise ◌==◌ name primary
 
 -- the largest number of indexes of a table
 abbrev pub most_indexes : ℕ

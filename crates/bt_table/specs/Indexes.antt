@@ -15,6 +15,7 @@ use Rattle.bt_fanout.specs.declared.cover.Cover.{Cover}
 use Rattle.bt_fanout.specs.declared.cover.Cover.TheVariants.{Nothing}
 use Rattle.bt_table.specs.declared.index.IndexHead.{IndexHead}
 use Rattle.bt_table.specs.declared.index.IndexRef.{IndexRef}
+use Rattle.bt_table.specs.declared.index.IndexRefs.{IndexRefs}
 use Rattle.bt_table.specs.declared.reply.SentCount.{SentCount}
 
 -- a tree of the entries of an index
@@ -41,6 +42,10 @@ indexes_of (head ∷ heads) (tree ∷ trees) = index_with head tree ∷ indexes_
 -- a borrowed index
 abbrev pub index_of_ref : IndexRef → Index
 index_of_ref index = index_with index.head.now index.tree.now
+
+-- borrowed indexes
+abbrev pub indexes_of_refs : IndexRefs → List Index
+indexes_of_refs refs = indexes_of refs.heads.now refs.trees.now
 
 -- ---- names
 

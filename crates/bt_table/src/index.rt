@@ -1,5 +1,5 @@
 //! The indexes of a table: the head of each index, and beside it the tree of its entries.
-ghost use Rattle.std.specs.Prelude.{◌≡◌, ◌<◌, ◌++◌, ◌∷◌, [], IfOk, IfSome, List, Some, if◌then◌else◌, is_ok, length, map, option_map, set, slice_get};
+ghost use Rattle.std.specs.Prelude.{◌≡◌, ◌<◌, ◌++◌, ◌∷◌, [], IfNone, IfOk, IfSome, List, Some, if◌then◌else◌, is_ok, length, map, option_map, set, slice_get};
 ghost use Rattle.std.specs.List.{All, list_all};
 ghost use Rattle.bt_form.specs.Flushes.{holds};
 ghost use Rattle.bt_form.specs.Trees.{leaf};
@@ -8,7 +8,7 @@ ghost use Rattle.bt_fanout.specs.declared.effect.Effect.{Effect};
 ghost use Rattle.bt_fanout.specs.Covers.{is_whole};
 ghost use Rattle.bt_fanout.specs.Promises.{SuitsRows};
 ghost use Rattle.bt_table.specs.Indexes as spec;
-ghost use Rattle.bt_table.specs.Indexes.{index_of_ref, indexes_of};
+ghost use Rattle.bt_table.specs.Indexes.{index_of_ref, indexes_of, indexes_of_refs};
 ghost use Rattle.bt_table.specs.inside.IndexTrees.{covers_all, empty_head, entry_tree, packet_for, count_for, of_head, of_target, widest, with_cover};
 
 use crate::reply::SentCount;
@@ -39,6 +39,41 @@ pub struct IndexRef<'a> {
     pub head: &'a IndexHead,
     /// Its entries.
     pub tree: &'a Tree<Entry>,
+}
+
+/// The borrowed indexes of a table, in order of creation.
+#[derive(Clone, Copy)]
+pub struct IndexRefs<'a> {
+    pub(crate) heads: &'a [IndexHead],
+    /// The trees of their entries.
+    pub(crate) trees: &'a [Tree<Entry>],
+}
+
+impl<'a> IndexRefs<'a> {
+    /// Takes the first of them, if there is one.
+    pub fn next(&mut self) -> Option<IndexRef<'a>>
+        ensures some { IfSome result (λ index. indexes_of_refs self.old ≡ index_of_ref index ∷ indexes_of_refs self.new) }
+        ensures none { IfNone result (indexes_of_refs self.old ≡ []) }
+    {
+        let [head, heads @ ..] = self.heads else {
+            return None;
+        };
+        let [tree, trees @ ..] = self.trees else {
+            return None;
+        };
+        self.heads = heads;
+        self.trees = trees;
+        Some(IndexRef { head, tree })
+    }
+}
+
+impl IndexRef<'_> {
+    /// Whether it is complete: it has each row that its definition selects.
+    pub fn is_complete(&self) -> bool
+        ensures { result ≡ spec.is_complete (index_of_ref self.now) }
+    {
+        is_whole(&self.head.cover)
+    }
 }
 
 /// Adds an index that covers no row yet after the others. An `Err` changes none.

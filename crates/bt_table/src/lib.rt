@@ -31,8 +31,8 @@ mod trees;
 mod workforce;
 
 pub use alone::Alone;
-pub use index::{IndexHead, IndexRef};
+pub use index::{IndexHead, IndexRef, IndexRefs};
 pub use reply::{Reply, SentCount};
-pub use table::{MOST_INDEXES, Table, TreeRef};
+pub use table::{MOST_INDEXES, Table, TreeRef, TreeRefs, name_of_rows};
 pub use table_loading::TableLoading;
 pub use workforce::Workforce;

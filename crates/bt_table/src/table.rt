@@ -6,15 +6,16 @@ ghost use Rattle.bt_value.specs.Refusals.{lowest};
 ghost use Rattle.bt_table.specs.Calls as spec;
 ghost use Rattle.bt_table.specs.Calls.{Apply, ApplyMessages, CreateIndex, DropIndex, Get, GetAt, IsCertain, IsRefused, IsStep, IsTextOfMessages, Shows, StaysOrIsLost, index_refusals, is_primary, step, tree_named};
 ghost use Rattle.bt_table.specs.Standing.{HasSchema, IsConsistent, SuitMessages, Suits};
-ghost use Rattle.bt_table.specs.Tables.{Intact, Lost, empty_table};
+ghost use Rattle.bt_table.specs.Indexes.{indexes_of_refs};
+ghost use Rattle.bt_table.specs.Tables.{Intact, Lost, empty_table, held_by};
 
 mod checks;
 mod load;
 mod upkeep;
 
 use crate::index::{
-    FanOut, IndexHead, IndexRef, add_index, fan_out, find_index, is_whole, put_cover, put_tree,
-    take_tree,
+    FanOut, IndexHead, IndexRef, IndexRefs, add_index, fan_out, find_index, is_whole, put_cover,
+    put_tree, take_tree,
 };
 use crate::reply::Reply;
 use crate::trees::{TreeRoom, Trees, put_trees, sunk_all, sunk_one, take_trees};
@@ -73,10 +74,25 @@ pub enum TreeRef<'a> {
     },
 }
 
+/// The borrowed trees of a table: that of its rows, and those of its indexes.
+#[derive(Clone, Copy)]
+pub struct TreeRefs<'a> {
+    pub schema: &'a Schema,
+    pub rows: &'a Tree<Row>,
+    pub indexes: IndexRefs<'a>,
+}
+
+/// The name of the tree of the rows.
+pub fn name_of_rows() -> &'static [u8]
+    ensures { result.now ≡ spec.primary }
+{
+    b"primary"
+}
+
 fn is_name_of_rows(name: &Text) -> bool
     ensures { result ≡ is_primary name.now }
 {
-    name.as_bytes() == b"primary".as_slice()
+    name.as_bytes() == name_of_rows()
 }
 
 impl Table {
@@ -341,6 +357,24 @@ impl Table {
             return Err(Refusal::Failed);
         };
         Ok(Reply::Row(trees.rows.get(alloc, key)?))
+    }
+
+    /// All trees. Allocates nothing.
+    pub fn trees(&self) -> Result<TreeRefs<'_>, Refusal>
+        ensures trees { IfOk result (λ trees. self.now ≡ Intact (held_by trees.schema.now trees.rows.now (indexes_of_refs trees.indexes))) }
+        ensures refused { IfErr result (λ refusal. (self.now ≡ Lost) × (refusal ≡ Refusal.Failed)) }
+    {
+        let Some(trees) = &self.trees else {
+            return Err(Refusal::Failed);
+        };
+        Ok(TreeRefs {
+            schema: &self.schema,
+            rows: &trees.rows,
+            indexes: IndexRefs {
+                heads: self.heads.as_slice(),
+                trees: trees.entries.as_slice(),
+            },
+        })
     }
 
     /// The tree of this name: the tree of the rows is `primary`, and each index has its own name. Allocates nothing.

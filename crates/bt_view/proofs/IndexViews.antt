@@ -20,7 +20,8 @@ use Rattle.bt_table.specs.Tables.{PlainTable}
 use Rattle.bt_table.specs.Indexes.{Index}
 use Rattle.bt_table.proofs.offered.KeyOrder.{keys_rise}
 use Rattle.bt_show.specs.inside.Entries.{index_kinds, rows_of_entries}
-use Rattle.bt_view.specs.Groups.{groups_of, summed_place, sums_of, sums_within}
+use Rattle.bt_view.specs.Groups.{groups_of, summed_place, sums_of, unless_too_many}
+use Rattle.bt_view.specs.RangeSums.{groups_by, groups_within, place_in_range}
 use Rattle.bt_show.specs.inside.Neighbours.{after_row}
 use Rattle.bt_view.specs.Ranges.{index_row, index_schema, page_of, range_as, rows_within, scan_with_keys_of, when_whole}
 use Rattle.bt_show.specs.declared.groups.Sum.{Sum}
@@ -28,7 +29,9 @@ use Rattle.bt_show.specs.declared.range.KeyRange.{KeyRange}
 use Rattle.bt_show.proofs.offered.SelectedRows.{shown-between, shown-rows, shown-take}
 use Rattle.bt_view.proofs.IndexRows.{all_rise, all_shown, all_stand}
 use Rattle.bt_view.proofs.RowOrder.{ascend}
+use Rattle.bt_view.specs.inside.Shown.{with_whole}
 use Rattle.bt_view.proofs.Summing.{of_rows}
+use Rattle.bt_view.proofs.WholeGroups.{ranged}
 
 -- places of kinds are places of columns
 under : (columns : List Column) (places : List ℕ) → All (λ place. place < length (kinds_of columns)) places → All (λ place. place < length columns) places
@@ -134,20 +137,26 @@ module _ (table : PlainTable) (index : Index) (from to : Option (List (List ℕ)
           of_rows grouping place (map (λ c. c.kind) (take grouping (index_schema table.schema index.def).columns)) (between own.from own.to rows) ascending
           ∙ ap (λ rows. or_refused TooMany (fold after_row (grouping, place, Some []) rows).2) (sym (through own whole))
 
-      -- by whether the index covers all, and by the place of the summed column
-      abbrev sums_when : KeyRange → Bool → Result ℕ Refusal → Result (List Sum) Refusal
-      sums_when own whole place = and_then (λ rows. and_then (λ place. groups_of grouping place (rows_within own rows)) place) (if whole then Ok rows else Err Building)
+      -- the place of the summed column where there may be none
+      abbrev pub range_place_by : Schema → Result ℕ Refusal
+      range_place_by schema = place_in_range (index_schema schema index.def).columns (index_schema schema index.def).keys grouping column
 
-      pub sums_placed : (place : ℕ) (own : KeyRange) → is_whole index.cover ≡ true → place_by schema ≡ Ok place → grouping ≤ (index_schema schema index.def).keys
-          → sums_within grouping column (Secondary table index) own ≡ or_refused TooMany (fold after_row (grouping, place, Some []) (entries_by schema own)).2
-      sums_placed place own whole placed few =
-          ap (λ w. sums_when own w (place_by table.schema)) whole ∙ ap (sums_when own true) (subst (λ s. place_by s ≡ Ok place) shows.schema_is placed)
-          ∙ groups_of_entries place own whole few
+      -- by whether the index covers all, and by that place
+      abbrev groups_when : KeyRange → Bool → Result ℕ Refusal → Result (List Sum) Refusal
+      groups_when own whole place =
+          and_then (λ rows. and_then (λ place. unless_too_many (groups_by grouping place (rows_within own rows))) place) (if whole then Ok rows else Err Building)
 
-      pub sums_unplaced : (refusal : Refusal) (own : KeyRange) → is_whole index.cover ≡ true → place_by schema ≡ Err refusal
-          → sums_within grouping column (Secondary table index) own ≡ Err refusal
-      sums_unplaced refusal own whole none =
-          ap (λ w. sums_when own w (place_by table.schema)) whole ∙ ap (sums_when own true) (subst (λ s. place_by s ≡ Err refusal) shows.schema_is none)
+      pub range_placed : (place : ℕ) (own : KeyRange) → is_whole index.cover ≡ true → range_place_by schema ≡ Ok place → grouping ≤ (index_schema schema index.def).keys
+          → groups_within grouping column (Secondary table index) own
+          ≡ map_ok (with_whole grouping) (or_refused TooMany (fold after_row (grouping, place, Some []) (entries_by schema own)).2)
+      range_placed place own whole placed few =
+          ap (λ w. groups_when own w (range_place_by table.schema)) whole ∙ ap (groups_when own true) (subst (λ s. range_place_by s ≡ Ok place) shows.schema_is placed)
+          ∙ ranged grouping place (rows_within own rows) (fold after_row (grouping, place, Some []) (entries_by schema own)).2 (groups_of_entries place own whole few)
+
+      pub range_unplaced : (refusal : Refusal) (own : KeyRange) → is_whole index.cover ≡ true → range_place_by schema ≡ Err refusal
+          → groups_within grouping column (Secondary table index) own ≡ Err refusal
+      range_unplaced refusal own whole none =
+          ap (λ w. groups_when own w (range_place_by table.schema)) whole ∙ ap (groups_when own true) (subst (λ s. range_place_by s ≡ Err refusal) shows.schema_is none)
 
       pub sums_done : (place : ℕ) (own : KeyRange) → and_then (when_whole index.cover) (range_by schema) ≡ Ok own → place_by schema ≡ Ok place → grouping ≤ (index_schema schema index.def).keys
           → sums_of grouping column from to (Secondary table index) ≡ or_refused TooMany (fold after_row (grouping, place, Some []) (entries_by schema own)).2

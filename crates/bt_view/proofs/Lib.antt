@@ -6,4 +6,5 @@ pub mod offered
 pub mod RowOrder
 pub mod ShownRows
 pub mod Summing
+pub mod WholeGroups
 pub mod WorkedRows

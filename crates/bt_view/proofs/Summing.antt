@@ -1,7 +1,7 @@
 -- The groups that a visitor of rows has at the end are those by the codes of their columns. Serves grouped sums.
 use Rattle.std.proofs.Common.{◌≡◌, ◌≢◌, ◌∙◌, ◌≤◌, ℕ, List, [], IfErr, None, Option, Some, Result, Ok, Err, refl, sym, ap, fold, map, subst, take}
 use Rattle.std.proofs.lemmas.List.Folds.{fold-map}
-use Rattle.bt_value.specs.Results.{or_refused, and_then}
+use Rattle.bt_value.specs.Results.{or_refused, and_then, map_ok}
 use Rattle.bt_row.specs.Schemas.{Schema}
 use Rattle.bt_value.specs.declared.refusal.Refusal.{Refusal}
 use Rattle.bt_value.specs.declared.refusal.Refusal.TheVariants.{TooMany}
@@ -13,14 +13,17 @@ use Rattle.bt_form.specs.Trees.{Shape}
 use Rattle.bt_fanout.specs.Effects.{row_effect}
 use Rattle.bt_table.specs.Calls.{Primary, ShowsRows, tree_named}
 use Rattle.bt_table.specs.Tables.{PlainTable, RowTree, TableState}
-use Rattle.bt_view.specs.Groups.{groups_of, summed_place, sums, sums_of, sums_within}
+use Rattle.bt_view.specs.Groups.{groups_of, summed_place, sums, sums_of, sums_within, unless_too_many}
+use Rattle.bt_view.specs.RangeSums.{groups_by, groups_within, place_in_range}
 use Rattle.bt_show.specs.inside.GroupParts.{columns_stay}
 use Rattle.bt_show.specs.inside.Neighbours.{Ascend, Groups, grouped, after_row}
 use Rattle.bt_view.specs.Ranges.{range_as, rows_within}
 use Rattle.bt_show.specs.declared.groups.Sum.{Sum}
 use Rattle.bt_show.specs.declared.range.KeyRange.{KeyRange}
 use Rattle.bt_view.proofs.GroupOrder.{by_neighbours}
+use Rattle.bt_view.specs.inside.Shown.{with_whole}
 use Rattle.bt_view.proofs.RowOrder.{ascend}
+use Rattle.bt_view.proofs.WholeGroups.{ranged}
 
 pub of_rows : (columns place : ℕ) (kinds : List Kind) (rows : Rows (List Value)) → Ascend columns kinds (map (λ row. row.1) rows)
     → groups_of columns place (map (λ row. row.1) rows) ≡ or_refused TooMany (fold after_row (columns, place, Some []) rows).2
@@ -51,6 +54,9 @@ module _ (table : PlainTable) (schema : Schema) (tree : Shape × RowTree) (shows
   abbrev place_by : Schema → Result ℕ Refusal
   place_by schema = summed_place schema.columns schema.keys grouping column
 
+  abbrev range_place_by : Schema → Result ℕ Refusal
+  range_place_by schema = place_in_range schema.columns schema.keys grouping column
+
   -- the groups of a range of keys are those of the rows that the tree holds
   pub groups_of_held : (own : KeyRange) (place : ℕ) → grouping ≤ schema.keys
       → groups_of grouping place (rows_within own table.rows) ≡ or_refused TooMany (fold after_row (grouping, place, Some []) (between own.from own.to (holds row_effect tree.1))).2
@@ -65,10 +71,19 @@ module _ (table : PlainTable) (schema : Schema) (tree : Shape × RowTree) (shows
   sums_placed own place placed few =
       ap (and_then (λ place. groups_of grouping place (rows_within own table.rows))) (subst (λ s. place_by s ≡ Ok place) shows.schema_is placed) ∙ groups_of_held own place few
 
+  -- the same where there may be no columns, or no summed one
+  pub range_placed : (own : KeyRange) (place : ℕ) → range_place_by schema ≡ Ok place → grouping ≤ schema.keys
+      → groups_within grouping column (Primary table) own
+      ≡ map_ok (with_whole grouping) (or_refused TooMany (fold after_row (grouping, place, Some []) (between own.from own.to (holds row_effect tree.1))).2)
+  range_placed own place placed few =
+      ap (and_then (λ place. unless_too_many (groups_by grouping place (rows_within own table.rows)))) (subst (λ s. range_place_by s ≡ Ok place) shows.schema_is placed)
+      ∙ ranged grouping place (rows_within own table.rows) (fold after_row (grouping, place, Some []) (between own.from own.to (holds row_effect tree.1))).2
+      (groups_of_held own place few)
+
   -- and if it has none
-  pub sums_unplaced : (own : KeyRange) (refusal : Refusal) → place_by schema ≡ Err refusal → sums_within grouping column (Primary table) own ≡ Err refusal
-  sums_unplaced own refusal none =
-      ap (and_then (λ place. groups_of grouping place (rows_within own table.rows))) (subst (λ s. place_by s ≡ Err refusal) shows.schema_is none)
+  pub range_unplaced : (own : KeyRange) (refusal : Refusal) → range_place_by schema ≡ Err refusal → groups_within grouping column (Primary table) own ≡ Err refusal
+  range_unplaced own refusal none =
+      ap (and_then (λ place. unless_too_many (groups_by grouping place (rows_within own table.rows)))) (subst (λ s. range_place_by s ≡ Err refusal) shows.schema_is none)
 
   pub sums_of_rows : (state : TableState) (name : List ℕ) (own : KeyRange) (place : ℕ) → tree_named state name ≡ Ok (Primary table) → range_by schema ≡ Ok own
       → place_by schema ≡ Ok place → grouping ≤ schema.keys

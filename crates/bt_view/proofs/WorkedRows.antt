@@ -13,7 +13,8 @@ use Rattle.bt_form.specs.Trees.{inner, leaf, node, none}
 use Rattle.bt_fanout.specs.declared.cover.Cover.{Cover}
 use Rattle.bt_fanout.specs.declared.cover.Cover.TheVariants.{UpTo, Whole}
 use Rattle.bt_table.specs.Tables.{TableState, Intact, empty_table}
-use Rattle.bt_view.specs.Groups.{sums, sums_between}
+use Rattle.bt_view.specs.Groups.{sums}
+use Rattle.bt_view.specs.RangeSums.{sums_between}
 use Rattle.bt_view.specs.Ranges.{scan}
 use Rattle.bt_view.specs.Usage.{usage_of}
 
@@ -60,6 +61,22 @@ pub sums_of_keys : sums_between (with_cover Whole) (codes "q") 1 (codes "id") (r
     ≡ Ok (record { group = value.Int (pos 20) ∷ []; count = 2; total = pos 4 } ∷ [])
 unfolding eight_bytes values_on_literals
 sums_of_keys = refl
+
+-- all of these rows as one group, with the sum of a column; without a summed column it is their count, of no rows too
+pub sum_of_range : sums_between (with_cover Whole) (codes "q") 0 (codes "id") (record { from = Some (code_of (value.Int (pos 20) ∷ [])); to = None })
+    ≡ Ok (record { group = []; count = 2; total = pos 4 } ∷ [])
+unfolding eight_bytes values_on_literals
+sum_of_range = refl
+
+pub count_of_range : sums_between (with_cover Whole) (codes "q") 0 [] (record { from = Some (code_of (value.Int (pos 20) ∷ [])); to = None })
+    ≡ Ok (record { group = []; count = 2; total = pos 0 } ∷ [])
+unfolding eight_bytes values_on_literals
+count_of_range = refl
+
+pub count_of_no_rows : sums_between (with_cover Whole) (codes "primary") 0 [] (record { from = Some (code_of (value.Int (pos 4) ∷ [])); to = None })
+    ≡ Ok (record { group = []; count = 0; total = pos 0 } ∷ [])
+unfolding eight_bytes values_on_literals
+count_of_no_rows = refl
 
 -- three rows in two leaves, and a message before them
 pub usage_of_two_leaves : usage_of {V = ℕ} {M = ℕ} (inner (node [] (leaf ((1 ∷ [], 7) ∷ (2 ∷ [], 8) ∷ [])) (node (3 ∷ []) (leaf ((3 ∷ [], 9) ∷ [])) none)) ((2 ∷ [], 5) ∷ []))

@@ -20,10 +20,6 @@ sums_within grouping column tree range =
     and_then (λ rows. and_then (λ place. groups_of grouping place (rows_within range rows))
     (summed_place (schema_of tree).columns (schema_of tree).keys grouping column)) (rows_of_tree tree)
 
--- the groups of a range of keys of the tree of this name
-abbrev pub sums_between : TableState → List ℕ → ℕ → List ℕ → KeyRange → Result (List Sum) Refusal
-sums_between state name grouping column range = and_then (λ tree. sums_within grouping column tree range) (tree_named state name)
-
 -- the groups of a range of a tree, or the first refusal, which may be that of the bounds
 abbrev pub sums_of : ℕ → List ℕ → Option (List (List ℕ)) → Option (List (List ℕ)) → NamedTree → Result (List Sum) Refusal
 sums_of grouping column from to tree = and_then (sums_within grouping column tree) (range_of tree from to)

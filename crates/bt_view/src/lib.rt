@@ -11,10 +11,11 @@
 //! let rows = page(alloc, &table, &name, &range, 100, RowList::new(alloc))?;               // the first 100 rows of a range of keys
 //! let sums = sums(&context, &table, &name, 1, &column, None, None)?;                      // one Sum for each value of the first column
 //! let sums = sums_between(alloc, &table, &name, &range, 1, &column)?;                     // the same for a range of keys
+//! let count = sums_between(alloc, &table, &name, &range, 0, &Text::empty())?;             // one Sum, with the number of all its rows
 //! let text = image(alloc, &table, &name)?;                                                // the nodes of the tree, line by line
 //! ```
 //!
-//! `specs` has the definitions: `Ranges` defines the rows of a range, `Groups` groups and their sums,
+//! `specs` has the definitions: `Ranges` defines the rows of a range, `Groups` groups and their sums, `RangeSums` those of a range of keys,
 //! `Usage` how much a tree holds, and `Images` its text.
 #![tactic(auto)]
 

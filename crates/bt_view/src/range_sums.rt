@@ -1,25 +1,30 @@
 //! Groups of the rows of a range of keys.
-ghost use Rattle.std.specs.Prelude.{◌≡◌, ◌≢◌, IfErr, IfOk, IsErrOf, fold};
+ghost use Rattle.std.specs.Prelude.{◌≡◌, ◌≢◌, ◌≤◌, IfErr, IfOk, IsErrOf, fold};
 ghost use Rattle.bt_value.specs.Answers.{Answers};
+ghost use Rattle.bt_value.specs.Results.{map_ok, or_refused};
 ghost use Rattle.bt_fanout.specs.Effects.{entry_effect, row_effect};
 ghost use Rattle.bt_form.specs.Flushes.{holds};
 ghost use Rattle.bt_form.specs.Messages.{between};
 ghost use Rattle.bt_table.specs.Calls.{Primary, Secondary, ShowsIndex, ShowsRows};
 ghost use Rattle.bt_table.specs.Indexes.{index_of_ref};
 ghost use Rattle.bt_table.specs.Tables.{PlainTable};
-ghost use Rattle.bt_view.specs.Groups as spec;
+ghost use Rattle.bt_view.specs.RangeSums as spec;
 ghost use Rattle.bt_show.specs.inside.Entries.{rows_of_entries};
 ghost use Rattle.bt_show.specs.inside.Neighbours.{after_row};
+ghost use Rattle.bt_view.specs.inside.Shown.{with_whole};
 
-use crate::shown::{index_place, show_rows};
+use crate::shown::show_rows;
 use bt_fanout::Cover;
 use bt_messages::Entry;
 use bt_node::Tree;
 use bt_row::{Row, Schema, find_column};
-use bt_show::{EntryGroups, Grouping, KeyRange, Sum, index_kinds, summed_place};
+use bt_show::{EntryGroups, Grouping, KeyRange, Sum, find_index_column, index_kinds, key_count};
 use bt_table::IndexRef;
 use bt_value::{Kind, Refusal, Sequence, Text};
 use std::alloc::{AllocError, Global};
+
+// The place of no column: no row has a value there, so its number is 0.
+const NO_COLUMN: usize = usize::MAX;
 
 /// Groups the rows of entries of an index in a range; the kinds are those of its key columns.
 pub(crate) fn group_entries(
@@ -37,6 +42,45 @@ pub(crate) fn group_entries(
     Ok(entries.into_groups())
 }
 
+// The place of the column that is summed, if one of its name was found; without a name it is `NO_COLUMN`. `NoSuchColumn` if none was found, or if a group has more
+// columns than the key, and `NotInt` if the column is not int. Allocates nothing.
+fn place_in_range(
+    found: Option<(usize, Kind)>,
+    keys: usize,
+    grouping: u32,
+    name: &Text,
+) -> Result<usize, Refusal>
+    ensures place { result ≡ spec.place_at keys grouping name.now found }
+    ensures few { IfOk result (λ _. grouping ≤ keys) }
+{
+    if grouping as usize > keys {
+        return Err(Refusal::NoSuchColumn);
+    }
+    if name.as_bytes().is_empty() {
+        return Ok(NO_COLUMN);
+    }
+    match found {
+        Some((place, Kind::Int)) => Ok(place),
+        Some((_place, _)) => Err(Refusal::NotInt),
+        None => Err(Refusal::NoSuchColumn),
+    }
+}
+
+// The sums of rows that were grouped by their first `grouping` columns. Without columns there is one group, even of no rows.
+fn range_sums(groups: Grouping, grouping: u32) -> Result<Sequence<Sum>, Refusal>
+    ensures { Answers (map_ok (with_whole grouping) (or_refused Refusal.TooMany groups.2)) result }
+{
+    let mut sums = groups.finish()?;
+    if grouping == 0 && sums.as_slice().is_empty() {
+        sums.push(Sum {
+            group: Row::new(),
+            count: 0,
+            total: 0,
+        })?;
+    }
+    Ok(sums)
+}
+
 /// The groups of the rows of a table in a range.
 pub(crate) fn sums_of_rows(
     alloc: Global,
@@ -46,14 +90,14 @@ pub(crate) fn sums_of_rows(
     grouping: u32,
     column: &Text,
 ) -> Result<Sequence<Sum>, Refusal>
-    ensures answer { (table : PlainTable) → ShowsRows table schema.now tree.now → Answers (spec.sums_within grouping column.now (Primary table) range.now) result }
+    ensures answer { (table : PlainTable) → ShowsRows table schema.now tree.now → Answers (spec.groups_within grouping column.now (Primary table) range.now) result }
     ensures certain { (table : PlainTable) → ShowsRows table schema.now tree.now →
-        IfErr (spec.sums_within grouping column.now (Primary table) range.now) (λ refusal. refusal ≢ Refusal.TooMany → IsErrOf result refusal) }
+        IfErr (spec.groups_within grouping column.now (Primary table) range.now) (λ refusal. refusal ≢ Refusal.TooMany → IsErrOf result refusal) }
 {
     let found = find_column(schema.columns(), 0, column.as_bytes());
-    let place = summed_place(found, schema.keys(), grouping)?;
+    let place = place_in_range(found, schema.keys(), grouping, column)?;
     let groups = Grouping::new(alloc, grouping as usize, place);
-    show_rows(alloc, tree, range, groups)?.finish()
+    range_sums(show_rows(alloc, tree, range, groups)?, grouping)
 }
 
 /// The groups of the rows of an index in a range, which has rows only if it covers all.
@@ -66,16 +110,19 @@ pub(crate) fn sums_of_index(
     column: &Text,
 ) -> Result<Sequence<Sum>, Refusal>
     ensures answer { (table : PlainTable) → ShowsIndex table schema.now (index_of_ref index.entry) →
-        Answers (spec.sums_within grouping column.now (Secondary table (index_of_ref index.entry)) range.now) result }
+        Answers (spec.groups_within grouping column.now (Secondary table (index_of_ref index.entry)) range.now) result }
     ensures certain { (table : PlainTable) → ShowsIndex table schema.now (index_of_ref index.entry) →
-        IfErr (spec.sums_within grouping column.now (Secondary table (index_of_ref index.entry)) range.now) (λ refusal. refusal ≢ Refusal.TooMany → IsErrOf result refusal) }
+        IfErr (spec.groups_within grouping column.now (Secondary table (index_of_ref index.entry)) range.now) (λ refusal. refusal ≢ Refusal.TooMany → IsErrOf result refusal) }
 {
     match index.head.cover {
         Cover::Whole => {
-            let place = index_place(schema, &index.head.def, grouping, column)?;
+            let found = find_index_column(schema, &index.head.def, column.as_bytes());
+            let keys = key_count(schema, &index.head.def);
+            let place = place_in_range(found, keys, grouping, column)?;
             let kinds = index_kinds(alloc, schema, &index.head.def)?;
             let groups = Grouping::new(alloc, grouping as usize, place);
-            group_entries(alloc, index.tree, kinds.as_slice(), range, groups)?.finish()
+            let groups = group_entries(alloc, index.tree, kinds.as_slice(), range, groups)?;
+            range_sums(groups, grouping)
         }
         Cover::Nothing | Cover::UpTo(_) => Err(Refusal::Building),
     }

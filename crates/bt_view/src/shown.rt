@@ -265,8 +265,8 @@ pub(crate) fn rows_to_show<'a>(
     }
 }
 
-/// The place of the summed column of this name among those of the rows of an index, grouped by the first `grouping` columns. Allocates nothing.
-pub(crate) fn index_place(
+// The place of the summed column of this name among those of the rows of an index, grouped by the first `grouping` columns. Allocates nothing.
+fn index_place(
     schema: &Schema,
     def: &IndexDef,
     grouping: u32,

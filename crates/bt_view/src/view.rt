@@ -6,6 +6,7 @@ ghost use Rattle.bt_value.specs.Results.{map_ok};
 ghost use Rattle.bt_table.specs.Calls.{tree_named};
 ghost use Rattle.bt_view.specs.Groups as groups;
 ghost use Rattle.bt_view.specs.Images as images;
+ghost use Rattle.bt_view.specs.RangeSums as ranged;
 ghost use Rattle.bt_view.specs.Ranges as spec;
 ghost use Rattle.bt_view.specs.Usage as usages;
 
@@ -143,10 +144,11 @@ pub fn sums_alone(
 }
 
 /// The groups of the rows of the tree of this name whose keys are in a range, in order, by the caller without workers. The rows are grouped by their first
-/// `grouping` columns, with the sum of the column of this name.
+/// `grouping` columns, with the sum of the column of this name. Without columns they are one group, even if there are no rows. If the name is empty, no column is
+/// summed, and each sum is 0.
 ///
-/// Refused with the first that applies: `Failed`, `NoSuchTree`, `Building`, `NoSuchColumn` if a group has no columns or more than the key, or if there is no
-/// column of this name, `NotInt` if it is not int, and `TooMany` if a group has more than 2^64 - 1 rows. All but the last come before anything is allocated.
+/// Refused with the first that applies: `Failed`, `NoSuchTree`, `Building`, `NoSuchColumn` if a group has more columns than the key, or if there is no column of
+/// this name, `NotInt` if it is not int, and `TooMany` if a group has more than 2^64 - 1 rows. All but the last come before anything is allocated.
 pub fn sums_between(
     alloc: Global,
     table: &Table,
@@ -155,8 +157,8 @@ pub fn sums_between(
     grouping: u32,
     column: &Text,
 ) -> Result<Sequence<Sum>, Refusal>
-    ensures answer { Answers (groups.sums_between table.now name.now grouping column.now range.now) result }
-    ensures certain { IfErr (groups.sums_between table.now name.now grouping column.now range.now) (λ refusal. refusal ≢ Refusal.TooMany → IsErrOf result refusal) }
+    ensures answer { Answers (ranged.sums_between table.now name.now grouping column.now range.now) result }
+    ensures certain { IfErr (ranged.sums_between table.now name.now grouping column.now range.now) (λ refusal. refusal ≢ Refusal.TooMany → IsErrOf result refusal) }
 {
     match table.tree(name)? {
         TreeRef::Rows { schema, tree } => {

@@ -11,13 +11,13 @@
 #include <sys/mman.h>
 #include <unistd.h>
 
-enum { APPLY, GET, PAGE, SUMS, COLUMNS, USAGE, CALLS };
+enum { APPLY, GET, PAGE, SUMS, COLUMNS, USAGE, ALL_TREES, CALLS };
 enum { UNWRITTEN = 99, MOST_ROWS = 40, ROOM = sizeof(((message *)0)->at) };
 /* Syntax, BadField, BadLength, NoSuchTree, NoSuchColumn and NotInt: what these calls are refused as, while there is a table and its indexes are complete. */
 static const uint32_t REFUSALS = 1 << 1 | 1 << 6 | 1 << 7 | 1 << 8 | 1 << 15 | 1 << 16;
 
-static packed_call *const CALL[CALLS] = {betable_apply, betable_get, betable_page, betable_sums, betable_columns, betable_usage};
-static const char *const NAME[CALLS] = {"changes", "gets", "pages", "sums", "columns", "usage"};
+static packed_call *const CALL[CALLS] = {betable_apply, betable_get, betable_page, betable_sums, betable_columns, betable_usage, betable_trees};
+static const char *const NAME[CALLS] = {"changes", "gets", "pages", "sums", "columns", "usage", "trees"};
 static betable_session session = BETABLE_CLOSED;
 static unsigned char *room;
 static size_t page_size;
@@ -54,7 +54,7 @@ static void add_tree(message *to, const tree *of) { add_text(to, below(20) == 0 
 
 static void write_request(message *to, size_t call) {
     static const uint32_t LIMIT[] = {0, 1, 2, 5, UINT32_MAX};
-    static const char *const COLUMN[] = {"qty", "qty", "qty", "qty", "id", "id", "city", "nothing"};
+    static const char *const COLUMN[] = {"qty", "qty", "qty", "id", "id", "city", "nothing", ""};
     const tree *of = &TREE[below(TREES)];
     switch (call) {
     case APPLY:
@@ -76,6 +76,9 @@ static void write_request(message *to, size_t call) {
         add_text(to, COLUMN[below(sizeof COLUMN / sizeof *COLUMN)]);
         add_bound(to, of);
         add_bound(to, of);
+        break;
+    case ALL_TREES:
+        begin(to, (uint32_t)below(2));
         break;
     default:
         begin(to, 1);
@@ -196,28 +199,60 @@ static size_t number(const unsigned char *at, size_t size) {
     return found;
 }
 
-/* The columns of the reply, which has the number of key columns first. */
-static void check_columns(const tree *of) {
-    static const char KIND[] = "itf b";
-    size_t at = 12;
-    if (reply.length < at || number(reply.at + 4, 8) != of->keys) {
-        fail("another number of key columns");
+/* Checks a number of the reply, of eight bytes, and returns the place after it. */
+static size_t end_of_number(size_t at, size_t wanted) {
+    if (at + 8 > reply.length || number(reply.at + at, 8) != wanted) {
+        fail("another number");
     }
+    return at + 8;
+}
+
+/* Checks the columns that begin at a place of the reply, and returns the place after them. */
+static size_t end_of_columns(size_t at, const tree *of) {
+    static const char KIND[] = "itf b";
     for (const char *kind = of->kinds; *kind != 0; kind++) {
         if (at + 2 > reply.length || reply.at[at] > 4 || KIND[reply.at[at]] != *kind) {
             fail("another kind of a column");
         }
         at += 2 + (size_t)reply.at[at + 1];
     }
-    if (at != reply.length) {
+    return at;
+}
+
+/* The columns of the reply, which has the number of key columns first. */
+static void check_columns(const tree *of) {
+    if (end_of_columns(end_of_number(4, of->keys), of) != reply.length) {
         fail("other columns");
     }
 }
 
-/* The groups of the reply, each with a number of rows, and a sum of so many ints. */
+/* The trees of the reply, all of them complete, with how much each holds if the message has the number 1. */
+static void check_trees(int has_usage) {
+    size_t at = 4;
+    for (size_t place = 0; place < TREES; place++) {
+        const tree *of = &TREE[place];
+        size_t length = strlen(of->name);
+        if (reply.length < at + length + 2 || reply.at[at] != length || memcmp(reply.at + at + 1, of->name, length) != 0 || reply.at[at + length + 1] != 0) {
+            fail("another tree");
+        }
+        at = end_of_columns(end_of_number(end_of_number(at + length + 2, of->keys), strlen(of->kinds)), of);
+        at += has_usage ? 24 : 0;
+        if (at > reply.length || (has_usage && number(reply.at + at - 8, 8) < 1)) {
+            fail("no height");
+        }
+    }
+    if (at != reply.length) {
+        fail("more trees");
+    }
+}
+
+/* The groups of the reply, each with a number of rows, and a sum of so many ints. Without columns there is one, which may have no rows. */
 static void check_sums(const tree *of, size_t columns) {
-    if (columns < 1 || columns > of->keys) {
+    if (columns > of->keys) {
         fail("another number of columns of a group");
+    }
+    if (columns == 0 && reply.length != 28) {
+        fail("another number of groups");
     }
     for (size_t at = 4; at < reply.length; at += 24) {
         at = end_of_values(at, of->kinds, columns);
@@ -227,7 +262,7 @@ static void check_sums(const tree *of, size_t columns) {
         size_t count = number(reply.at + at, 8);
         int64_t high;
         memcpy(&high, reply.at + at + 16, sizeof high);
-        if (count < 1 || count > 4 * MOST_ROWS || high < -(int64_t)count || high >= (int64_t)count) {
+        if (count < (columns == 0 ? 0 : 1) || count > 4 * MOST_ROWS || high < -(int64_t)count || (high >= (int64_t)count && high != 0)) {
             fail("a number of rows, or a sum, that cannot be");
         }
     }
@@ -255,6 +290,8 @@ static void check_reply(size_t call) {
         check_sums(named(), number(given.at + 4, 4));
     } else if (call == COLUMNS) {
         check_columns(named());
+    } else if (call == ALL_TREES) {
+        check_trees(given.at[4]);
     } else if (reply.length != 28 || number(reply.at + 20, 8) < 1) {
         fail("another length, or no height");
     }

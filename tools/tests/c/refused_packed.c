@@ -56,6 +56,10 @@ static void write_many_sums(message *to) { write_sums_of(to, 2, "id"); }
 
 static void write_wrong_sums(message *to) { write_sums_of(to, 1, "city"); }
 
+static void write_count(message *to) { write_sums_of(to, 0, ""); }
+
+static void write_trees(message *to) { begin(to, 1); }
+
 static void write_wrong_page(message *to) { write_page(to, 30, "nothing"); }
 
 static void write_name(message *to) {
@@ -76,6 +80,8 @@ static const request REQUEST[] = {
     {"sums of texts", betable_sums, write_wrong_sums, BETABLE_REFUSED},
     {"columns", betable_columns, write_name, BETABLE_DONE},
     {"usage", betable_usage, write_name, BETABLE_DONE},
+    {"a count", betable_sums, write_count, BETABLE_DONE},
+    {"trees", betable_trees, write_trees, BETABLE_DONE},
 };
 
 /* What a call gives, and the images after it. */

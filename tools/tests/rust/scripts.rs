@@ -129,6 +129,8 @@ impl<'t> Table<'t> {
         match (head.split(' ').collect::<Vec<_>>().as_slice(), lines.pop()) {
             (["batch"], Some("end")) => lines.iter().map(|line| self.change(line)).collect::<Option<_>>().map(Call::Batch),
             (["scan", tree], Some("go")) => Some(Call::Scan(tree, self.bounds(tree, &lines)?)),
+            // By no columns, a typed call makes one group of all rows.
+            (["sums", _, "0", _], _) => None,
             (["sums", tree, columns, column], Some("go")) => Some(Call::Sums(tree, columns.parse().ok()?, column, self.bounds(tree, &lines)?)),
             _ => None,
         }

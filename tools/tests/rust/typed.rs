@@ -324,6 +324,13 @@ fn check_sums() -> Result<(), Fault> {
                     };
                     assert_eq!(found, reply(&mut by_script, &script)?, "{script}");
                 }
+                let mut rows = 0;
+                let mut scan = typed.scan(tree, lower, upper)?;
+                while scan.next()?.is_some() {
+                    rows += 1;
+                }
+                let counts: Vec<_> = typed.sums(tree, 0, "", lower, upper)?.map(|group| (group.values.values().len(), group.count, group.total)).collect();
+                assert_eq!(counts, [(0, rows, 0)], "{tree} {from:?} {to:?}");
             }
         }
     }
@@ -429,7 +436,7 @@ fn sum<F: Values>(session: &mut Session, columns: u32, column: &str, from: F) ->
 
 fn wrong_sums() -> Vec<(Call, Fault)> {
     vec![
-        (|it| sum(it, 0, "qty", ()), refused(15, "NoSuchColumn", None)),
+        (|it| sum(it, 0, "none", ()), refused(15, "NoSuchColumn", None)),
         (|it| sum(it, 3, "qty", ()), refused(15, "NoSuchColumn", None)),
         (|it| sum(it, u32::MAX, "qty", ()), refused(15, "NoSuchColumn", None)),
         (|it| sum(it, 1, "none", ()), refused(15, "NoSuchColumn", None)),

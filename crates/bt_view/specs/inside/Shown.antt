@@ -1,5 +1,5 @@
 -- The results before rows are shown.
-use Rattle.std.specs.Prelude.{◌≡◌, ◌≢◌, List, fold, Result, Ok, Err}
+use Rattle.std.specs.Prelude.{ℕ, zero, suc, pos, ◌≡◌, ◌≢◌, List, [], ◌∷◌, fold, Result, Ok, Err}
 use Rattle.bt_value.specs.Results.{or_refused}
 use Rattle.bt_value.specs.declared.refusal.Refusal.{Refusal}
 use Rattle.bt_value.specs.declared.refusal.Refusal.TheVariants.{OutOfMemory, TooMany}
@@ -28,3 +28,9 @@ AnswersRows answer (Err refusal) = refusal ≢ OutOfMemory → answer ≡ Err re
 abbrev pub AnswersSums : Result (List Sum) Refusal → Result Summed Refusal → Type 0
 AnswersSums answer (Ok summed) = answer ≡ or_refused TooMany (fold after_row summed.groups (rows_shown summed.shown)).2
 AnswersSums answer (Err refusal) = refusal ≢ OutOfMemory → answer ≡ Err refusal
+
+-- groups by their first columns, of which rows without columns make one, even if there are none
+abbrev pub with_whole : ℕ → List Sum → List Sum
+with_whole zero [] = record { group = []; count = 0; total = pos 0 } ∷ []
+with_whole zero (group ∷ groups) = group ∷ groups
+with_whole (suc columns) groups = groups
