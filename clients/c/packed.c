@@ -1,5 +1,5 @@
-/* The calls on packed bytes from C: puts three rows and changes one, gets a row, reads the table in pages of two rows, sums the quantities of each city, and
- * shows a refusal. No text is written or read in between. Build it as example.c. */
+/* The calls on packed bytes from C: puts three rows and changes one, gets a row, reads the table in pages of two rows, sums the quantities of each city,
+ * counts the rows, and shows a refusal. No text is written or read in between. Build it as example.c. */
 #include "betable.h"
 
 #include <inttypes.h>
@@ -124,6 +124,15 @@ int main(void) {
         return 1;
     puts("sums:");
     print_sums(&session);
+
+    unsigned char reply[28];
+    packed rows = begun(0); /* by no column: one group of all rows */
+    add_text(&rows, "primary");
+    add_text(&rows, ""); /* no column is summed */
+    add_number(&rows, 0, 2);
+    if (betable_sums(&session, rows.bytes, rows.length, &fault) != BETABLE_DONE || betable_copy_replies(&session, 0, reply, sizeof reply) != sizeof reply)
+        return 1;
+    printf("rows: %" PRId64 "\n", number_at(reply + 4));
 
     packed wrong = begun(2);
     add_put(&wrong, 4, "Bodø", 1);

@@ -28,8 +28,7 @@ pub struct Sums<'r> {
 
 impl Session {
     /// Groups the rows of a tree by the values of that many of its first key columns, and gives the number of rows in each group and the sum of a column. The
-    /// bounds are those of [`scan`](Session::scan). Without columns all rows are one group, even if there are none, and without a name no column is summed: so
-    /// `sums(tree, 0, "", from, to)` counts the rows.
+    /// bounds are those of [`scan`](Session::scan). Without columns all rows are one group, even if there are none, and without a name no column is summed.
     pub fn sums<F, T>(&mut self, tree: &str, columns: u32, column: &str, from: &F, to: &T) -> Result<Sums<'_>, Fault>
     where
         F: Values + ?Sized,
@@ -46,6 +45,15 @@ impl Session {
         let columns = self.trees[tree].key().get(..columns as usize).ok_or(Fault::OtherVersion)?;
         read_groups(columns, &self.reply[MAGIC.len()..], &mut self.ends)?;
         Ok(Sums { columns, bytes: &self.reply[MAGIC.len()..], ends: &self.ends })
+    }
+
+    /// The number of rows of a tree between bounds, which are those of [`scan`](Session::scan). The library gives no row.
+    pub fn count<F, T>(&mut self, tree: &str, from: &F, to: &T) -> Result<u64, Fault>
+    where
+        F: Values + ?Sized,
+        T: Values + ?Sized,
+    {
+        self.sums(tree, 0, "", from, to)?.next().map(|group| group.count).ok_or(Fault::OtherVersion)
     }
 }
 

@@ -62,6 +62,7 @@ READS = (
     lambda one: one.scan_columns("c", ("z",)),
     lambda one: one.sums("c", 1, "qty"),
     lambda one: one.sums("primary", 1, "qty", (7,), (77,)),
+    lambda one: (one.count(), one.count("c"), one.count("primary", (7,), (77,)), one.count("c", ("z",))),
     lambda one: [one.get(key) for key in (-20, -1, 0, 5, 29, 30, 79, 80)],
 )
 

@@ -1145,6 +1145,7 @@ page:
 sums:
 Bergen, west: rows 1, sum 15
 Oslo: rows 2, sum 37
+rows: 3
 refused 6, item 2, column 2
 """
 

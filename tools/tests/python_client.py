@@ -10,6 +10,7 @@ import enum
 import fractions
 import inspect
 import io
+import itertools
 import os
 import pickle
 import random
@@ -228,9 +229,15 @@ OTHERS = [
     (lambda c, s: s.sums("primary", "city", "id"), "TypeError", "the number of columns of a group is an int, and not 'city'"),
     (lambda c, s: s.sums("primary", True, "id"), "TypeError", "the number of columns of a group is an int, and not True"),
     (lambda c, s: s.sums("primary", 1.0, "id"), "TypeError", "the number of columns of a group is an int, and not 1.0"),
-    (lambda c, s: s.sums("primary", -1, "id"), "ValueError", "the number of columns of a group is 1 to 8, and not -1"),
-    (lambda c, s: s.sums("primary", 10**10, "id"), "ValueError", "the number of columns of a group is 1 to 8"),
-    (lambda c, s: s.sums("primary", 0, "id"), "Refused", "G is 0, and from 1 to 1: the key of primary is id"),
+    (lambda c, s: s.sums("primary", -1, "id"), "ValueError", "the number of columns of a group is 0 to 8, and not -1"),
+    (lambda c, s: s.sums("primary", 10**10, "id"), "ValueError", "the number of columns of a group is 0 to 8"),
+    (lambda c, s: s.sums("primary", 2, ""), "Refused", "G is 2, and from 1 to 1: the key of primary is id"),
+    (lambda c, s: s.sums("primary", 0, "city"), "Refused", "refused 16 NotInt: 'city' is text"),
+    (lambda c, s: s.sums("primary", 0, "town"), "Refused", "refused 15 NoSuchColumn: 'town' is no column of primary"),
+    (lambda c, s: s.count("by_name"), "Refused", "refused 8 NoSuchTree: no tree is named 'by_name': there are primary, by_city"),
+    (lambda c, s: s.count(None), "TypeError", "a tree is named by a str, and not by None of type NoneType"),
+    (lambda c, s: s.count("primary", ("1",)), "RowTypeError", "column 'id': '1' is of type str"),
+    (lambda c, s: s.count("by_city", stop=("a", 1, 2)), "RowValueError", "3 values, and a bound has 1 to 2 (city, id)"),
     (lambda c, s: s.sums("primary", 1, "city"), "Refused", "refused 16 NotInt: 'city' is text"),
     (lambda c, s: s.sums("primary", 1, "town"), "Refused", "refused 15 NoSuchColumn: 'town' is no column of primary"),
     (lambda c, s: s.sums("primary", 1, None), "TypeError", "a column is named by a str, and not by None"),
@@ -255,7 +262,7 @@ OTHERS = [
 ]
 OTHERS += [(lambda c, s, name=name: s.scan(name), "ValueError", "a tree: ") for name in NAMES]
 OTHERS += [(lambda c, s, name=name: s.sums(name, 1, "id"), "ValueError", "a tree: ") for name in NAMES]
-OTHERS += [(lambda c, s, name=name: s.sums("primary", 1, name), "ValueError", "a column: ") for name in NAMES]
+OTHERS += [(lambda c, s, name=name: s.sums("primary", 1, name), "ValueError", "a column: ") for name in NAMES if name]
 WRONG_USES = VALUES + LENGTHS + SHAPES + UPSERTS + OTHERS
 
 
@@ -284,7 +291,7 @@ class PythonClient(TestCase):
         with client.Session() as session:
             calls = [
                 lambda: session.put(ROWS), lambda: session.put([]), lambda: session.batch([client.delete(1)]), lambda: session.load(ROWS), lambda: session.get(1),
-                lambda: session.scan(), lambda: session.sums("primary", 1, "id"), lambda: session.load_csv(__file__),
+                lambda: session.scan(), lambda: session.sums("primary", 1, "id"), lambda: session.count(), lambda: session.load_csv(__file__),
             ]  # fmt: skip
             for call in calls:
                 try:
@@ -305,6 +312,7 @@ class PythonClient(TestCase):
             "check": None,
             "close": None,
             "columns": lambda s: s.columns(text),
+            "count": lambda s: s.count(text),
             "delete": lambda s: s.delete(text),
             "delete_columns": lambda s: s.delete_columns({text: [1]}),
             "get": lambda s: s.get(text),
@@ -536,6 +544,7 @@ CALLS = [
     lambda s: s.scan_columns(),
     lambda s: list(s.iterate()),
     lambda s: s.sums("by_city", 1, "id"),
+    lambda s: s.count(),
     lambda s: s.columns(),
     lambda s: s.usage(),
     lambda s: s.run("get 1\n"),
@@ -798,6 +807,37 @@ class Exceptions(TestCase):
         number = thread.ident
         thread.join()
         self.assertEqual(closed, [(number, 0)])
+
+    @both_ways
+    def test_counts_and_totals_are_those_of_the_rows_of_a_scan(self):
+        """Of all rows and of ranges, with rows and without, of a table without rows, with three key columns and with no int column, and of an index that selects
+        rows. An index that is building is refused."""
+        tables = ["table 4 8 4 3 city:text id:int ok:flag qty:int", "table 4 8 4 2 city:text raw:bytes ok:flag", "table 4 8 4 1 id:int qty:int"]
+        for table in tables:
+            with self.subTest(table=table), betable().Session() as session:
+                names = [word.partition(":")[0] for word in table.split()[5:]]
+                index = f"index some on {names[-1]} include {names[0]}\nbuild some 1\n"
+                session.run(f"{table}\n{index}index begun on {names[0]}\n")
+                values = {"city": "abc", "id": range(50), "ok": [False, True], "qty": range(-3, 9), "raw": [b"", b"\0", b"x"]}
+                for count in (0, 200):
+                    dice = random.Random(count)
+                    session.put([tuple(dice.choice(values[name]) for name in names) for _ in range(count)])
+                    for tree in ("primary", "some"):
+                        rows, columns = session.scan(tree), session.columns(tree)
+                        keys = sum(column.is_key for column in columns)
+                        bounds = [None, *(dice.choice(rows)[: dice.randrange(1, keys + 1)] for _ in range(6 if rows else 0))]
+                        for start, stop in itertools.product(bounds, bounds):
+                            found = session.scan(tree, start, stop)
+                            self.assertEqual(session.count(tree, start, stop), len(found), (start, stop))
+                            for place, column in enumerate(columns):
+                                if column.kind == "int":
+                                    total = sum(row[place] for row in found)
+                                    self.assertEqual(session.sums(tree, 0, column.name, start, stop), [(len(found), total)])
+                            for length in range(1, keys + 1):
+                                groups = [(len(list(group)), 0, *key) for key, group in itertools.groupby(found, key=lambda row: row[:length])]
+                                self.assertEqual(session.sums(tree, length, "", start, stop), groups)
+                self.assertEqual(session.count(), len(session.scan()))
+                self.assertEqual(fault_of(lambda: session.count("begun")).name, "Building")
 
     def test_usage_has_names_and_is_refused_without_a_tree(self):
         client = betable()

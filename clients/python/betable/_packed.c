@@ -1117,7 +1117,7 @@ static PyObject *summed(caller *self, PyObject *const given[5], outcome *ended)
     const int are_there = described(description, &there) && given[1] != NULL && given[2] != NULL;
     if (are_there && PyLong_CheckExact(given[1]) && PyUnicode_CheckExact(given[2])) {
         const long long grouped = PyLong_AsLongLongAndOverflow(given[1], &overflow);
-        if (grouped >= 1 && grouped <= there.keys && PyUnicode_GetLength(given[2]) > 0) {
+        if (grouped >= 0 && grouped <= there.keys) {
             found = taken(self, &bytes) ? begin_range(&bytes, &there, (uint64_t)grouped) : RAISED;
             if (found == DONE)
                 found = has_room(&bytes, MOST_VALUE_LENGTH) ? add_value(&bytes, given[2], TEXT) : RAISED;
@@ -1299,7 +1299,8 @@ static PyMethodDef methods[] = {
      "after the row of the key `after`, and at most as many as the limit."},
     {"sums", FAST(call_sums), METH_FASTCALL | METH_KEYWORDS,
      "sums($self, tree, columns, column, start=None, stop=None)\n--\n\n"
-     "For each group of rows that are equal in the tree's first columns: their number, the sum of a column, and the values of those columns."},
+     "For each group of rows that are equal in the tree's first columns: their number, the sum of a column, and the values of those columns. By 0 columns all\n"
+     "rows are one group, even if there are none. Without a name for the column, as \"\", the sums are 0."},
     {"_pack_rows", pack_rows, METH_O, "The bytes of the changes that put rows, or None."},
     {"_pack_messages", pack_messages, METH_O, "The bytes of the changes that messages are, or None."},
     {"_pack_upserts", FAST(pack_upserts), METH_FASTCALL, "The bytes of upserts of one form, of the form and their rows, or None."},

@@ -7,6 +7,7 @@ import re
 import sys
 from abc import ABC, abstractmethod
 from array import array
+from collections import Counter
 from collections.abc import Callable, Iterable, Iterator, Mapping, Sequence
 from contextlib import suppress
 from copy import copy
@@ -294,12 +295,22 @@ class Calls(ABC):
     def sums(
         self, tree: str, columns: int, column: str, start: Bound = None, stop: Bound = None
     ) -> list[Row]:
-        """For each group of rows that are equal in the tree's first columns: their number, the sum of a column, and the values of those columns."""
-        checked_group(columns)
+        """For each group of rows that are equal in the tree's first columns: their number, the sum of a column, and the values of those columns. By 0 columns all
+        rows are one group, even if there are none. Without a name for the column, as "", the sums are 0."""
+        count, summed = checked_group(columns), checked_summed(column)
         name = checked_name(tree, "a tree")
         there = layout(self.state.table, name)
-        script = f"sums {name} {columns:d} {checked_name(column, 'a column')}\n{bounds(there, start, stop)}go\n"
-        return self._rows(b"sums", script, there.key_kinds[:columns])
+        if summed or count > len(there.key) > 0:
+            # A script has no group of 0 columns: the groups of one column are added up.
+            script = f"sums {name} {max(count, 1)} {summed or there.names[0]}\n{bounds(there, start, stop)}go\n"
+            groups: list[Any] = self._rows(b"sums", script, there.key_kinds[: max(count, 1)])
+            return groups if count else [(sum(group[0] for group in groups), sum(group[1] for group in groups))]
+        values = [row[:count] for row in self.scan(name, start, stop)]
+        return [(number, 0, *group) for group, number in Counter(values).items()] if count else [(len(values), 0)]
+
+    def count(self, tree: str = "primary", start: Bound = None, stop: Bound = None) -> int:
+        """The number of rows that a scan gives. They are counted by the library: no row is made for it."""
+        return int(self.sums(tree, 0, "", start, stop)[0][0])
 
     def scan_columns(
         self, tree: str = "primary", start: Bound = None, stop: Bound = None, limit: int | None = None
@@ -609,8 +620,13 @@ def checked_group(columns: Any) -> int:
     if isinstance(columns, bool) or not isinstance(columns, int):
         raise TypeError(f"the number of columns of a group is an int, and not {shown(columns)}: write sums('by_city', 1, 'qty')")
     if not 0 <= columns <= 999_999_999:
-        raise ValueError(f"the number of columns of a group is 1 to 8, and not {shown(columns)}")
+        raise ValueError(f"the number of columns of a group is 0 to 8, and not {shown(columns)}")
     return columns
+
+
+def checked_summed(column: Any) -> str:
+    """The name of the column to sum, or no letters for none."""
+    return "" if column == "" else checked_name(column, "a column")
 
 
 def _check_most(most: Any) -> None:

@@ -21,7 +21,8 @@ from typing import TYPE_CHECKING, Any
 from . import language
 from .batches import Batch, first_too_long, operations_of, without_breaks
 from .calls import (
-    Bound, Calls, Range, Read, Row, as_script, by_names, check_one_by_one, checked_group, checked_limit, checked_name, checked_page, note, note_unanswered,
+    Bound, Calls, Range, Read, Row, as_script, by_names, check_one_by_one, checked_group, checked_limit, checked_name, checked_page, checked_summed, note,
+    note_unanswered,
 )  # fmt: skip
 from .errors import OutOfMemory
 from .language import PRIMARY, State, Table, counted
@@ -317,8 +318,9 @@ class CheckedCalls(ScriptSession):
     def sums(
         self, tree: str, columns: int, column: str, start: Bound = None, stop: Bound = None
     ) -> list[Row]:
-        """For each group of rows that are equal in the tree's first columns: their number, the sum of a column, and the values of those columns."""
-        found, count, summed = self._range(tree, start, stop), checked_group(columns), checked_name(column, "a column")
+        """For each group of rows that are equal in the tree's first columns: their number, the sum of a column, and the values of those columns. By 0 columns all
+        rows are one group, even if there are none. Without a name for the column, as "", the sums are 0."""
+        found, count, summed = self._range(tree, start, stop), checked_group(columns), checked_summed(column)
         groups = self._groups_between(found.name, count, summed, found.start, found.stop)
         return super().sums(tree, columns, column, start, stop) if groups is None else groups
 

@@ -331,6 +331,7 @@ fn check_sums() -> Result<(), Fault> {
                 }
                 let counts: Vec<_> = typed.sums(tree, 0, "", lower, upper)?.map(|group| (group.values.values().len(), group.count, group.total)).collect();
                 assert_eq!(counts, [(0, rows, 0)], "{tree} {from:?} {to:?}");
+                assert_eq!(typed.count(tree, lower, upper)?, rows, "{tree} {from:?} {to:?}");
             }
         }
     }

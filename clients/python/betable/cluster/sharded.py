@@ -202,6 +202,10 @@ class Sharded:
             totals[tuple(group)] = before[0] + count, before[1] + total
         return [(*totals[group], *group) for group in sorted(totals)]
 
+    def count(self, tree: str = "primary", start: Bound = None, stop: Bound = None) -> int:
+        """The number of rows in a range, as `Session.count` gives it."""
+        return self.sums(tree, 0, "", start, stop)[0][0]  # type: ignore[return-value]
+
     # ---- what the calls share ----
 
     def _ask(self, requests: Mapping[int, tuple[Any, ...]]) -> list[Any]:
