@@ -711,7 +711,8 @@ MALFORMED = [
 class OtherBytes(TestCase):
     @both_ways
     def test_sums_of_the_client_are_those_of_its_scripts(self):
-        """Of each tree, by groups of each number of columns, of each column, between bounds of each length, beside those of text; also sums over 64 bits."""
+        """Of each tree, by groups of each number of columns, of each column and of none, between bounds of each length, beside those of text; also sums over 64
+        bits."""
         client = betable()
         for seed in range(4):
             dice = random.Random(seed)
@@ -721,13 +722,13 @@ class OtherBytes(TestCase):
                 for _ in range(30):
                     row = dict(zip(["id", "city", "ok", "raw", "qty"], random_row(dice)))
                     bounds = [dice.choice([None, tuple(row[column.name] for column in there[: dice.randrange(1, most + 1)])]) for _ in range(2)]
-                    given = tree, dice.randrange(1, most + 1), dice.choice(columns), *bounds
+                    given = tree, dice.randrange(most + 1), dice.choice([*columns, ""]), *bounds
                     found = session.sums(*given)
                     self.assertEqual(found, client.Calls.sums(session, *given), given)
                     self.assertLessEqual({tuple(map(type, group[:2])) for group in found}, {(int, int)})
             for call in (
                 lambda: session.sums("primary", 2, "qty"), lambda: session.sums("by_city", 1, "city"), lambda: session.sums("by_city", 1, "raw"), lambda: session.sums("by_city", 1, "x"),
-                lambda: session.sums("nothing", 1, "qty"), lambda: session.sums("large", 1, "qty", (2**63,)), lambda: session.sums("primary", 0, "qty"),
+                lambda: session.sums("nothing", 1, "qty"), lambda: session.sums("large", 1, "qty", (2**63,)), lambda: session.sums("by_city", 0, "city"),
             ):  # fmt: skip
                 faults = [fault_of(call), fault_of(lambda: client.Calls.sums(session, "by_city", 1, "qty"))]
                 self.assertEqual((type(faults[0]), faults[1]), (client.Refused, None))
