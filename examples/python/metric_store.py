@@ -35,7 +35,7 @@ class Summary(NamedTuple):
 def open_store(path: str) -> durable.Durable:
     """The store of a file. A new one gets its table and its indexes, all or none of them."""
     store = durable.open(path)
-    if store.state.table is None:
+    if not store.trees():
         with store.group():
             store.table(COLUMNS, keys=2)
             store.index("by_minute", on="minute", include=["n", "total"])

@@ -42,8 +42,8 @@ class Plain(Session):
         return nullcontext()
 
     def checkpoint(self) -> None:
-        if self.state.table is not None:
-            self.replies(b"".join(b"rebuild %b\n" % name for name in (b"primary", *self.state.table.indexes)))
+        if trees := self.trees():
+            self.replies(b"".join(b"rebuild %b\n" % name for name in trees.by_name))
 
     def backup(self, path: str) -> None:
         pass

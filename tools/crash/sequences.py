@@ -89,8 +89,7 @@ class Pair:
                 self.table = self.opened()
                 self.expect("reopenings", self.table.number, number)
             case "checkpoint":
-                table = self.plain.state.table
-                is_building = table is not None and not all(index.is_complete for index in table.indexes.values())
+                is_building = not all(tree.is_complete for tree in self.plain.trees())
                 try:
                     self.table.checkpoint()
                 except durable.IndexBuilding:

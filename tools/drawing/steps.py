@@ -3,8 +3,9 @@
 import subprocess
 import tempfile
 
-from betable.language import COMMANDS, NAME, PRIMARY, State, commands, logical_lines, reply
-from betable.trees import HEAD, Broken, KeyColumns, image_of
+from betable.language import COMMANDS, NAME, PRIMARY, commands, logical_lines, reply
+from betable.schema import Trees, trees_after
+from betable.trees import HEAD, Broken, image_of, key_columns_of
 
 MOST_STEPS = 1000
 MOST_REPLY = 16  # lines of a reply that are kept
@@ -75,19 +76,19 @@ class Run:
 
     def steps_of(self, lines):
         """The steps with these replies."""
-        state, number, before = State(), 0, ""
+        trees, number, before = Trees(), 0, ""
         for command, names in zip(self.commands, self.images_behind):
             answer = reply(command.head.word, lines)
             if not answer:
                 raise Failed(f"the replies end before that of line {command.head.number}, '{text_of(command.head.text)[:80]}'")
-            state.take(command, answer)
+            trees = trees_after(trees, command, answer[0])
             step = Step(command, answer)
             is_image = command.head.word == b"image" and not step.is_refused
             before = before if is_image else step.last_reply
             printed = [answer] if is_image else [found for found in (reply(b"image", lines) for _ in names) if not is_refused(found)]
             for lines_of_image in printed:
                 number += 1
-                step.images.append(image_of_answer(lines_of_image, number, before, state.table))
+                step.images.append(image_of_answer(lines_of_image, number, before, trees))
             before = "" if printed else before
             yield step
         if next(lines, None) is not None:
@@ -118,12 +119,9 @@ def trees_that_change(command, names):
     return [words[1]]
 
 
-def image_of_answer(answer, number, before, table):
+def image_of_answer(answer, number, before, trees):
     """The image in a reply, with the columns of its tree."""
     head = HEAD.fullmatch(text_of(answer[0]))
-    if head is None or table is None or not table.has_tree(head[1].encode()):
+    if head is None or not trees.has_tree(head[1].encode()):
         raise Failed(f"'{text_of(answer[0])[:80]}' is replied to an image, so the program has another language")
-    name = head[1].encode()
-    names, kinds = zip(*table.key_of(name))
-    key_columns = KeyColumns([kind.decode() for kind in kinds], [name.decode() for name in names])
-    return image_of(iter([text_of(line) for line in answer]), number, before, key_columns)
+    return image_of(iter([text_of(line) for line in answer]), number, before, key_columns_of(trees.tree(head[1])))

@@ -114,9 +114,8 @@ def places_refused(kinds):
 
 def images(session):
     """Those of all trees, and which indexes are complete."""
-    table = session.state.table
-    names = [] if table is None else [language.PRIMARY, *table.indexes]
-    return session.trees(), session.replies(b"".join(b"image %b\n" % name for name in names))
+    trees = session.trees()
+    return trees, session.replies(b"".join(b"image %b\n" % name for name in trees.by_name))
 
 
 def session_after(script):

@@ -43,14 +43,14 @@ class Messages(unittest.TestCase):
         ):
             self.assertIn(part, self.said(lambda session: session.table(columns), ValueError))
         self.assertIn("write 'id:int city:text'", self.said(lambda session: session.table(5), TypeError))
-        self.assertIsNone(self.session.state.table)
+        self.assertEqual(self.session.trees(), ())
 
     def test_an_index_takes_names_with_commas_or_a_list(self) -> None:
         self.session.table("id:int city:text qty:int")
         self.session.index("a", "city,qty", include="id, qty")
         self.session.index("b", ["city", "qty"], include=["id", "qty"])
         _, first, second = self.session.trees()
-        self.assertEqual((first.on, first.include), (("city", "qty"), ("id", "qty")))
+        self.assertEqual(first.names, ["city", "qty", "id", "id", "qty"])
         self.assertEqual(first[1:], second[1:])
         self.assertIn("a name is empty", self.said(lambda session: session.index("c", "city,"), ValueError))
 

@@ -60,9 +60,9 @@ def expect_fault(test, kind, call, *words):
 
 def probe(table):
     """The images and the rows of all trees."""
-    if table.state.table is None:
+    if not table.trees():
         return table.replies("image primary\n")
-    names = [b"primary", *table.state.table.indexes]
+    names = list(table.trees().by_name)
     return table.replies(b"".join(b"image %b\nscan %b\ngo\n" % (name, name) for name in names))
 
 
@@ -671,13 +671,13 @@ def kept_by_a_checkpoint(test, script, path):
         test.assertEqual(table.replies(script), plain.replies(script))
         number = table.number
         table.checkpoint()
-        names = [b"primary", *plain.state.table.indexes] if plain.state.table else []
+        names = list(plain.trees().by_name)
         plain.replies(b"".join(b"rebuild %b\n" % name for name in names))
         wanted = probe(plain)
         test.assertEqual((probe(table), table.log_bytes, table.number), (wanted, 0, number))
     with durable().open(path) as table:
         test.assertEqual((probe(table), table.log_bytes, table.number), (wanted, 0, number))
-        test.assertEqual(list(table.state.table.indexes) if names else [], names[1:])
+        test.assertEqual(list(table.trees().by_name), names)
         table.checkpoint()
         table.replies("batch\nend\n")
     with durable().open(path) as table:
@@ -1280,7 +1280,7 @@ class TheObject(TestCase):
                 table.checkpoint,
                 lambda: table.once("a", ADD),
                 lambda: table.group().__enter__(),
-                lambda: table.state,
+                table.trees,
                 lambda: table.number,
             ]
             calls += [
@@ -1358,7 +1358,7 @@ durable.open(sys.argv[1])"""
             self.assertEqual(run_python(text, path / "t", "slow"), (0, ""))
 
     def test_scripts_over_a_layer_are_run_by_it(self):
-        """A durable table needs only `replies` and `close` of what it is over."""
+        """A durable table needs only `replies`, `trees` and `close` of what it is over."""
 
         class Layer:
             scripts = []
@@ -1366,6 +1366,7 @@ durable.open(sys.argv[1])"""
 
             def __init__(self):
                 self.session = betable().Session()
+                self.trees = self.session.trees
 
             def replies(self, script):
                 self.scripts.append(bytes(script))
@@ -1378,7 +1379,7 @@ durable.open(sys.argv[1])"""
         with folder() as path:
             for _ in range(2):
                 with durable().open(path / "t", make=Layer) as table:
-                    table.replies(TABLE if table.state.table is None else ADD)
+                    table.replies(ADD if table.trees() else TABLE)
             self.assertEqual((Layer.scripts, Layer.closed), ([TABLE.encode(), TABLE.encode(), ADD.encode()], 2))
             with durable().open(path / "t", make=Layer) as table:
                 table.put([(2, "a", 2), (3, "b", 3)])

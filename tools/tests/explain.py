@@ -225,7 +225,7 @@ class Explain(ProgramTestCase):
         self.assertEqual((status, lines[0], lines[1].split(":")[0]), (1, "line 6: load", "  13 NotEmpty"))
         self.assertIn("'rebuild primary'", lines[1])
         status, lines = explained(f"{TABLE}\nindex c on city\n{load}build c 1\n{load}")
-        self.assertEqual((status, lines[0], lines[1].split(".")[0]), (1, "line 3: load", "  11 Building: 'c' of line 2 is building"))
+        self.assertEqual((status, lines[0], lines[1].split(".")[0]), (1, "line 3: load", "  11 Building: 'c' is building"))
         self.assertIn("'build NAME 1'", lines[1])
         self.assertEqual(lines[2], "5 commands: 4 answered, 1 refused")
 
@@ -235,7 +235,8 @@ class Explain(ProgramTestCase):
         self.assertEqual((status, lines[-4]), (1, "9 commands: 6 answered, 3 refused"))
         self.assertEqual([line for line in lines if line.startswith("  > build")], ["  > build c 1 building", "  > build c 0 complete"])
         place = lines.index("line 7: scan c")
-        self.assertEqual(lines[place + 1].split(".")[0], "  11 Building: 'c' of line 5 is building")
+        self.assertEqual(lines[place + 1].split(".")[0], "  11 Building: 'c' is building")
+        self.assertEqual(lines[place + 2], "  'c' was made in line 5.")
         self.assertIn("'build NAME N'", lines[place + 1])
         heads = ("line 12: build c 0", "line 13: build primary 1")
         self.assertEqual([lines[lines.index(line) + 1].split(":")[0] for line in heads], ["  12 AlreadyComplete", "  8 NoSuchTree"])
@@ -412,11 +413,11 @@ class Mistakes(ProgramTestCase):
 # ---- beside the model of the language ----
 
 
-def rows_of_their_kinds(test, command, answer, state, language):
+def rows_of_their_kinds(test, command, answer, trees, language):
     """How many rows a scan printed, each of which has the columns of the tree, and values as they are printed."""
     if command.head.word != b"scan":
         return 0
-    columns = state.table.columns_of(command.head.text.split()[1])
+    columns = trees.columns_of(command.head.text.split()[1])
     for row in answer[:-1]:
         record = row.removesuffix(b"\n").removeprefix(b"row ")
         fields = language.fields(record)
@@ -445,31 +446,31 @@ def requoted(raw, language):
 class BesideTheModelOfTheLanguage(TestCase):
     def test_reasons_are_those_of_the_model(self):
         """Of random scripts: a refused command has a fault, on the line of its item where it has one, and an answered one has none."""
-        language, faults, forms = (import_module(f"betable.{name}") for name in ("language", "faults", "forms"))
+        language, faults, forms, schema = (import_module(f"betable.{name}") for name in ("language", "faults", "forms", "schema"))
         model, scripts = imported("tools/fuzz/model.py"), imported("tools/fuzz/scripts.py")
         refused = answered = rows = 0
         for number in range(80):
             script = scripts.script(2, number)
-            state, lines = language.State(), language.logical_lines(model.replies(script).splitlines(True))
+            trees, lines = schema.Trees(), language.logical_lines(model.replies(script).splitlines(True))
             for command in language.commands(script):
                 with self.subTest(command=command.head.text):
                     answer = language.reply(command.head.word, lines)
                     words = answer[0].split()
                     if words[0] == b"refused":
-                        found = list(faults.faults_of_refusal(command, int(words[1]), state))
+                        found = list(faults.faults_of_refusal(command, int(words[1]), trees))
                         self.assertTrue(bool(found) or int(words[1]) in (2, 3, 4, 13), words)
                         if int(words[1]) in (6, 7) and command.closing:
                             self.assertIn(line_of_item(command, int(words[3])), [fault.line for fault in found])
                         refused += 1
                     else:
-                        found = [*forms.head_faults(command.head), *faults.block_faults(command, state)]
+                        found = [*forms.head_faults(command.head), *faults.block_faults(command, trees)]
                         if command.head.word == b"load":
                             for of_load in (faults.header_faults, faults.load_faults, faults.key_faults):
-                                found += of_load(command, state.table)
+                                found += of_load(command, trees)
                         self.assertEqual([fault.what() for fault in found], [])
-                        rows += rows_of_their_kinds(self, command, answer, state, language)
+                        rows += rows_of_their_kinds(self, command, answer, trees, language)
                         answered += 1
-                    state.take(command, answer)
+                    trees = schema.trees_after(trees, command, answer[0])
         self.assertEqual((refused > 200, answered > 500, rows > 500), (True, True, True))
 
     def test_what_is_said_of_random_mistakes_is_true(self):

@@ -208,10 +208,10 @@ class Raw:
             raise AssertionError(reply)
 
     def images(self):
-        return self.session.replies("".join(f"image {name}\n" for name in ["primary", *(name.decode() for name in self.session.state.table.indexes)]))
+        return self.session.replies("".join(f"image {tree.name}\n" for tree in self.session.trees()))
 
     def kinds(self, tree="primary"):
-        return [kind.decode() for _, kind in self.session.state.table.columns_of(tree.encode())]
+        return self.session.trees().tree(tree).kinds
 
 
 SCHEMA = "table 4 3 2 1 id:int city:text ok:flag raw:bytes qty:int\nindex by_city on city include ok,qty\nbuild by_city 1\nindex large on qty where qty >= 6\nbuild large 1\n"
@@ -362,9 +362,9 @@ class BesideScripts(TestCase):
             for part in (text[start:end] for start, end in zip(places, places[1:])):
                 with self.subTest(script=script.name, part=part):
                     is_refused, rows = replied(by_script.session, part)
-                    table = by_script.session.state.table
+                    table = by_script.session.trees()
                     try:
-                        if table is None:
+                        if not table:
                             raise NotInValues
                         name, given = call_in_values(next(language.commands(part)), table)
                     except NotInValues:
@@ -407,7 +407,7 @@ class BesideScripts(TestCase):
                     self.assertEqual((rows_of(self, reply, raw.kinds())[0], session.get(key)), (wanted, wanted[0] if wanted else None))
             for tree in ("primary", "by_city", "large"):
                 whole = session.run(f"scan {tree}\ngo\n")[0].rows
-                count = len(session.state.table.key_of(tree.encode()))
+                count = len(session.trees().tree(tree).key)
                 for _ in range(60):
                     bounds = [dice.choice(whole)[: dice.randrange(count + 1)] for _ in range(2)]
                     lines = "".join(f"{word} {betable().record(values)}\n" for word, values in zip(("from", "to"), bounds) if values)
@@ -431,7 +431,7 @@ class BesideScripts(TestCase):
             for tree, columns in (("primary", ("id", "qty")), ("by_city", ("id", "qty")), ("large", ("qty", "id"))):
                 with self.subTest(tree=tree):
                     whole, kinds = session.run(f"scan {tree}\ngo\n")[0].rows, raw.kinds(tree)
-                    count = len(session.state.table.key_of(tree.encode()))
+                    count = len(session.trees().tree(tree).key)
                     for _ in range(40):
                         bounds = [dice.choice(whole)[: dice.randrange(count + 1)] for _ in range(2)]
                         column, by = dice.choice(columns), dice.randrange(1, count + 1)
@@ -446,7 +446,7 @@ class BesideScripts(TestCase):
         dice = random.Random(9)
         raw = filled(dice)
         for tree in ("primary", "by_city", "large"):
-            whole, keys = raw.session.scan(tree), len(raw.session.state.table.key_of(tree.encode()))
+            whole, keys = raw.session.scan(tree), len(raw.session.trees().tree(tree).key)
             for place, row in enumerate(whole):
                 with self.subTest(tree=tree, row=row):
                     reply = raw.reply("betable_sums", sums(keys, tree, "qty", after_row(*row[:keys])))
@@ -461,7 +461,7 @@ class BesideScripts(TestCase):
             raw = filled(dice, dice.choice([0, 1, 40, 200]))
             for tree, columns in (("primary", ("id", "qty")), ("by_city", ("id", "qty")), ("large", ("qty", "id"))):
                 whole, names = raw.session.scan(tree), [column.name for column in raw.session.columns(tree)]
-                keys = len(raw.session.state.table.key_of(tree.encode()))
+                keys = len(raw.session.trees().tree(tree).key)
                 for _ in range(40):
                     row = random_row(dice)
                     key = dice.choice([*whole, {"primary": row[:1], "by_city": (row[1], row[0]), "large": (row[4], row[0])}[tree]])[:keys]
@@ -491,7 +491,7 @@ class BesideScripts(TestCase):
         dice = random.Random(1)
         raw = filled(dice)
         for tree in ("primary", "by_city", "large"):
-            kinds, keys = raw.kinds(tree), len(raw.session.state.table.key_of(tree.encode()))
+            kinds, keys = raw.kinds(tree), len(raw.session.trees().tree(tree).key)
             wanted = raw.session.run(f"scan {tree}\ngo\n")[0].rows
             self.assertGreater(len(wanted), 5)
             for limit in (1, 2, 3, len(wanted) - 1, len(wanted), len(wanted) + 1):
@@ -530,7 +530,7 @@ class BesideScripts(TestCase):
                             self.assertEqual(list(raw.session.iterate(tree, page=size)), wanted)
                     for row in wanted:
                         with self.subTest(kind=kind, tree=tree, row=row):
-                            key = row[: len(raw.session.state.table.key_of(tree.encode()))]
+                            key = row[: len(raw.session.trees().tree(tree).key)]
                             reply = raw.reply("betable_page", page(9, tree, from_values(*key), after_row(*key)))
                             self.assertEqual(rows_of(self, reply, raw.kinds(tree))[0], [row])
                             reply = raw.reply("betable_page", page(99, tree, after_row(*key)))
@@ -586,7 +586,7 @@ class BesideScripts(TestCase):
                 elif words[:1] == ["index"]:
                     is_building[words[1]] = True
                 elif words[:1] == ["build"]:
-                    is_building[words[1]] = not raw.session.state.table.indexes[words[1].encode()].is_complete
+                    is_building[words[1]] = not raw.session.trees().tree(words[1]).is_complete
                 for number in (0, 1):
                     with self.subTest(count=count, change=change, number=number):
                         wanted = b"BTV\x01"

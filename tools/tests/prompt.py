@@ -260,7 +260,7 @@ def imported(test, text, most_bytes, before=""):
         path = Path(folder) / "rows.csv"
         path.write_bytes(text if isinstance(text, bytes) else text.encode())
         parts = []
-        steps = list(files.import_csv(session, session.state.table, str(path), lambda part, rows: parts.append(part), most_bytes))
+        steps = list(files.import_csv(session, session.trees(), str(path), lambda part, rows: parts.append(part), most_bytes))
         test.assertEqual((parts == sorted(parts), parts[-1], [step.is_end for step in steps]), (True, 1, [False] * (len(steps) - 1) + [True]))
         return steps[-1], session.scan()
 

@@ -55,11 +55,11 @@ def durable():
 
 
 class Layer:
-    """A layer over a session, which replies to scripts alone."""
+    """A layer over a session, which replies to scripts alone, and knows the trees."""
 
     def __init__(self):
         session = betable().Session()
-        self.replies, self.close = session.replies, session.close
+        self.replies, self.trees, self.close = session.replies, session.trees, session.close
 
 
 class Folder(TestCase):

@@ -74,6 +74,13 @@ def setUpModule():
     build_extension()
 
 
+def scripts_of(session):
+    """The scripts that calls of a session run from now on."""
+    scripts, run = [], session.run
+    session.run = lambda script: scripts.append(script) or run(script)
+    return scripts
+
+
 class PythonColumns(TestCase):
     @both_ways
     def test_rows_by_columns_are_the_rows_that_are_put(self):
@@ -207,29 +214,32 @@ class PythonColumns(TestCase):
         client = betable()
         pairs = [("id", "int"), ("city", "text"), ("ok", "flag"), ("raw", "bytes"), ("qty", "int")]
         with client.Session() as session:
-            self.assertEqual(session.trees(), [])
+            self.assertEqual(session.trees(), ())
+            scripts = scripts_of(session)
             session.table(pairs, keys=2, fanout=8, buffer="4096b", leaf=32)
-            self.assertEqual(session.state.table.line.text, b"table 8 4096b 32 2 " + COLUMNS.encode())
+            self.assertEqual(scripts, [f"table 8 4096b 32 2 {COLUMNS}\n"])
         with client.Session() as session:
+            scripts = scripts_of(session)
             session.table(COLUMNS)
-            self.assertEqual(session.state.table.line.text, b"table 16 1024 256 1 " + COLUMNS.encode())
+            self.assertEqual(scripts, [f"table 16 1024 256 1 {COLUMNS}\n"])
             session.put([(number, f"city, {number % 3}", number % 2 == 0, bytes([number]), number) for number in range(20)])
             made = [
-                (("by_city", "city"), {}, b"index by_city on city"),
-                (("by_two", ["city", "ok"], ["qty", "raw"]), {"where": ("qty", ">=", 5)}, b"index by_two on city,ok include qty,raw where qty >= 5"),
-                (("one", "qty"), {"include": "city", "where": ("city", "=", "city, 1")}, b'index one on qty include city where city = "city, 1"'),
-                (("flags", "ok"), {"where": ("ok", "=", True)}, b"index flags on ok where ok = true"),
-                (("few", "id"), {"where": ("raw", "<", b"\x05")}, b"index few on id where raw < 05"),
-                (("empty", "id"), {"where": ("city", "=", ""), "build": False}, b'index empty on id where city = ""'),
+                (("by_city", "city"), {}, "index by_city on city"),
+                (("by_two", ["city", "ok"], ["qty", "raw"]), {"where": ("qty", ">=", 5)}, "index by_two on city,ok include qty,raw where qty >= 5"),
+                (("one", "qty"), {"include": "city", "where": ("city", "=", "city, 1")}, 'index one on qty include city where city = "city, 1"'),
+                (("flags", "ok"), {"where": ("ok", "=", True)}, "index flags on ok where ok = true"),
+                (("few", "id"), {"where": ("raw", "<", b"\x05")}, "index few on id where raw < 05"),
+                (("empty", "id"), {"where": ("city", "=", ""), "build": False}, 'index empty on id where city = ""'),
             ]
             for words, named, line in made:
                 session.index(*words, **named)
-                self.assertEqual(session.state.table.indexes[words[0].encode()].line.text, line)
+                self.assertEqual(scripts[-1].split("\n")[0], line)
             found = session.trees()
             self.assertEqual([tree.name for tree in found], ["primary", "by_city", "by_two", "one", "flags", "few", "empty"])
-            self.assertEqual(found[0], client.Tree("primary", ("id",), ("city", "ok", "raw", "qty"), None, True))
-            self.assertEqual(found[2], client.Tree("by_two", ("city", "ok"), ("qty", "raw"), ("qty", ">=", 5), True))
-            self.assertEqual([tree.where for tree in found[3:]], [("city", "=", "city, 1"), ("ok", "=", True), ("raw", "<", b"\x05"), ("city", "=", "")])
+            kinds = dict(pairs)
+            for tree, keys, others in ((found[0], ["id"], ["city", "ok", "raw", "qty"]), (found[2], ["city", "ok", "id"], ["qty", "raw"])):
+                columns = [client.TreeColumn(name, kinds[name], name in keys) for name in keys + others]
+                self.assertEqual((tree.columns, [column.name for column in tree.key], session.columns(tree.name)), (tuple(columns), keys, columns))
             self.assertEqual([tree.is_complete for tree in found], [True] * 6 + [False])
             self.assertEqual((len(session.scan("by_city")), len(session.scan("by_two")), len(session.scan("one")), len(session.scan("few"))), (20, 15, 7, 5))
             session.upsert(1, add={"qty": 5}, set={"ok": True})

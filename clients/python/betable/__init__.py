@@ -23,11 +23,12 @@ disk, `betable.cluster` tables on several machines, `betable.server` the server 
 
 from pathlib import Path
 
-from .calls import MOST_MESSAGES, Calls, Tree
+from .calls import MOST_MESSAGES, Calls
 from .errors import OutOfMemory, Refused, RowError, RowTypeError, RowValueError
 from .messages import OPERATIONS, Message, delete, field, put, record, upsert, upsert_form
-from .packed import TreeColumn, Usage
+from .packed import Usage
 from .replies import Reply
+from .schema import Tree, TreeColumn, Trees
 from .session import Session
 
 # A packed package has the file beside this one, and a checkout at its top.
@@ -48,6 +49,7 @@ __all__ = [
     "Session",
     "Tree",
     "TreeColumn",
+    "Trees",
     "Usage",
     "__version__",
     "delete",

@@ -4,9 +4,9 @@ import re
 from typing import Any, Iterator
 
 from .language import (
-    BLOCK_WORDS, CLOSING, FORMS, GREATEST_INT, NAME, NULL_WORDS, Command, Line, Table, any_of, counted, fields, int_of, printed_record, record_of_line,
-    visible,
+    BLOCK_WORDS, CLOSING, FORMS, GREATEST_INT, NAME, NULL_WORDS, Command, Line, any_of, counted, fields, int_of, printed_record, record_of_line, visible,
 )  # fmt: skip
+from .schema import Trees
 
 # ---- words of other languages ----
 
@@ -86,19 +86,19 @@ def bounds_among(words: list[bytes]) -> list[str]:
 # ---- commands and their table ----
 
 
-def advice_for(command: Command, number: int, table: Table | None) -> str | None:
+def advice_for(command: Command, number: int, table: Trees) -> str | None:
     """What to write instead of a command that is refused with this number, if another command does what it asks for."""
-    if table is None:
+    if not table:
         return None
     if command.head.word == b"get" and number == 6:
         return advice_for_get(command.head, table)
     return advice_for_sums(command.head, table) if command.head.word == b"sums" and number == 1 else None
 
 
-def advice_for_get(head: Line, table: Table) -> str | None:
+def advice_for_get(head: Line, table: Trees) -> str | None:
     """That a get is by the key, if its record looks like a text of another column, or names its columns."""
     values = fields(record_of_line(head.rest or b"")[0])
-    key, others = [name.decode() for name, _ in table.key], [name.decode() for name, kind in table.columns[table.key_length :] if kind == b"text"]
+    key, others = [name.decode() for name, _ in table.key], [name.decode() for name, kind in table.columns[len(table.key) :] if kind == b"text"]
     is_text = re.match(rb"(?i)[a-z\x80-\xff]", values[0]) and values[0] not in NULL_WORDS
     if not is_text or table.key[0][1] not in (b"int", b"flag"):
         return None
@@ -110,7 +110,7 @@ def advice_for_get(head: Line, table: Table) -> str | None:
     return f"get finds a row by its key, {', '.join(key)}. By {one}: an index on it, and a scan (docs/HOW_TO.md, The rows of one value)"
 
 
-def advice_for_sums(head: Line, table: Table) -> str | None:
+def advice_for_sums(head: Line, table: Trees) -> str | None:
     """The sums that were meant by a column for a group in place of a number of columns."""
     words = head.words
     if len(words) < 3 or not table.has_tree(words[1]) or words[2] not in table.names:
@@ -151,10 +151,10 @@ def value_of(kind: bytes, field: bytes) -> Any:
     return field.lower() == b"true" if kind == b"flag" else bytes.fromhex(field.decode()) if kind == b"bytes" else field
 
 
-def empty_ranges(command: Command, table: Table | None) -> Iterator[str]:
+def empty_ranges(command: Command, table: Trees) -> Iterator[str]:
     """A warning of bounds between which there is no key."""
     lines, words = {line.word: line for line in command.messages()}, command.head.words
-    if table is None or {b"from", b"to"} - lines.keys() or not table.has_tree(words[1]):
+    if {b"from", b"to"} - lines.keys() or not table.has_tree(words[1]):
         return
     key = table.key_of(words[1])
     given = {word: fields(record_of_line(lines[word].rest or b"")[0]) for word in (b"from", b"to")}
@@ -170,7 +170,7 @@ def empty_ranges(command: Command, table: Table | None) -> Iterator[str]:
         yield f"{shown[b'from']} is equal to {shown[b'to']} of line {lines[b'to'].number}, which is not in the range, so the range is empty: {advice}"
 
 
-def warnings(command: Command, table: Table | None, is_answered: bool) -> Iterator[str]:
+def warnings(command: Command, table: Trees, is_answered: bool) -> Iterator[str]:
     """Warnings of what may not be meant in a command, even if it is not refused."""
     for quote in command.broken_quotes():
         yield str(quote)

@@ -7,10 +7,11 @@ from collections.abc import Sequence
 from typing import Any, Protocol
 
 from .errors import RowTypeError, RowValueError
-from .language import Table, counted
+from .language import counted
 from .messages import Message, Shape, message_lines, plain_messages
 from .packed import HEADER_BYTES, value_at
-from .rows import FIELDS, Layout, layout, line_fault, plain_rows, records, rows_of_columns, shown, tuples_of_dicts
+from .rows import FIELDS, line_fault, plain_rows, records, rows_of_columns, shown, tuples_of_dicts
+from .schema import Tree
 
 # The first byte of a packed change, by the word of its line, and that of each operation.
 WORDS = {"put": 0, "del": 1, "ups": 2}
@@ -44,10 +45,10 @@ class Batch(Protocol):
     def packed(self, packer: Packer) -> bytes | None:
         """Its bytes, if its values are plain."""
 
-    def plain(self, table: Table, taken: int) -> Batch:
+    def plain(self, there: Tree, taken: int) -> Batch:
         """The same batch with plain values. Raises RowError for a value that its column does not take."""
 
-    def lines(self, table: Table, taken: int) -> str:
+    def lines(self, there: Tree, taken: int) -> str:
         """Its lines in a script. Raises RowError for a value that its column, or a line, does not take."""
 
 
@@ -60,12 +61,11 @@ class Rows:
     def packed(self, packer: Packer) -> bytes | None:
         return packer._pack_rows(self.items)
 
-    def plain(self, table: Table, taken: int) -> Rows:
-        there = layout(table)
+    def plain(self, there: Tree, taken: int) -> Rows:
         return Rows(plain_rows(tuples_of_dicts(self.items, there.names), there.columns, taken))
 
-    def lines(self, table: Table, taken: int) -> str:
-        return records(self.items, layout(table).columns, "put ", taken + 1, taken)
+    def lines(self, there: Tree, taken: int) -> str:
+        return records(self.items, there.columns, "put ", taken + 1, taken)
 
 
 class Messages:
@@ -77,17 +77,17 @@ class Messages:
     def packed(self, packer: Packer) -> bytes | None:
         return packer._pack_messages(self.items)
 
-    def plain(self, table: Table, taken: int) -> Messages:
-        return Messages(plain_messages(self.items, table, taken))
+    def plain(self, there: Tree, taken: int) -> Messages:
+        return Messages(plain_messages(self.items, there, taken))
 
-    def lines(self, table: Table, taken: int) -> str:
-        return message_lines(self.items, table, taken)
+    def lines(self, there: Tree, taken: int) -> str:
+        return message_lines(self.items, there, taken)
 
 
 class UpsertRows:
     """Upserts of one shape, each a row of the values of its key and of its operations."""
 
-    def __init__(self, shape: Shape, rows: list[Any], there: Layout) -> None:
+    def __init__(self, shape: Shape, rows: list[Any], there: Tree) -> None:
         self.shape, self.rows, self._there = shape, rows, there
 
     @property
@@ -98,11 +98,11 @@ class UpsertRows:
         form = form_of("ups", self.shape, self._there)
         return None if form is None else packer._pack_upserts(form, self.rows)
 
-    def plain(self, table: Table, taken: int) -> Batch:
-        return Messages(self._checked(taken)).plain(table, taken)
+    def plain(self, there: Tree, taken: int) -> Batch:
+        return Messages(self._checked(taken)).plain(there, taken)
 
-    def lines(self, table: Table, taken: int) -> str:
-        return Messages(self._checked(taken)).lines(table, taken)
+    def lines(self, there: Tree, taken: int) -> str:
+        return Messages(self._checked(taken)).lines(there, taken)
 
     def _checked(self, taken: int) -> list[Any]:
         names = [column.name for column in self._there.key] + [name for _, *some in self.shape for name in some]
@@ -119,7 +119,7 @@ class Columns:
     """Changes by columns, all with one word and shape. The columns are those of the rows or the keys, and after them those of the operations. Each is a buffer
     of ints, a list of values, or one value for all changes."""
 
-    def __init__(self, word: str, shape: Shape, columns: list[Any], count: int, there: Layout) -> None:
+    def __init__(self, word: str, shape: Shape, columns: list[Any], count: int, there: Tree) -> None:
         self.word, self.shape, self.columns, self.count, self._there = word, shape, columns, count, there
 
     @property
@@ -131,11 +131,11 @@ class Columns:
         form = form_of(self.word, self.shape, self._there)
         return None if form is None else packer._pack_columns(self.count, form, self.columns)
 
-    def plain(self, table: Table, taken: int) -> Batch:
-        return self._of_items().plain(table, taken)
+    def plain(self, there: Tree, taken: int) -> Batch:
+        return self._of_items().plain(there, taken)
 
-    def lines(self, table: Table, taken: int) -> str:
-        return self._of_items().lines(table, taken)
+    def lines(self, there: Tree, taken: int) -> str:
+        return self._of_items().lines(there, taken)
 
     def _of_items(self) -> Batch:
         if self.word == "put":
@@ -143,13 +143,13 @@ class Columns:
         return Messages(self.items)
 
 
-def form_of(word: str, shape: Shape, there: Layout) -> bytes | None:
+def form_of(word: str, shape: Shape, there: Tree) -> bytes | None:
     """The word of packed changes, and their operations. None if these are not packed."""
     operations = operations_of(shape, there)
     return None if operations is None else bytes([WORDS[word]]) + operations
 
 
-def operations_of(shape: Shape, there: Layout) -> bytes | None:
+def operations_of(shape: Shape, there: Tree) -> bytes | None:
     """The operations of the upserts of a shape, each its code and the place of its column. None if there is no such column, or an operation is not for its
     kind: the library refuses such upserts."""
     places = {column.name: place for place, column in enumerate(there.columns)}
@@ -159,7 +159,7 @@ def operations_of(shape: Shape, there: Layout) -> bytes | None:
     return bytes([number for one in found for number in one])
 
 
-def script_of_changes(changes: bytes, there: Layout) -> bytes:
+def script_of_changes(changes: bytes, there: Tree) -> bytes:
     """The script that makes packed changes, for what runs only scripts. ValueError if a text has a line break, which no line has."""
     words, operations = ({code: word for word, code in codes.items()} for codes in (WORDS, OPERATIONS))
     at, lines = HEADER_BYTES, ["batch\n"]
@@ -187,9 +187,9 @@ def script_of_changes(changes: bytes, there: Layout) -> bytes:
     return "".join([*lines, "end\n"]).encode()
 
 
-def without_breaks(batch: Batch, table: Table, taken: int) -> Batch:
+def without_breaks(batch: Batch, there: Tree, taken: int) -> Batch:
     """A batch that the library has refused, with spaces in place of the line breaks of its texts, so that its lines say why."""
-    items, found = batch.plain(table, taken).items, []
+    items, found = batch.plain(there, taken).items, []
     if not isinstance(items[0], Message):
         return Rows([_without_breaks(row) for row in items])
     for one in items:

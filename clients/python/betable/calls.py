@@ -1,4 +1,4 @@
-"""The calls of a table on values of Python. Everything that runs scripts has them: a class derives from `Calls`, and defines `replies` and `state`."""
+"""The calls of a table on values of Python. Everything that runs scripts has them: a class derives from `Calls`, and defines `replies` and `trees`."""
 
 from __future__ import annotations
 
@@ -10,7 +10,6 @@ from array import array
 from collections import Counter
 from collections.abc import Callable, Iterable, Iterator, Mapping, Sequence
 from contextlib import suppress
-from copy import copy
 from io import BytesIO
 from itertools import islice
 from typing import Any, NamedTuple, NoReturn
@@ -20,15 +19,16 @@ from .batches import Batch, Columns, Messages, Rows, UpsertRows, without_breaks
 from .csv_input import BLOCK, Part, WrongRecords, has_line_breaks, parts, rows_of_records, several_are_wrong, wrong_records, wrong_records_of_load
 from .errors import OutOfMemory, Refused, RowTypeError, RowValueError, WrongRecord
 from .faults import MEANINGS, Fault, faults_of_refusal
-from .forms import head_faults, name_fault
-from .language import Command, State, Table
+from .forms import name_fault
+from .language import Command
 from .messages import Message, Shape, columns_of_shape, delete, record, shape_of, shape_of_columns, upsert
-from .packed import MOST_ROWS, TreeColumn, Usage
+from .packed import MOST_ROWS, Usage
 from .replies import Place, Reply, answered, kinds_of_rows, rows_of_reply
 from .rows import (
-    ARRAY_TYPES, UNKNOWN, VALUE_TYPES, VALUES, Column, ColumnValues, Layout, Value, as_iterator, as_tuple, changes_by_column, columns_of, columns_of_rows,
-    key_fields, layout, line_field, names_fault, part_of_column, plain_key, records, shown, value_of_field, values_by_column,
+    ARRAY_TYPES, VALUE_TYPES, VALUES, ColumnValues, Value, as_iterator, as_tuple, changes_by_column, columns_of_rows, key_fields, line_field, names_fault,
+    part_of_column, plain_key, records, shown, values_by_column,
 )  # fmt: skip
+from .schema import UNKNOWN, Tree, TreeColumn, Trees, trees_after
 
 MOST_MESSAGES = language.MOST_MESSAGES
 CSV_ROWS = 10_000  # of a page that is written to a CSV file
@@ -37,23 +37,12 @@ Row = tuple[Value, ...]
 Bound = tuple[Any, ...] | None
 
 
-class Tree(NamedTuple):
-    """A tree: its name, the columns that it is on, those that it includes, the column, operator and value that select its rows, or None for all rows, and
-    whether it is complete. The tree of rows is on the columns of the table's key, and includes the others."""
-
-    name: str
-    on: tuple[str, ...]
-    include: tuple[str, ...]
-    where: tuple[str, str, Value] | None
-    is_complete: bool
-
-
 class Range(NamedTuple):
     """What a scan is of: a tree and its columns, the two bounds, and the key of the row directly after which it begins, in place of the first bound. The values
     are plain."""
 
     name: str
-    there: Layout
+    there: Tree
     start: Bound
     stop: Bound
     after: Bound = None
@@ -69,7 +58,7 @@ Read = Callable[[Callable[[Any], Any]], Any]
 
 
 class Calls(ABC):
-    """The calls on values. A class that derives from it gives `replies`, the bytes of the replies to a script, and `state`, what its scripts have made."""
+    """The calls on values. A class that derives from it gives `replies`, the bytes of the replies to a script, and `trees`, what its scripts have made."""
 
     def __init_subclass__(cls, **named: Any) -> None:
         super().__init_subclass__(**named)
@@ -81,23 +70,22 @@ class Calls(ABC):
     def replies(self, script: str | bytes) -> bytes:
         """The bytes of the replies to a script, whether commands are refused or not."""
 
-    @property
     @abstractmethod
-    def state(self) -> State:
-        """The table and its indexes after the scripts so far. Raises a fault if the table cannot be used, for example after it is closed."""
+    def trees(self) -> Trees:
+        """The trees of the table: that of its rows, and then its indexes in the order in which they were made. There are none before the table is made."""
 
     def run(self, script: str | bytes) -> list[Reply]:
         """The replies to the commands of a script. Each is a list of lines; its `rows` are the rows as tuples. After all commands are carried out, `Refused` is
         raised for the first command that was refused."""
         script = as_script(script)
-        state = copied(self.state)
+        trees = self.trees()
         text, places = self._replies_with_places(script)
         found, refused = [], None
         for command, reply, is_refused in answered(language.commands(script), text, places):
             if refused is None and is_refused:
-                refused = command, reply, copied(state)
-            found.append(Reply(reply.decode(), command.head.word, kinds_of_rows(state, command)))
-            note(state, command, reply)
+                refused = command, reply, trees
+            found.append(Reply(reply.decode(), command.head.word, kinds_of_rows(trees, command)))
+            trees = trees_after(trees, command, reply)
         if refused:
             raise refusal(*refused, found)
         return found
@@ -137,9 +125,9 @@ class Calls(ABC):
         """Applies an upsert for each row, in batches as `put` does, and returns their number. `set`, `add`, `max` and `min` are each a list of columns. A row
         is a tuple or a list of the values of the key, and those for the columns in the order set, add, max, min."""
         shape = shape_of_columns(operations, "upsert_rows([(1, 5)], add=['qty'])")
-        columns_of_shape(shape, layout(self._table()))
+        columns_of_shape(shape, self._rows_tree())
         given = as_iterator(rows, "rows", "[(1, ..), (2, ..)]")
-        return self._in_batches(given, most, lambda some: UpsertRows(shape, some, layout(self._table())))
+        return self._in_batches(given, most, lambda some: UpsertRows(shape, some, self._rows_tree()))
 
     def upsert_frame(self, frame: Any, most: int = MOST_MESSAGES, **operations: Iterable[str] | Mapping[str, Any]) -> int:
         """Applies an upsert for each row of a data frame of pandas, whose columns have the names of the key's, and returns their number. `set`, `add`, `max`
@@ -149,7 +137,7 @@ class Calls(ABC):
         for operation, given in operations.items():
             pairs = given if isinstance(given, Mapping) else dict(zip(names := list(given), names))
             found[operation] = {name: _of_frame(frame, of) if isinstance(of, str) else of for name, of in pairs.items()}
-        return self.upsert_columns({column.name: _of_frame(frame, column.name) for column in layout(self._table()).key}, most, **found)
+        return self.upsert_columns({column.name: _of_frame(frame, column.name) for column in self._rows_tree().key}, most, **found)
 
     def delete_columns(self, key: Mapping[str, Any], most: int = MOST_MESSAGES) -> int:
         """Removes the rows of keys, as far as there are any, in batches as `put` does, and returns the number of keys. `key` is a dict from the names of the
@@ -172,7 +160,7 @@ class Calls(ABC):
     def load(self, rows: Iterable[Any]) -> int:
         """Fills a table that has no rows with these, all at once, and returns how many."""
         given = as_iterator(rows, "rows", "[(1, ..), (2, ..)]")
-        columns = layout(self._table()).columns
+        columns = self._rows_tree().columns
         parts, taken = ["load\n", ",".join(column.name for column in columns), "\n"], 0
         while some := list(islice(given, MOST_MESSAGES)):
             part = records(some, columns, "", taken + 1, is_load=True)
@@ -234,7 +222,7 @@ class Calls(ABC):
         """Writes the rows that a scan gives to a new CSV file, in UTF-8 and with a header, and returns their number. They are read and written a page at a
         time. Texts are in quotes where `load_csv` and `put_csv` need them. The file has its name once it is whole."""
         path = os.path.abspath(os.fsdecode(path))
-        columns, rows = layout(self.state.table, checked_name(tree, "a tree")).columns, self.iterate(tree, start, stop, CSV_ROWS)
+        columns, rows = self.trees().tree(checked_name(tree, "a tree")).columns, self.iterate(tree, start, stop, CSV_ROWS)
         if os.path.lexists(path):
             raise FileExistsError(f"{path} is there already: rows are written to a new file")
         part, count = f"{path}.part", 0
@@ -253,7 +241,7 @@ class Calls(ABC):
 
     def get(self, *key: Any) -> Row | None:
         """The row of a key, or None."""
-        there = layout(self._table(b"get 0\n"))
+        there = self._rows_tree(b"get 0\n")
         check_one_by_one(key)
         rows = self._rows(b"get", f"get {','.join(key_fields(key, there.key, 'a key'))}\n", there.kinds)
         return rows[0] if rows else None
@@ -279,10 +267,10 @@ class Calls(ABC):
     def columns(self, tree: str = "primary") -> list[TreeColumn]:
         """The columns of the rows of a tree, each with its name, its kind, and whether it belongs to the key of the tree."""
         name = checked_name(tree, "a tree")
-        there = layout(self.state.table, name)
+        there = self.trees().tree(name)
         if there is UNKNOWN:
             self._refuse_tree(name)
-        return [TreeColumn(column.name, column.kind, place < len(there.key)) for place, column in enumerate(there.columns)]
+        return list(there.columns)
 
     def usage(self, tree: str = "primary") -> Usage:
         """How much a tree holds."""
@@ -299,7 +287,7 @@ class Calls(ABC):
         rows are one group, even if there are none. Without a name for the column, as "", the sums are 0."""
         count, summed = checked_group(columns), checked_summed(column)
         name = checked_name(tree, "a tree")
-        there = layout(self.state.table, name)
+        there = self.trees().tree(name)
         if summed or count > len(there.key) > 0:
             # A script has no group of 0 columns: the groups of one column are added up.
             script = f"sums {name} {max(count, 1)} {summed or there.names[0]}\n{bounds(there, start, stop)}go\n"
@@ -317,7 +305,7 @@ class Calls(ABC):
     ) -> dict[str, ColumnValues]:
         """The rows of `scan` by columns: a dict from their names to an `array` of ints, or to a list of other values."""
         rows = self.scan(tree, start, stop, limit)
-        there = layout(self.state.table, tree)
+        there = self.trees().tree(tree)
         return by_names(there, columns_of_rows(rows, there.kinds))
 
     def scan_frame(
@@ -328,7 +316,7 @@ class Calls(ABC):
         import pandas  # type: ignore
 
         columns = self.scan_columns(tree, start, stop, limit)
-        kinds = {column.name: column.kind for column in layout(self.state.table, tree).columns}
+        kinds = {column.name: column.kind for column in self.trees().tree(tree).columns}
         return pandas.DataFrame({name: numpy.asarray(values, dtype=ARRAY_TYPES[kinds[name]]) for name, values in columns.items()})
 
     def table(
@@ -362,18 +350,6 @@ class Calls(ABC):
         script = f"rebuild {checked_name(tree, 'a tree')}\n".encode()
         self._refuse_if_refused(script, self.replies(script), 0, None)
 
-    def trees(self) -> list[Tree]:
-        """The tree of rows, if there is a table, and its indexes, in the order in which they were made."""
-        table = self.state.table
-        if table is None:
-            return []
-        names = [name.decode() for name in table.names]
-        found = [Tree("primary", tuple(names[: table.key_length]), tuple(names[table.key_length :]), None, True)]
-        for name, index in table.indexes.items():
-            on, include = (tuple(one.decode() for one in some) for some in (index.on, index.included))
-            found.append(Tree(name.decode(), on, include, _shown_condition(index, dict(table.columns)), index.is_complete))
-        return found
-
     # What the calls share.
 
     def _replies_with_places(self, script: bytes) -> tuple[bytes, list[Place] | None]:
@@ -388,7 +364,7 @@ class Calls(ABC):
     def _range(self, tree: Any, start: Bound, stop: Bound, after: Bound = None) -> Range:
         """What a scan is of, whose arguments are checked."""
         name = checked_name(tree, "a tree")
-        there = layout(self.state.table, name)
+        there = self.trees().tree(name)
         if there is UNKNOWN:
             return Range(name, there, None, None)
         lower, upper = [None if values is None else plain_key(values, there.key, "a bound", is_prefix=True) for values in (start, stop)]
@@ -413,7 +389,7 @@ class Calls(ABC):
             known = {">": f"of ints '> {value}' is '>= {value + 1}'", "<=": f"of ints '<= {value}' is '< {value + 1}'"} if type(value) is int else {}
             advice = f": {known[operator]}" if operator in known else ": write '='" if operator == "==" else ""
             raise ValueError(f"an operator is one of {', '.join(operators)}, and not {shown(operator)}{advice}")
-        column = next((one for one in columns_of(self._table().columns) if one.name == name), None)
+        column = next((one for one in self._rows_tree().columns if one.name == name), None)
         return f"{name} {operator} {record([value]) if column is None else line_field(value, column, None)}"
 
     def _put_part(self, part: Part, taken: int, wrong: WrongRecords) -> int:
@@ -440,10 +416,10 @@ class Calls(ABC):
             self._put_values(part, table, taken, wrong.path)
         return len(part.records)
 
-    def _put_values(self, part: Part, table: Table, taken: int, path: str) -> None:
+    def _put_values(self, part: Part, table: Trees, taken: int, path: str) -> None:
         """Puts records as rows of values, since texts of them have line breaks, which no script has."""
         try:
-            self._apply_after(Rows(list(rows_of_records(part.records, table))), table, taken)
+            self._apply_after(Rows(list(rows_of_records(part.records, table))), table.tree(), taken)
         except RowValueError as fault:
             place = (fault.row or taken + 1) - taken - 1
             reason = f"{path}, line {part.lines[place]}: {fault.reason}"
@@ -452,19 +428,18 @@ class Calls(ABC):
     def _put_columns(self, rows: Mapping[Any, Any], most: int) -> int:
         """Puts rows that are given by columns, `most` at a time."""
         _check_most(most)
-        table = self._table()
-        columns = layout(table).columns
+        there = self._rows_tree()
+        columns = there.columns
         values, count = values_by_column(rows, columns)
         for taken in range(0, count, most):
             parts = [part_of_column(one, column.kind, taken, taken + most) for one, column in zip(values, columns)]
-            self._apply_after(Columns("put", (), parts, min(most, count - taken), layout(table)), table, taken)
+            self._apply_after(Columns("put", (), parts, min(most, count - taken), there), there, taken)
         return count
 
     def _apply_columns(self, word: str, shape: Shape, key: Mapping[str, Any], values: list[Any], most: int) -> int:
         """Applies changes that are given by columns, `most` at a time: the values of the keys, and those of the operations of the shape."""
         _check_most(most)
-        table = self._table()
-        there = layout(table)
+        there = self._rows_tree()
         if not isinstance(key, Mapping):
             said = f"the values of a key are a dict by its columns, and not {shown(key)} of type {type(key).__name__}"
             raise TypeError(f"{said}: write {{'{there.names[0]}': [..]}}")
@@ -475,16 +450,19 @@ class Calls(ABC):
         found, count = changes_by_column(given)
         for taken in range(0, count, most):
             parts = [_part_of_change(one, column, taken, most) for one, (column, _) in zip(found, given)]
-            self._apply_after(Columns(word, shape, parts, min(most, count - taken), there), table, taken)
+            self._apply_after(Columns(word, shape, parts, min(most, count - taken), there), there, taken)
         return count
 
-    def _table(self, command: bytes = b"batch\nend\n") -> Table:
-        """The table. If there is none, the command is refused, and the refusal says why."""
-        table: Table | None = self.state.table
-        if table is None:
+    def _table(self, command: bytes = b"batch\nend\n") -> Trees:
+        """The trees of the table. If there is none, the command is refused, and the refusal says why."""
+        trees = self.trees()
+        if not trees:
             self._refuse_if_refused(command, self.replies(command), 0, None)
-            raise RuntimeError("the columns of the table are unknown, since memory ran out as it was made")
-        return table
+            raise RuntimeError("a command on the table is carried out, and there is no table")
+        return trees
+
+    def _rows_tree(self, command: bytes = b"batch\nend\n") -> Tree:
+        return self._table(command).tree()
 
     def _in_batches(self, given: Iterator[Any], most: int, make: Callable[[list[Any]], Batch]) -> int:
         """Applies what is given, `most` at a time, as the batches that are made of it, and returns how many there were."""
@@ -492,31 +470,31 @@ class Calls(ABC):
         taken = 0
         while True:
             some = list(islice(given, most))
-            table = self._table()
+            there = self._rows_tree()
             if some:
-                self._apply_after(make(some), table, taken)
+                self._apply_after(make(some), there, taken)
                 taken += len(some)
             if len(some) < most:
                 return taken
 
-    def _apply_after(self, batch: Batch, table: Table, taken: int) -> None:
+    def _apply_after(self, batch: Batch, there: Tree, taken: int) -> None:
         """Applies one batch of a call, of which so many rows were applied before."""
         try:
-            self._apply(batch, table, taken)
+            self._apply(batch, there, taken)
         except OutOfMemory as fault:
             raise OutOfMemory(fault.replies, fault.is_cut, fault.is_lost, taken) from None
 
-    def _apply(self, batch: Batch, table: Table, taken: int) -> None:
+    def _apply(self, batch: Batch, there: Tree, taken: int) -> None:
         """Applies one batch: as packed bytes, or as a script if there are none."""
-        packed = self._packed(batch, table, taken)
+        packed = self._packed(batch, there, taken)
         if packed is None:
-            script = f"batch\n{batch.lines(table, taken)}end\n".encode()
+            script = f"batch\n{batch.lines(there, taken)}end\n".encode()
             self._refuse_if_refused(script, self.replies(script), taken, batch)
         elif refusal := self._apply_packed(packed):
-            script = f"batch\n{without_breaks(batch, table, taken).lines(table, taken)}end\n".encode()
+            script = f"batch\n{without_breaks(batch, there, taken).lines(there, taken)}end\n".encode()
             self._refuse_if_refused(script, refusal, taken, batch)
 
-    def _packed(self, batch: Batch, table: Table, taken: int) -> bytes | None:
+    def _packed(self, batch: Batch, there: Tree, taken: int) -> bytes | None:
         """The bytes of a batch, or None where only scripts are run, or if a value cannot be packed. Raises RowError for a value that its column does not
         take."""
         return None
@@ -543,11 +521,11 @@ class Calls(ABC):
             command = next(language.commands(script))
             items = None if batch is None else batch.items
             raise refusal(
-                command, reply, self.state, [Reply(reply.decode(), command.head.word)], taken, items, path, lines, is_of_script=False
+                command, reply, self.trees(), [Reply(reply.decode(), command.head.word)], taken, items, path, lines, is_of_script=False
             )  # fmt: skip
 
 
-def _part_of_change(values: Any, column: Column, taken: int, most: int) -> Any:
+def _part_of_change(values: Any, column: TreeColumn, taken: int, most: int) -> Any:
     """The values of a column of one batch, or the one value for all."""
     return values if type(values) in VALUE_TYPES else part_of_column(values, column.kind, taken, taken + most)
 
@@ -565,12 +543,12 @@ def check_one_by_one(key: tuple[Any, ...]) -> None:
         raise RowTypeError(f"{shown(key[0])} is of type {type(key[0]).__name__}: the values of a key are given one by one, as get(*key)", value=key[0])
 
 
-def by_names(there: Layout, columns: list[ColumnValues]) -> dict[str, ColumnValues]:
+def by_names(there: Tree, columns: list[ColumnValues]) -> dict[str, ColumnValues]:
     """The columns of rows by their names; bytes are those of ints. A column that is twice in the key of an index has the same values twice."""
     return {column.name: array("q", values) if isinstance(values, bytes) else values for column, values in zip(there.columns, columns)}
 
 
-def bounds(there: Layout, start: Any, stop: Any) -> str:
+def bounds(there: Tree, start: Any, stop: Any) -> str:
     """The lines of the bounds of a scan."""
     if start is None and stop is None or there is UNKNOWN:
         return ""
@@ -687,21 +665,12 @@ def _checked_names(names: Any) -> str:
     return ",".join(checked_name(name, "a column") for name in (re.split(", *", names) if isinstance(names, str) else names))
 
 
-def _shown_condition(index: language.Index, kinds: dict[bytes, bytes]) -> tuple[str, str, Value] | None:
-    """The condition of an index, with its value as one of Python."""
-    if index.condition is None:
-        return None
-    name, operator, constant = index.condition
-    column = Column(name.decode(), kinds[name].decode())
-    return column.name, operator.decode(), value_of_field(constant.decode(), column)
-
-
 def _refuse_gzip(start: bytes, path: str | os.PathLike[str]) -> None:
     if start.startswith(b"\x1f\x8b"):
         raise ValueError(f"{os.fspath(path)} is compressed by gzip: unpack it first, as by gunzip")
 
 
-def _check_header(part: Part, table: Table, path: str | os.PathLike[str]) -> None:
+def _check_header(part: Part, table: Trees, path: str | os.PathLike[str]) -> None:
     """The first record names the columns of the table in order."""
     found = language.fields(part.records[0]) if part.records else []
     if found != table.names:
@@ -720,7 +689,7 @@ def ends_load(text: bytes, start: int = 0, end: int = sys.maxsize) -> int:
     return text.count(b"\n", start, found.start()) + 1 if found else 0
 
 
-def _with_point(rows: list[Any], columns: list[Column], row: int) -> RowValueError:
+def _with_point(rows: list[Any], columns: Sequence[TreeColumn], row: int) -> RowValueError:
     for number, values in enumerate(rows, row):
         for column, value in zip(columns, as_tuple(values, columns, number, 0)):
             if isinstance(value, str) and ends_load(value.encode()):
@@ -731,35 +700,7 @@ def _with_point(rows: list[Any], columns: list[Column], row: int) -> RowValueErr
 # ---- refusals ----
 
 
-def copied(state: State) -> State:
-    """A state that goes on by itself."""
-    found = copy(state)
-    found.refused = dict(state.refused)
-    if state.table is not None:
-        found.table = copy(state.table)
-        found.table.indexes = {name: copy(index) for name, index in state.table.indexes.items()}
-        found.table.dropped = dict(state.table.dropped)
-    return found
-
-
-def note(state: State, command: Command, reply: bytes) -> None:
-    """Takes a command into a state, with its reply."""
-    state.take(command, reply.splitlines(keepends=True)[:1])
-
-
-def note_unanswered(state: State, command: Command) -> None:
-    """Takes the first command without a reply, after a run that ran out of memory, into a state. It may have been carried out, so a table or an index that it
-    would make counts as made: if it was not, the library refuses each command on it."""
-    words = command.head.words
-    if head_faults(command.head):
-        return
-    if words[0] == b"table" and state.table is None:
-        note(state, command, b"table %d\n" % (len(words) - 5))
-    elif words[0] == b"index" and state.table is not None and words[1] not in state.table.indexes:
-        note(state, command, b"index %b\n" % words[1])
-
-
-def fault_of(command: Command, number: int, item: int | None, state: State) -> Fault | None:
+def fault_of(command: Command, number: int, item: int | None, table: Trees) -> Fault | None:
     """The fault that a refusal of a command names: of several lines the one of its item."""
     line = None
     if item is not None and command.head.word in (b"batch", b"load"):
@@ -767,27 +708,27 @@ def fault_of(command: Command, number: int, item: int | None, state: State) -> F
             one for one, _ in islice(command.records(), item, item + 1)
         ]
         line = numbers[0] if numbers else None
-    faults: Iterable[Fault] = faults_of_refusal(command, number, state)
+    faults: Iterable[Fault] = faults_of_refusal(command, number, table)
     return next((fault for fault in faults if line is None or fault.line == line), None)
 
 
-def _given_value(row: Any, column: str, columns: list[Column], otherwise: Any) -> Any:
+def _given_value(row: Any, column: str, columns: Sequence[TreeColumn], otherwise: Any) -> Any:
     """The value of a column as a caller gave it, in a row or a message."""
     if isinstance(row, Message):
         key, changes = row.parts()
-        found = {name: value for (name, _), value in zip(columns, key)} | {name: value for _, name, value in changes}
+        found = {column.name: value for column, value in zip(columns, key)} | {name: value for _, name, value in changes}
         return found.get(column, otherwise)
-    return dict(zip((name for name, _ in columns), as_tuple(row, columns, 0, 0)))[column]
+    return dict(zip((column.name for column in columns), as_tuple(row, columns, 0, 0)))[column]
 
 
 def refusal(
-    command: Command, reply: bytes, state: State, replies: list[Reply], taken: int = 0, rows: list[Any] | None = None, path: str | None = None,
+    command: Command, reply: bytes, table: Trees, replies: list[Reply], taken: int = 0, rows: list[Any] | None = None, path: str | None = None,
     lines: Sequence[int] = (), is_of_script: bool = True,
 ) -> Refused:  # fmt: skip
     """The exception of a command that was refused, with the reason. Of a batch of records of a file, `lines` are theirs in the file."""
     number, name, *rest = reply.decode().split()[1:]
     item = int(rest[0]) if rest else None
-    fault = fault_of(command, int(number), item, state)
+    fault = fault_of(command, int(number), item, table)
     column = fault.column.decode(errors="replace") if fault is not None and fault.column is not None else None
     value: Any = fault.value.decode(errors="replace") if fault is not None and fault.value is not None else None
     reason = MEANINGS.get(int(number), "") if fault is None else fault.what()
@@ -797,11 +738,11 @@ def refusal(
     if int(number) == 3 and not is_of_script:
         reason = "There is no table yet. Make it first, as by table('id:int city:text')"
     if rows is not None and item is not None and column is not None:
-        value = _given_value(rows[item - 1], column, layout(state.table).columns, value)
+        value = _given_value(rows[item - 1], column, table.tree().columns, value)
     wrong: list[WrongRecord] = []
     wrong_count = 0
     if path is not None and command.head.word == b"load" and int(number) in (6, 7):
-        wrong, wrong_count = wrong_records_of_load(faults_of_refusal(command, int(number), state), command.head.number)
+        wrong, wrong_count = wrong_records_of_load(faults_of_refusal(command, int(number), table), command.head.number)
     if wrong_count > 1 and path is not None:
         reason = several_are_wrong(path, wrong_count)
     elif path is not None:

@@ -13,8 +13,9 @@ from typing import BinaryIO, NamedTuple
 
 from .errors import Refused, WrongRecord
 from .faults import Fault, faults_of_records
-from .language import MARK, RECORD, Table, broken_quotes
+from .language import MARK, RECORD, broken_quotes
 from .rows import Value, values_of_fields
+from .schema import Trees
 
 # The bytes of a file that are read at once.
 BLOCK = 1 << 22
@@ -90,7 +91,7 @@ def has_line_breaks(records: Sequence[bytes]) -> bool:
     return b"\n" in together or b"\r" in together
 
 
-def wrong_records(part: Part, table: Table) -> dict[int, Fault]:
+def wrong_records(part: Part, table: Trees) -> dict[int, Fault]:
     """Why records are no rows of a table: the first fault of each that is none, by its place in the part."""
     records = [record.removeprefix(MARK) for record in part.records]
     found: dict[int, Fault] = {}
@@ -104,7 +105,7 @@ def wrong_records(part: Part, table: Table) -> dict[int, Fault]:
     return dict(sorted(found.items()))
 
 
-def rows_of_records(records: Iterable[bytes], table: Table) -> list[tuple[Value, ...]]:
+def rows_of_records(records: Iterable[bytes], table: Trees) -> list[tuple[Value, ...]]:
     """The rows that records are, none of which is wrong."""
     reader = csv.reader(StringIO(b"\n".join([record.removeprefix(MARK) for record in records]).decode(), newline=""))
     rows: list[tuple[Value, ...]] = []

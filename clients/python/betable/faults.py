@@ -8,8 +8,9 @@ from .forms import head_faults, no_block_word, record_reasons, spelled
 from .language import (
     any_of, BLOCK_WORDS, BUFFERS, BUFFERS_IN_BYTES, Columns, Command, counted, FANOUTS, FIELD, fields, FORMS, index_of, INT_OPERATIONS, KINDS, LEAVES, Line,
     MARK, matched, MOST_COLUMNS, MOST_INCLUDED, MOST_INDEXES, MOST_KEY_COLUMNS, MOST_MESSAGES, MOST_ON, MOST_OPERATIONS, OPERATIONS, PRIMARY, printed_field,
-    RECORD, record_of_line, spans, State, Table, text_pattern, visible,
+    RECORD, record_of_line, spans, text_pattern, visible,
 )  # fmt: skip
+from .schema import Trees
 
 # The meaning of each refusal, by its number, and what to do about it.
 MEANINGS = {
@@ -104,9 +105,9 @@ def field_faults(raw: bytes, columns: Columns, line: int | None, around: bytes, 
 
 
 class MessageFaults:
-    """The faults of the lines of a batch, by a table or by none."""
+    """The faults of the lines of a batch, by a table or by none yet."""
 
-    def __init__(self, table: Table | None) -> None:
+    def __init__(self, table: Trees) -> None:
         self.table = table
         self.key = table.key if table else []
 
@@ -130,7 +131,7 @@ class MessageFaults:
             return [length_fault(record, count, wanted, line.number, line.text, offset, most_of(columns))]
         return field_faults(record, columns, line.number, line.text, offset)
 
-    def of_upsert(self, line: Line, record: bytes, offset: int, table: Table) -> list[Fault]:
+    def of_upsert(self, line: Line, record: bytes, offset: int, table: Trees) -> list[Fault]:
         values = fields(record)
         count, rest = divmod(len(values) - len(self.key), 3)
         if rest or not 1 <= count <= MOST_OPERATIONS:
@@ -149,7 +150,7 @@ class MessageFaults:
         return found
 
 
-def operation_fault(table: Table, place: str, word: bytes, name: bytes, argument: bytes) -> tuple[int, str, str | None]:
+def operation_fault(table: Trees, place: str, word: bytes, name: bytes, argument: bytes) -> tuple[int, str, str | None]:
     """The first fault of an operation: which of its three fields it is, the place, and the reason, or None."""
     columns = dict(table.columns)
     if word not in OPERATIONS:
@@ -169,14 +170,14 @@ def operation_fault(table: Table, place: str, word: bytes, name: bytes, argument
 class SurePatterns:
     """Patterns of what is surely without a fault, so that only the rest of a large block is looked into."""
 
-    def __init__(self, table: Table, block: bytes, breaks: bytes = b"") -> None:
+    def __init__(self, table: Trees, block: bytes, breaks: bytes = b"") -> None:
         self.table, self.kinds = table, {word: kind.spelled for word, kind in KINDS.items()} | {b"text": text_pattern(block, breaks)}
 
     def values(self, columns: Columns) -> bytes:
         return b",".join(self.kinds[kind] for _, kind in columns)
 
     def operations(self) -> bytes:
-        columns = self.table.columns[self.table.key_length :]
+        columns = self.table.columns[len(self.table.key) :]
         forms = [b"set,%b,%b" % (name, self.kinds[kind]) for name, kind in columns]
         forms += [b"(?:%b),%b,%b" % (b"|".join(INT_OPERATIONS), name, self.kinds[kind]) for name, kind in columns if kind == b"int"]
         return b"(?:,(?:%b)){1,16}" % b"|".join(forms) if forms else rb"(?!)"
@@ -216,7 +217,7 @@ def doubtful(block: bytes, number: int, at: int, sure: re.Pattern[bytes], one: r
         number, at = number + found[0].count(b"\n"), found.end()
 
 
-def batch_faults(command: Command, table: Table | None) -> Iterator[Fault]:
+def batch_faults(command: Command, table: Trees) -> Iterator[Fault]:
     """The faults of a batch's lines, in order."""
     faults, block = MessageFaults(table), command.block
     sure = SurePatterns(table, block, LINE_BREAKS).messages() if table else re.compile(rb"(?> *\r?\n)*+")
@@ -236,7 +237,7 @@ def number_faults(command: Command) -> Iterator[Fault]:
         yield Fault(f"message {MOST_MESSAGES + 1:,} of {len(starts):,}, and a batch has at most {MOST_MESSAGES:,}", line=line)
 
 
-def load_faults(command: Command, table: Table) -> Iterator[Fault]:
+def load_faults(command: Command, table: Trees) -> Iterator[Fault]:
     """The faults of the records of a load, after its header."""
     block = command.block
     header = RECORD.search(block, len(MARK) if block.startswith(MARK) else 0)
@@ -245,7 +246,7 @@ def load_faults(command: Command, table: Table) -> Iterator[Fault]:
     yield from faults_of_records(block, command.head.number + 1 + block.count(b"\n", 0, header.end()), header.end(), table)
 
 
-def faults_of_records(text: bytes, number: int, at: int, table: Table) -> Iterator[Fault]:
+def faults_of_records(text: bytes, number: int, at: int, table: Trees) -> Iterator[Fault]:
     """The faults of the records of a CSV text, from a place in it on that has this line number."""
     columns, names = table.columns, spelled(table.names)
     for number, raw in doubtful(text, number, at, SurePatterns(table, text).records(), RECORD):
@@ -262,7 +263,7 @@ def record_length_fault(raw: bytes, count: int, columns: Columns, names: str, nu
     return length_fault(raw, count, f"a record has {len(columns)} ({names})", number, raw, 0, most_of(columns))
 
 
-def header_faults(command: Command, table: Table) -> list[Fault]:
+def header_faults(command: Command, table: Trees) -> list[Fault]:
     """Why the header of a load is none."""
     number, raw = next(command.records(), (None, b""))
     if number is None:
@@ -290,7 +291,7 @@ def printed_key(raw: bytes, key: Columns) -> bytes:
     return b",".join([printed_field(KINDS[kind].printed(field)) for (_, kind), field in zip(key, fields(raw))])
 
 
-def key_faults(command: Command, table: Table) -> Iterator[Fault]:
+def key_faults(command: Command, table: Trees) -> Iterator[Fault]:
     """The records of a load, whose fields have no fault, whose keys earlier ones have, with their items."""
     block, pattern = command.block, key_pattern(table.key)
     at = len(MARK) if block.startswith(MARK) else 0
@@ -311,7 +312,7 @@ def key_faults(command: Command, table: Table) -> Iterator[Fault]:
                 yield Fault(f"key {visible(keys[item])} in line {number} is that of line {line[1]} too", f"14 DuplicateKey {item}")
 
 
-def bound_faults(command: Command, state: State) -> Iterator[Fault]:
+def bound_faults(command: Command, table: Trees) -> Iterator[Fault]:
     """The faults of the bounds of a scan or of sums."""
     words = BLOCK_WORDS[command.head.word]
     numbers: dict[bytes, int] = {}
@@ -325,8 +326,8 @@ def bound_faults(command: Command, state: State) -> Iterator[Fault]:
             yield Fault(f"'from' comes after the 'to' of line {numbers[b'to']}: the order is from, then to", line=line.number, around=line.text)
         elif reasons := record_reasons(line):
             yield Fault(reasons[0], line=line.number, around=line.text, at=len(line.word) + 1)
-        elif state.table and state.table.has_tree(tree):
-            yield from bound_field_faults(line, state.table.key_of(tree), tree.decode())
+        elif table.has_tree(tree):
+            yield from bound_field_faults(line, table.key_of(tree), tree.decode())
         numbers.setdefault(line.word, line.number)
 
 
@@ -342,7 +343,7 @@ def bound_field_faults(line: Line, columns: Columns, tree: str) -> list[Fault]:
 # ---- refusals of one line ----
 
 
-def get_faults(command: Command, table: Table) -> list[Fault]:
+def get_faults(command: Command, table: Trees) -> list[Fault]:
     head = command.head
     record, _ = record_of_line(head.rest or b"")
     count, offset = len(fields(record)), len(head.text) - len(record)
@@ -352,12 +353,12 @@ def get_faults(command: Command, table: Table) -> list[Fault]:
     return field_faults(record, table.key, None, head.text, offset)
 
 
-def sums_faults(command: Command, state: State) -> Iterator[Fault]:
+def sums_faults(command: Command, table: Trees) -> Iterator[Fault]:
     """Why the tree does not have the columns of sums."""
     _, tree, count, name = command.head.words
-    if not state.table or not state.table.has_tree(tree):
+    if not table.has_tree(tree):
         return
-    key, columns = state.table.key_of(tree), dict(state.table.columns_of(tree))
+    key, columns = table.key_of(tree), dict(table.columns_of(tree))
     if not 1 <= int(count) <= len(key):
         total = "; for all rows see docs/HOW_TO.md, A grand total" if int(count) == 0 else ""
         yield Fault(f"G is {int(count)}, and from 1 to {len(key)}: the key of {tree.decode()} is {spelled(name for name, _ in key)}{total}")
@@ -367,11 +368,11 @@ def sums_faults(command: Command, state: State) -> Iterator[Fault]:
         yield Fault(f"'{name.decode()}' is {columns[name].decode()}, and only ints are added")
 
 
-def index_faults(command: Command, table: Table) -> Iterator[Fault]:
+def index_faults(command: Command, table: Trees) -> Iterator[Fault]:
     """Why an index cannot be made."""
     index, name = index_of(command.head), command.head.words[1]
     if name == PRIMARY or name in table.indexes:
-        owner = "the tree of rows" if name == PRIMARY else f"the index of line {table.indexes[name].line.number}"
+        owner = "the tree of rows" if name == PRIMARY else "an index"
         yield Fault(f"'{name.decode()}' is the name of {owner}. Choose another, or drop that index first")
     for names, most, part in ((index.on, MOST_ON, "on"), (index.included, MOST_INCLUDED, "include")):
         if len(names) > most:
@@ -408,36 +409,33 @@ def table_faults(command: Command) -> Iterator[Fault]:
             yield Fault(f"the {size} is {word.decode()}, and from {sizes_there[0]} to {sizes_there[-1]}{unit}")
 
 
-def tree_faults(command: Command, table: Table, refused: dict[bytes | None, Line]) -> Iterator[Fault]:
+def tree_faults(command: Command, table: Trees) -> Iterator[Fault]:
     """Why a tree is not there, or not complete."""
     name = command.head.words[1]
     text = f"'{name.decode()}'"
     if name == PRIMARY:
         yield Fault(f"{text} is the tree of rows, which is not built or dropped")
     elif name in table.indexes:
-        index = table.indexes[name]
-        yield Fault(f"{text} of line {index.line.number} is {'complete, and has nothing left to build' if index.is_complete else 'building'}")
+        yield Fault(f"{text} is {'complete, and has nothing left to build' if table.indexes[name].is_complete else 'building'}")
     else:
-        lost = f"; {text} was dropped in line {table.dropped[name].number}" if name in table.dropped else ""
-        lost = lost or (f"; the index of line {refused[name].number} was refused" if name in refused else "")
-        yield Fault(f"no tree is named {text}: there {'are' if table.indexes else 'is'} {spelled([PRIMARY, *table.indexes])}{lost}")
+        yield Fault(f"no tree is named {text}: there {'are' if table.indexes else 'is'} {spelled(table.by_name)}")
 
 
 # ---- refusals ----
 
 
-def block_faults(command: Command, state: State) -> Iterable[Fault]:
+def block_faults(command: Command, table: Trees) -> Iterable[Fault]:
     """The faults of the lines of a block, in order."""
     if command.head.word == b"batch":
-        return batch_faults(command, state.table)
-    return bound_faults(command, state) if command.closing == b"go" else []
+        return batch_faults(command, table)
+    return bound_faults(command, table) if command.closing == b"go" else []
 
 
-def faults_of_refusal(command: Command, number: int, state: State) -> Iterable[Fault]:
-    """The faults of a refused command, in order; none where the meaning of the refusal says all."""
-    word, table = command.head.word, state.table
+def faults_of_refusal(command: Command, number: int, table: Trees) -> Iterable[Fault]:
+    """The faults of a refused command, in order; none where the meaning of the refusal says all. The table is as the command found it."""
+    word = command.head.word
     if number in (1, 2):
-        return chain(map(Fault, head_faults(command.head)), block_faults(command, state))
+        return chain(map(Fault, head_faults(command.head)), block_faults(command, table))
     # A program of another language may have commands of other forms.
     if head_faults(command.head):
         return []
@@ -448,9 +446,9 @@ def faults_of_refusal(command: Command, number: int, state: State) -> Iterable[F
     if number == 14:
         return key_faults(command, table)
     if number in (8, 12) or (number == 11 and word != b"load"):
-        return tree_faults(command, table, state.refused)
+        return tree_faults(command, table)
     if number == 11:
-        return [Fault(f"'{name.decode()}' of line {index.line.number} is building") for name, index in table.indexes.items() if not index.is_complete]
+        return [Fault(f"'{tree.name}' is building") for tree in table if not tree.is_complete]
     if word == b"load":
         return header_faults(command, table) if number == 5 else load_faults(command, table) if number in (6, 7) else []
     if word == b"get":
@@ -458,13 +456,13 @@ def faults_of_refusal(command: Command, number: int, state: State) -> Iterable[F
     if word == b"index":
         return index_faults(command, table)
     too_many = number_faults(command) if word == b"batch" else []
-    return chain(too_many, block_faults(command, state), sums_faults(command, state) if word == b"sums" else [])
+    return chain(too_many, block_faults(command, table), sums_faults(command, table) if word == b"sums" else [])
 
 
 COMMAND_LINE = re.compile(rb"\n( *(?:%b)(?:[ \r][^\n]*)?)$" % b"|".join(FORMS), re.MULTILINE)
 
 
-def swallowed_line(command: Command, table: Table | None) -> Line | None:
+def swallowed_line(command: Command, table: Trees) -> Line | None:
     """The first line of a block that looks like a command, and of a load is no record of the table."""
     text, number, at = b"\n" + command.block, command.head.number, 0
     sure = re.compile(SurePatterns(table, command.block).record()) if table and command.head.word == b"load" else None

@@ -4,8 +4,6 @@ Bytes stay bytes: a script, a line, a name, a kind and a field are bytes, and wh
 
     for command in commands(script):             # the commands of a script, with their lines and blocks
         answer = reply(command.head.word, lines) # the lines that answer it, of lines = logical_lines(replies)
-        state.take(command, answer)              # the table and its indexes, as far as they were answered
-    state.table.columns_of(b"by_city")           # the names and kinds of what a scan of this tree prints
 """
 
 import re
@@ -478,96 +476,38 @@ def end_of_block(script: bytes, start: int, closing: bytes) -> tuple[int, int, b
     return max(start, len(script)), len(script), False
 
 
-# ---- the table and its indexes ----
+# ---- definitions ----
 
 
-class Index:
-    """An index: the line that made it, the columns that it is on, those that it includes, and its condition or None."""
+class Index(NamedTuple):
+    """What the line of an index says: the columns that it is on, those that it includes, and its condition or None."""
 
-    def __init__(self, line: Line, on: list[bytes], included: list[bytes], condition: tuple[bytes, bytes, bytes] | None) -> None:
-        self.line, self.on, self.included, self.condition = line, on, included, condition
-        self.is_complete = False
-
-
-class Table:
-    """The table that a script has made so far, with the line that made it."""
-
-    def __init__(self, line: Line) -> None:
-        words = line.words
-        self.line, self.key_length = line, int(words[4])
-        self.columns: Columns = [(name, kind) for name, _, kind in (word.partition(b":") for word in words[5:])]
-        # By their names; of those that were dropped the lines that did it.
-        self.indexes: dict[bytes, Index] = {}
-        self.dropped: dict[bytes, Line] = {}
-
-    @property
-    def names(self) -> list[bytes]:
-        return [name for name, _ in self.columns]
-
-    @property
-    def kinds(self) -> list[bytes]:
-        return [kind for _, kind in self.columns]
-
-    @property
-    def key(self) -> Columns:
-        """The names and kinds of its key."""
-        return self.columns[: self.key_length]
-
-    def has_tree(self, name: bytes) -> bool:
-        return name == PRIMARY or name in self.indexes
-
-    def key_of(self, tree: bytes) -> Columns:
-        """The names and kinds of the columns of a tree's key."""
-        return self.key if tree == PRIMARY else [*self.named(self.indexes[tree].on), *self.key]
-
-    def columns_of(self, tree: bytes) -> Columns:
-        """The names and kinds of the rows that a scan of a tree prints."""
-        return self.columns if tree == PRIMARY else [*self.key_of(tree), *self.named(self.indexes[tree].included)]
-
-    def named(self, names: Iterable[bytes]) -> Columns:
-        kinds = dict(self.columns)
-        return [(name, kinds[name]) for name in names]
-
-
-# The start of the reply to each command that creates or drops something.
-ANSWERS = {word: COMMANDS[word].reply[0] + b" " for word in DEFINING}
-
-
-class State:
-    """What a script has made by its commands that were answered."""
-
-    def __init__(self) -> None:
-        self.table: Table | None = None
-        self.refused: dict[bytes | None, Line] = {}  # of a table, and of indexes by their names, the last line that was refused
-
-    def take(self, command: Command, answer: list[bytes]) -> None:
-        """Goes on by a command and the lines of its reply."""
-        word = command.head.word
-        if word not in ANSWERS or not answer or not answer[0].startswith((ANSWERS[word], b"refused ")):
-            return
-        words = command.head.words
-        name = (words[1:2] or [b""])[0]
-        if answer[0].startswith(b"refused "):
-            if word in (b"table", b"index"):
-                self.refused[name if word == b"index" else None] = command.head
-        elif word == b"table" and answer[0] == b"table %d\n" % (len(words) - 5):
-            self.table = Table(command.head)
-        elif not self.table:
-            return
-        elif word == b"index" and answer[0] == b"index %b\n" % name:
-            self.table.indexes[name] = index_of(command.head)
-        elif word == b"drop":
-            self.table.dropped[name] = command.head
-            self.table.indexes.pop(name, None)
-        elif name in self.table.indexes:
-            self.table.indexes[name].is_complete = answer[0].endswith(b" complete\n")
+    on: list[bytes]
+    included: list[bytes]
+    condition: tuple[bytes, bytes, bytes] | None
 
 
 def index_of(line: Line) -> Index:
     """The index that a line makes which was answered."""
     on, included, column, operator, constant = matched(INDEX, line.text).groups()
     condition = (column, operator, fields(constant.removeprefix(MARK))[0]) if operator else None
-    return Index(line, on.split(b","), included.split(b",") if included else [], condition)
+    return Index(on.split(b","), included.split(b",") if included else [], condition)
+
+
+class Definitions(dict[bytes, Line]):
+    """The lines that made the table and the indexes that are there, by the names of their trees. A checkpoint begins with them."""
+
+    def take(self, command: Command) -> None:
+        """Goes on by a command that was carried out."""
+        word, name = command.head.word, (command.head.words[1:2] or [b""])[0]
+        if word in (b"table", b"index"):
+            self[PRIMARY if word == b"table" else name] = command.head
+        elif word == b"drop":
+            self.pop(name, None)
+
+    def lines(self) -> list[bytes]:
+        """The lines of a script that makes the same trees, complete, before the table has rows."""
+        return [line for name, head in self.items() for line in ([head.text] if name == PRIMARY else [head.text, b"build %b 1" % name])]
 
 
 # ---- replies ----

@@ -7,8 +7,8 @@ from typing import Any
 
 from . import language
 from .errors import RowTypeError, RowValueError
-from .language import Table
-from .rows import FIELDS, PLAIN_TEXT, Column, Layout, as_iterator, as_tuple, check_key, layout, line_fault, line_field, plain_value, shown
+from .rows import FIELDS, PLAIN_TEXT, as_iterator, as_tuple, check_key, line_fault, line_field, plain_value, shown
+from .schema import Tree, TreeColumn
 
 OPERATIONS = tuple(word.decode() for word in language.OPERATIONS)
 
@@ -147,15 +147,14 @@ TYPES_OF_KINDS: tuple[tuple[str, Any], ...] = (("flag", bool), ("int", int), ("t
 class Form:
     """The line of messages that differ only in their values: a text with a place for each value, the columns of the values, and which of them are texts."""
 
-    def __init__(self, text: str, columns: list[Column]) -> None:
+    def __init__(self, text: str, columns: list[TreeColumn]) -> None:
         self.text, self.columns = text, columns
         self.texts = [place for place, column in enumerate(columns) if column.kind == "text"]
 
 
-def message_lines(messages: list[Any], table: Table, taken: int) -> str:
+def message_lines(messages: list[Any], there: Tree, taken: int) -> str:
     """The lines of messages, each value by the kind of its column."""
-    there, found = layout(table), []
-    forms = there.forms
+    forms, found = there.forms, []
     for number, message in enumerate(messages, taken + 1):
         _check_message(message, number, taken)
         values = message.values
@@ -170,9 +169,9 @@ def message_lines(messages: list[Any], table: Table, taken: int) -> str:
     return "".join(found)
 
 
-def plain_messages(messages: list[Any], table: Table, taken: int) -> list[Message]:
+def plain_messages(messages: list[Any], there: Tree, taken: int) -> list[Message]:
     """Messages whose values have exactly the types of their kinds."""
-    there, found = layout(table), []
+    found = []
     for number, message in enumerate(messages, taken + 1):
         _check_message(message, number, taken)
         columns = _columns_of_message(message, there, number, taken)
@@ -187,7 +186,7 @@ def _check_message(message: Any, row: int, taken: int) -> None:
         raise RowTypeError(reason, row=row, value=message, taken=taken)
 
 
-def _columns_of_message(message: Message, there: Layout, row: int, taken: int) -> list[Column]:
+def _columns_of_message(message: Message, there: Tree, row: int, taken: int) -> list[TreeColumn]:
     """The columns of the values of a message. The number that `add`, `max` and `min` take is that of an int, which the library refuses for other columns."""
     key, _ = message.parts()
     if message.word == "put":
@@ -197,7 +196,7 @@ def _columns_of_message(message: Message, there: Layout, row: int, taken: int) -
     return [*there.key, *columns_of_shape(message.shape, there, row, taken)]
 
 
-def columns_of_shape(shape: Shape, there: Layout, row: int | None = None, taken: int = 0) -> list[Column]:
+def columns_of_shape(shape: Shape, there: Tree, row: int | None = None, taken: int = 0) -> list[TreeColumn]:
     """The columns of the operations of a shape."""
     by_name = {column.name: column for column in there.columns}
     names = [name for _, *some in shape for name in some]
@@ -207,7 +206,7 @@ def columns_of_shape(shape: Shape, there: Layout, row: int | None = None, taken:
     return [by_name[name] for name in names]
 
 
-def _message_line(message: Message, there: Layout, row: int, taken: int) -> str:
+def _message_line(message: Message, there: Tree, row: int, taken: int) -> str:
     """The line of one message. Its form is kept for others that are like it, where its values are ints and texts that need no look but at their letters."""
     key, changes = message.parts()
     columns = _columns_of_message(message, there, row, taken)

@@ -3,15 +3,17 @@
 from __future__ import annotations
 
 import struct
-from collections.abc import Iterator
 from typing import NamedTuple
 
-from .rows import Layout, Value
+from .rows import Value
+from .schema import Tree, TreeColumn, Trees
 
 MAGIC = b"BTV\x01"
-HEADER_OF_ONE = struct.pack("<4sI", MAGIC, 1)
+HEADER_OF_NONE, HEADER_OF_ONE = (struct.pack("<4sI", MAGIC, number) for number in range(2))
 HEADER_BYTES = len(HEADER_OF_ONE)
 USAGE = struct.Struct("<4s3Q")
+# The state of a tree, and the numbers of its key columns and of all.
+TREE = struct.Struct("<B2Q")
 # The most rows of a page.
 MOST_ROWS = 2**32 - 1
 KINDS = {0: "int", 1: "text", 2: "flag", 4: "bytes"}
@@ -20,14 +22,6 @@ REFUSALS = {1: b"Syntax", 3: b"NoTable", 6: b"BadField", 7: b"BadLength", 15: b"
 BAD_FIELD, BAD_LENGTH = 6, 7
 WITH_ITEM = (BAD_FIELD, BAD_LENGTH)
 CODES = {kind: code for code, kind in KINDS.items()}
-
-
-class TreeColumn(NamedTuple):
-    """A column of the rows of a tree: its name, its kind, and whether it belongs to the key of the tree."""
-
-    name: str
-    kind: str
-    is_key: bool
 
 
 class Usage(NamedTuple):
@@ -44,9 +38,9 @@ def name_bytes(tree: str) -> bytes:
     return HEADER_OF_ONE + _text(tree)
 
 
-def description(tree: str, there: Layout) -> bytes:
+def description(tree: Tree) -> bytes:
     """A tree as the extension takes it: the number of its key columns, that of its columns, their kinds, and its name."""
-    return bytes([len(there.key), len(there.columns), *(CODES[kind] for kind in there.kinds)]) + _text(tree)
+    return bytes([len(tree.key), len(tree.columns), *(CODES[kind] for kind in tree.kinds)]) + _text(tree.name)
 
 
 def _text(text: str) -> bytes:
@@ -77,14 +71,36 @@ def usage_of_reply(reply: bytes) -> Usage:
 
 def columns_of_reply(reply: bytes) -> list[TreeColumn]:
     """The columns of a reply, of which the first are those of the key."""
+    keys = int.from_bytes(reply[len(MAGIC) : len(MAGIC) + 8], "little")
     at = len(MAGIC) + 8
-    keys = int.from_bytes(reply[len(MAGIC) : at], "little")
-    return [TreeColumn(name, KINDS[kind], place < keys) for place, (kind, name) in enumerate(_named(reply, at))]
-
-
-def _named(reply: bytes, at: int) -> Iterator[tuple[int, str]]:
-    """The kind and the name of each column from a place on."""
+    found: list[TreeColumn] = []
     while at < len(reply):
-        end = at + 2 + reply[at + 1]
-        yield reply[at], reply[at + 2 : end].decode()
-        at = end
+        column, at = _column_at(reply, at, len(found) < keys)
+        found.append(column)
+    return found
+
+
+def trees_of_reply(reply: bytes) -> Trees:
+    """The trees of a reply without their use."""
+    at, found = len(MAGIC), []
+    while at < len(reply):
+        name, at = _text_at(reply, at)
+        state, keys, count = TREE.unpack_from(reply, at)
+        at += TREE.size
+        columns = []
+        for place in range(count):
+            column, at = _column_at(reply, at, place < keys)
+            columns.append(column)
+        found.append(Tree(name, tuple(columns), state == 0))
+    return Trees(found)
+
+
+def _column_at(reply: bytes, at: int, is_key: bool) -> tuple[TreeColumn, int]:
+    """The column at a place, and the place after it."""
+    name, end = _text_at(reply, at + 1)
+    return TreeColumn(name, KINDS[reply[at]], is_key), end
+
+
+def _text_at(packed: bytes, at: int) -> tuple[str, int]:
+    end = at + 1 + packed[at]
+    return packed[at + 1 : end].decode(), end

@@ -5,12 +5,12 @@ from __future__ import annotations
 
 from abc import abstractmethod
 from collections.abc import Callable, Iterator
-from typing import Any, TypeVar
+from typing import Any, Protocol, TypeVar
 
 from .calls import Bound, Calls, Row
-from .language import State
-from .packed import TreeColumn, Usage
+from .packed import Usage
 from .rows import ColumnValues
+from .schema import TreeColumn, Trees
 from .session import ScriptSession
 
 T = TypeVar("T")
@@ -20,7 +20,7 @@ class Reads(Calls):
     """The calls that only read. What they do is said where a session has them."""
 
     @abstractmethod
-    def _read(self, call: Callable[[Any], T]) -> T:
+    def _read(self, call: Callable[[Calls], T]) -> T:
         """What a call gives of the reader of the table, which `reader_of` finds."""
 
     def get(self, *key: Any) -> Row | None:
@@ -44,12 +44,16 @@ class Reads(Calls):
     def scan_frame(
         self, tree: str = "primary", start: Bound = None, stop: Bound = None, limit: int | None = None
     ) -> Any:
-        return self._read(lambda reader: reader.scan_frame(tree, start, stop, limit))
+        call: Callable[[Calls], Any] = lambda reader: reader.scan_frame(tree, start, stop, limit)  # noqa: E731
+        return self._read(call)
 
     def sums(
         self, tree: str, columns: int, column: str, start: Bound = None, stop: Bound = None
     ) -> list[Row]:
         return self._read(lambda reader: reader.sums(tree, columns, column, start, stop))
+
+    def trees(self) -> Trees:
+        return self._read(lambda reader: reader.trees())
 
     def columns(self, tree: str = "primary") -> list[TreeColumn]:
         return self._read(lambda reader: reader.columns(tree))
@@ -61,20 +65,32 @@ class Reads(Calls):
         return self._read(lambda reader: reader.check(script))
 
 
+class Runner(Protocol):
+    """What runs the scripts of a table: a session, or a layer over sessions."""
+
+    def replies(self, script: bytes) -> bytes:
+        ...
+
+    def trees(self) -> Trees:
+        ...
+
+    def close(self) -> None:
+        ...
+
+
 class ByScripts(Calls):
     """The calls on a table, whose scripts a layer runs."""
 
-    def __init__(self, table: Calls) -> None:
-        self._owner = table
+    def __init__(self, table: Calls, layer: Runner) -> None:
+        self._owner, self._layer = table, layer
 
     def replies(self, script: str | bytes) -> bytes:
         return self._owner.replies(script)
 
-    @property
-    def state(self) -> State:
-        return self._owner.state
+    def trees(self) -> Trees:
+        return self._layer.trees()
 
 
-def reader_of(table: Calls, runner: object) -> Calls:
+def reader_of(table: Calls, runner: Runner) -> Calls:
     """What reads a table: the session that runs its scripts, or the calls by scripts if that is a layer."""
-    return runner if isinstance(runner, ScriptSession) else ByScripts(table)
+    return runner if isinstance(runner, ScriptSession) else ByScripts(table, runner)

@@ -7,7 +7,8 @@ from itertools import islice, takewhile
 
 from .advice import advice_for
 from .faults import MEANINGS, WITH_ADVICE, Fault, faults_of_refusal, swallowed_line
-from .language import FORMS, Command, Line, State, counted, visible
+from .language import FORMS, Command, Line, counted, visible
+from .schema import Trees
 
 MOST_FAULTS = 10  # of a command
 
@@ -15,24 +16,24 @@ MOST_FAULTS = 10  # of a command
 class Refusal:
     """A refused command: its number, name and item, and the lines that say why."""
 
-    def __init__(self, command: Command, answer: bytes, state: State, is_all: bool) -> None:
+    def __init__(self, command: Command, answer: bytes, table: Trees, is_all: bool) -> None:
         words = answer.split()
         self.command, self.number = command, int(words[1])
         self.name = " ".join([words[1].decode(), words[2].decode()])
         self.label = " ".join([self.name, *(word.decode() for word in words[3:])])
-        self.swallowed = self.swallowed_line(state)
+        self.swallowed = self.swallowed_line(table)
         self.lines: list[str] = []
         self.first: Fault | None = None
-        self.explain(state, None if is_all else MOST_FAULTS)
+        self.explain(table, None if is_all else MOST_FAULTS)
 
-    def swallowed_line(self, state: State) -> Line | None:
+    def swallowed_line(self, table: Trees) -> Line | None:
         is_load = self.command.head.word == b"load"
         if self.command.closing and (self.number in (1, 2) or (is_load and self.number in (6, 7))):
-            return swallowed_line(self.command, state.table)
+            return swallowed_line(self.command, table)
         return None
 
-    def explain(self, state: State, most: int | None) -> None:
-        faults = iter(faults_of_refusal(self.command, self.number, state))
+    def explain(self, table: Trees, most: int | None) -> None:
+        faults = iter(faults_of_refusal(self.command, self.number, table))
         if self.swallowed:
             # What follows it is wrong only because of it.
             end = self.swallowed.number
@@ -45,30 +46,24 @@ class Refusal:
         if left:
             self.lines.append(f"{counted(left, 'more fault')} {'is' if left == 1 else 'are'} left out; --all prints each")
         if not first and not self.swallowed:
-            self.lines.append(f"{self.label}: {MEANINGS.get(self.number, 'See docs/SCRIPT.md.')}{self.earlier(state)}")
-        self.lines += self.advice(first, state)
+            self.lines.append(f"{self.label}: {MEANINGS.get(self.number, 'See docs/SCRIPT.md.')}")
+        self.lines += self.advice(first, table)
 
     def fault_line(self, fault: Fault) -> str:
         where = fault.where() or (None if self.number in (1, 2) else self.label)
         advice = f". {MEANINGS[self.number]}" if self.number in WITH_ADVICE else ""
         return (f"{where}: " if where else "") + fault.what() + advice
 
-    def earlier(self, state: State) -> str:
-        """The line to which a refusal of a table, or because there is none, goes back."""
-        if self.number == 3 and None in state.refused:
-            return f" That of line {state.refused[None].number} was refused."
-        return f" It is that of line {state.table.line.number}." if self.number == 4 and state.table else ""
-
-    def advice(self, faults: list[Fault], state: State) -> list[str]:
+    def advice(self, faults: list[Fault], table: Trees) -> list[str]:
         """What to write: the form of a command, another command, the expected header of a load, or the closing line of a block."""
         head, closing = self.command.head, (self.command.closing or b"").decode()
         found = []
         if self.number == 1 and head.word in FORMS and any(not fault.where() for fault in faults):
             found.append(f"the form: {FORMS[head.word]}")
-        if advice := advice_for(self.command, self.number, state.table):
+        if advice := advice_for(self.command, self.number, table):
             found.append(advice)
-        if self.number == 5 and head.word == b"load" and state.table:
-            found.append(f"the expected header: {b','.join(state.table.names).decode()}")
+        if self.number == 5 and head.word == b"load" and table:
+            found.append(f"the expected header: {b','.join(table.names).decode()}")
         if self.swallowed:
             found.append(f"The block began in line {head.number}, and line {self.swallowed.number} inside it looks like a command:")
             found += [f"  {visible(self.swallowed.text)}", f"Was the line '{closing}' forgotten before it?"]

@@ -5,8 +5,9 @@ from __future__ import annotations
 from collections.abc import Iterable, Iterator, Sequence
 from typing import Any
 
-from .language import LAST_LINES, NUMBER, Command, State
+from .language import LAST_LINES, NUMBER, Command
 from .rows import Value, rows_of
+from .schema import Trees
 
 # The word of a line that has a row or a group, by the command.
 ROW_WORDS = {b"get": "row ", b"scan": "row ", b"sums": "sum "}
@@ -118,20 +119,14 @@ def _rows(word: bytes, lines: list[str], kinds: Sequence[str]) -> list[tuple[Val
     return [(int(count), int(total), *value) for (count, total, _), value in zip(groups, values)]
 
 
-def kinds_of_rows(state: State, command: Command) -> tuple[str, ...]:
+def kinds_of_rows(trees: Trees, command: Command) -> tuple[str, ...]:
     """The kinds of the columns that the rows of a command's reply have. Empty where the tree is unknown, or the command has another form."""
-    words = command.head.words
-    table, word = state.table, command.head.word
-    if table is None or word not in ROW_WORDS:
-        return ()
+    word, words = command.head.word, command.head.words
     if word == b"get":
-        return tuple(kind.decode() for kind in table.kinds)
-    if len(words) < 2 or not table.has_tree(words[1]):
+        return tuple(trees.tree().kinds)
+    if word not in ROW_WORDS or len(words) < 2 or not trees.has_tree(words[1]):
         return ()
+    tree = trees.by_name[words[1]]
     if word == b"scan":
-        columns = table.columns_of(words[1])
-    elif len(words) > 2 and NUMBER.fullmatch(words[2]):
-        columns = table.key_of(words[1])[: int(words[2])]
-    else:
-        return ()
-    return tuple(kind.decode() for _, kind in columns)
+        return tuple(tree.kinds)
+    return tuple(tree.key_kinds[: int(words[2])]) if len(words) > 2 and NUMBER.fullmatch(words[2]) else ()

@@ -17,54 +17,16 @@ import operator
 import re
 from array import array
 from collections.abc import Callable, Iterable, Iterator, Mapping, Sequence, Set
-from typing import Any, NamedTuple, TypeAlias, TypeVar
+from typing import Any, TypeAlias, TypeVar
 
 from .errors import RowTypeError, RowValueError
-from .language import GREATEST_INT, KINDS, LEAST_INT, PRIMARY, Index, Table, counted, int_of
+from .language import GREATEST_INT, KINDS, LEAST_INT, counted, int_of
+from .schema import TreeColumn
 
 T = TypeVar("T")
 Value = int | str | bool | bytes
 # The values of a column: of one of kind int, or of another.
 ColumnValues: TypeAlias = "array[int] | list[Any]"
-
-
-class Column(NamedTuple):
-    """A column: its name and its kind."""
-
-    name: str
-    kind: str
-
-
-def columns_of(pairs: Iterable[tuple[bytes, bytes]]) -> list[Column]:
-    """Columns, of their names and kinds."""
-    return [Column(name.decode(), kind.decode()) for name, kind in pairs]
-
-
-class Layout:
-    """The columns of a tree: those of its rows, and those of its key. None where the tree is unknown."""
-
-    def __init__(self, columns: list[Column], key: list[Column]) -> None:
-        self.columns, self.key = columns, key
-        # The lines of messages that are alike, which `messages` keeps here.
-        self.forms: dict[tuple[Any, ...], Any] = {}
-        self.names, self.kinds, self.key_kinds = [column.name for column in columns], [column.kind for column in columns], [column.kind for column in key]
-
-
-UNKNOWN = Layout([], [])
-
-
-def layout(table: Table | None, tree: str = "primary") -> Layout:
-    """The columns of a tree, which are kept with it."""
-    if table is None:
-        return UNKNOWN
-    name = tree.encode()
-    owner: Table | Index | None = table if name == PRIMARY else table.indexes.get(name)
-    if owner is None:
-        return UNKNOWN
-    found: Layout | None = owner.__dict__.get("layout")
-    if found is None:
-        found = owner.__dict__["layout"] = Layout(columns_of(table.columns_of(name)), columns_of(table.key_of(name)))
-    return found
 
 
 # What a value of each kind is, as it is said to a user.
@@ -146,7 +108,7 @@ def shown(value: Any) -> str:
     return text if len(text) <= 60 else text[:57] + "..."
 
 
-def type_reason(value: Any, column: Column) -> str:
+def type_reason(value: Any, column: TreeColumn) -> str:
     """Why a column does not take a value of this type, and what to write instead."""
     name = type(value).__name__
     said = f"{shown(value)} is {'None' if value is None else f'of type {name}'}, and a column of kind {column.kind} takes {TYPES[column.kind]}"
@@ -185,17 +147,17 @@ def _advice(value: Any, name: str, kind: str) -> str:
     return ""
 
 
-def field_of(value: Any, column: Column, row: int | None, taken: int = 0) -> str:
+def field_of(value: Any, column: TreeColumn, row: int | None, taken: int = 0) -> str:
     """The field of a value of a column, in quotes where it needs them."""
     return _converted(FIELDS[column.kind], value, column, row, taken)
 
 
-def plain_value(value: Any, column: Column, row: int | None = None, taken: int = 0) -> Value:
+def plain_value(value: Any, column: TreeColumn, row: int | None = None, taken: int = 0) -> Value:
     """A value of a column as one of exactly the type of its kind."""
     return _converted(PLAIN[column.kind], value, column, row, taken)
 
 
-def _converted(convert: Callable[[Any], T], value: Any, column: Column, row: int | None, taken: int) -> T:
+def _converted(convert: Callable[[Any], T], value: Any, column: TreeColumn, row: int | None, taken: int) -> T:
     try:
         return convert(value)
     except TypeError:
@@ -206,7 +168,7 @@ def _converted(convert: Callable[[Any], T], value: Any, column: Column, row: int
         raise RowValueError(f"{shown(value)}: {fault}", row=row, column=column.name, value=value, taken=taken) from None
 
 
-def _fields_of(values: Sequence[Any], column: Column, row: int, taken: int) -> Sequence[Any]:
+def _fields_of(values: Sequence[Any], column: TreeColumn, row: int, taken: int) -> Sequence[Any]:
     """The fields of the values of one column, of rows whose first one has this number in the call."""
     types = set(map(type, values))
     if types == {int} and column.kind == "int":
@@ -229,7 +191,7 @@ def as_iterator(given: Any, what: str, instead: str) -> Iterator[Any]:
     raise TypeError(f"{what} are an iterable, as a list, and not {shown(given)} of type {type(given).__name__}: write {instead}")
 
 
-def as_tuple(row: Any, columns: Sequence[Column], number: int, taken: int) -> Sequence[Any]:
+def as_tuple(row: Any, columns: Sequence[TreeColumn], number: int, taken: int) -> Sequence[Any]:
     """A row by its columns: a tuple or a list as it is, and a dict by their names."""
     names = [column.name for column in columns]
     if isinstance(row, Mapping):
@@ -249,7 +211,7 @@ def as_tuple(row: Any, columns: Sequence[Column], number: int, taken: int) -> Se
     return row
 
 
-def _tuples(rows: list[Any], columns: Sequence[Column], row: int, taken: int) -> list[Any]:
+def _tuples(rows: list[Any], columns: Sequence[TreeColumn], row: int, taken: int) -> list[Any]:
     """Rows as tuples and lists, of which the first one has this number in the call."""
     if set(map(type, rows)) <= {tuple, list} and set(map(len, rows)) <= {len(columns)}:
         return rows
@@ -276,7 +238,7 @@ def names_fault(given: Mapping[Any, Any], names: list[str]) -> str | None:
 # ---- rows by columns ----
 
 
-def values_by_column(given: Mapping[Any, Any], columns: Sequence[Column]) -> tuple[list[Any], int]:
+def values_by_column(given: Mapping[Any, Any], columns: Sequence[TreeColumn]) -> tuple[list[Any], int]:
     """The values of each column of rows, in the order of the columns, and the number of rows."""
     names = [column.name for column in columns]
     if reason := names_fault(given, names):
@@ -303,7 +265,7 @@ def _column_values(given: Any, name: str) -> Any:
     raise RowTypeError(f"{said}: write {{'{name}': [..], ..}}, or [{{'{name}': ..}}] for rows", column=name, value=given)
 
 
-def changes_by_column(given: Sequence[tuple[Column, Any]]) -> tuple[list[Any], int]:
+def changes_by_column(given: Sequence[tuple[TreeColumn, Any]]) -> tuple[list[Any], int]:
     """The values of each column of changes, and the number of changes. A column has values for all of them, or one value for each."""
     found: list[Any] = []
     counts: list[tuple[int, str]] = []
@@ -319,7 +281,7 @@ def changes_by_column(given: Sequence[tuple[Column, Any]]) -> tuple[list[Any], i
     return found, counts[0][0] if counts else 1
 
 
-def _is_sequence(given: Any, column: Column) -> bool:
+def _is_sequence(given: Any, column: TreeColumn) -> bool:
     """Whether this has the values of a column, and is not one value."""
     if hasattr(given, "to_numpy") and not isinstance(given, type):
         return True
@@ -362,7 +324,7 @@ def rows_of_columns(columns: list[Any], count: int) -> list[tuple[Any, ...]]:
     return list(zip(*[values if type(values) is list else values.tolist() if hasattr(values, "tolist") else [values] * count for values in columns]))
 
 
-def plain_rows(rows: list[Any], columns: Sequence[Column], taken: int) -> list[tuple[Value, ...]]:
+def plain_rows(rows: list[Any], columns: Sequence[TreeColumn], taken: int) -> list[tuple[Value, ...]]:
     """Rows whose values have exactly the types of their kinds. So many rows of the call were before them."""
     rows = _tuples(rows, columns, taken + 1, taken)
     found = []
@@ -380,7 +342,7 @@ def columns_of_rows(rows: list[tuple[Value, ...]], kinds: Sequence[str]) -> list
     return [array("q", values) if kind == "int" else list(values) for kind, values in zip(kinds, columns)]
 
 
-def records(rows: list[Any], columns: Sequence[Column], word: str = "", row: int = 1, taken: int = 0, *, is_load: bool = False) -> str:
+def records(rows: list[Any], columns: Sequence[TreeColumn], word: str = "", row: int = 1, taken: int = 0, *, is_load: bool = False) -> str:
     """Lines with the records of rows, each after a word. `row` is the number of the first one in the call. Only a load takes texts with line breaks."""
     rows = _tuples(rows, columns, row, taken)
     if len(rows) < FEW_ROWS and not is_load:
@@ -415,19 +377,19 @@ def line_fault(value: Any, field: Any, is_load: bool = False) -> str | None:
     return None
 
 
-def key_fields(values: Any, columns: Sequence[Column], what: str, *, row: int | None = None, taken: int = 0, is_prefix: bool = False) -> list[str]:
+def key_fields(values: Any, columns: Sequence[TreeColumn], what: str, *, row: int | None = None, taken: int = 0, is_prefix: bool = False) -> list[str]:
     """The fields of a key, or of the first values of one."""
     check_key(values, columns, what, row=row, taken=taken, is_prefix=is_prefix)
     return [line_field(value, column, row, taken) for value, column in zip(values, columns)]
 
 
-def plain_key(values: Any, columns: Sequence[Column], what: str, *, row: int | None = None, taken: int = 0, is_prefix: bool = False) -> tuple[Value, ...]:
+def plain_key(values: Any, columns: Sequence[TreeColumn], what: str, *, row: int | None = None, taken: int = 0, is_prefix: bool = False) -> tuple[Value, ...]:
     """The values of a key, or of the first values of one, each of exactly the type of its kind."""
     check_key(values, columns, what, row=row, taken=taken, is_prefix=is_prefix)
     return tuple([plain_value(value, column, row, taken) for value, column in zip(values, columns)])
 
 
-def check_key(values: Any, columns: Sequence[Column], what: str, *, row: int | None = None, taken: int = 0, is_prefix: bool = False) -> None:
+def check_key(values: Any, columns: Sequence[TreeColumn], what: str, *, row: int | None = None, taken: int = 0, is_prefix: bool = False) -> None:
     """That a key, or the first values of one, is a tuple with as many values as it can have."""
     if not isinstance(values, (tuple, list)):
         reason = f"{what} is a tuple, and not {shown(values)} of type {type(values).__name__}: write ({shown(values)},)"
@@ -439,7 +401,7 @@ def check_key(values: Any, columns: Sequence[Column], what: str, *, row: int | N
         raise RowValueError(reason, row=row, value=values, taken=taken)
 
 
-def line_field(value: Any, column: Column, row: int | None, taken: int = 0) -> str:
+def line_field(value: Any, column: TreeColumn, row: int | None, taken: int = 0) -> str:
     """The field of a value of a column, for a line of a script."""
     if type(value) is str and column.kind == "text" and PLAIN_TEXT.fullmatch(value):
         return value
@@ -454,7 +416,7 @@ def line_field(value: Any, column: Column, row: int | None, taken: int = 0) -> s
 # ---- records as rows ----
 
 
-def value_of_field(field: str, column: Column) -> Value:
+def value_of_field(field: str, column: TreeColumn) -> Value:
     """The value of a field of a column. A ValueError says why it is none."""
     kind, given = KINDS[column.kind.encode()], field.encode()
     if reason := kind.fault(given):

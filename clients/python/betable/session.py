@@ -9,27 +9,26 @@ from __future__ import annotations
 
 import ctypes
 import os
+import re
 import threading
 import warnings
 from collections.abc import Callable, Iterator
 from functools import cache
-from itertools import islice
 from pathlib import Path
 from types import TracebackType
-from typing import TYPE_CHECKING, Any
+from typing import TYPE_CHECKING, Any, NoReturn
 
-from . import language
 from .batches import Batch, first_too_long, operations_of, without_breaks
 from .calls import (
-    Bound, Calls, Range, Read, Row, as_script, by_names, check_one_by_one, checked_group, checked_limit, checked_name, checked_page, checked_summed, note,
-    note_unanswered,
+    Bound, Calls, Range, Read, Row, as_script, by_names, check_one_by_one, checked_group, checked_limit, checked_name, checked_page, checked_summed,
 )  # fmt: skip
 from .errors import OutOfMemory
-from .language import PRIMARY, State, Table, counted
+from .language import DEFINING, counted
 from .messages import Message, Shape
-from .packed import BAD_FIELD, TreeColumn, Usage, columns_of_reply, description, name_bytes, refusal_reply, usage_of_reply
-from .replies import Place, answered
-from .rows import UNKNOWN, ColumnValues, layout, plain_key
+from .packed import BAD_FIELD, HEADER_OF_NONE, Usage, columns_of_reply, description, name_bytes, refusal_reply, trees_of_reply, usage_of_reply
+from .replies import Place
+from .rows import ColumnValues, plain_key
+from .schema import UNKNOWN, Tree, TreeColumn, Trees
 
 if TYPE_CHECKING:
     from . import _packed
@@ -47,6 +46,9 @@ SHORT_REPLIES = 4_096
 LIBRARY = "libbt_c.so"
 # The path in the Debian package.
 SYSTEM_FOLDER = Path("/usr/lib/betable")
+# A line that may begin a command after which the library describes other trees.
+DEFINING_LINE = re.compile(rb"^ *(?:%b) " % b"|".join(DEFINING), re.MULTILINE)
+DROPPED = re.compile(rb"^ *drop +([a-z0-9_]+)", re.MULTILINE)
 
 
 class _Handle(ctypes.Structure):
@@ -89,6 +91,7 @@ def _loaded_library() -> ctypes.CDLL:
         ("betable_apply", of_packed, ctypes.c_uint),
         ("betable_columns", of_packed, ctypes.c_uint),
         ("betable_usage", of_packed, ctypes.c_uint),
+        ("betable_trees", of_packed, ctypes.c_uint),
         ("betable_replies_length", [handle], size),
         ("betable_copy_replies", [handle, size, ctypes.c_char_p, size], size),
         ("betable_reply_count", [handle], size),
@@ -114,7 +117,9 @@ class ScriptSession(Calls):
         self._handle, self._fault, self._place = _Handle(), _Fault(), _ReplyPlace()
         # While the lock is taken, the handle is the library's alone.
         self._lock, self._is_open = self._made_lock(), False
-        self._state = State()
+        # The trees, or None if they may have changed since the library described them, and those of the description before that are still there.
+        self._trees: Trees | None = Trees()
+        self._earlier: list[Tree] = []
         self._room = ctypes.create_string_buffer(SHORT_REPLIES)
         _library = _library or _loaded_library()
         self._library = _library
@@ -138,11 +143,13 @@ class ScriptSession(Calls):
     def __repr__(self) -> str:
         if not self._is_open:
             return "<betable.Session, closed>"
-        table = self._state.table
-        if table is None:
+        if self._lock.locked():
+            return "<betable.Session, open, in a call>"
+        trees = self.trees()
+        if not trees:
             return "<betable.Session, open, without a table>"
-        trees = [f"{name.decode()} ({'complete' if index.is_complete else 'building'})" for name, index in table.indexes.items()]
-        return f"<betable.Session, open, {counted(len(table.columns), 'column')}{', indexes: ' + ', '.join(trees) if trees else ''}>"
+        indexes = [f"{tree.name} ({'complete' if tree.is_complete else 'building'})" for tree in trees[1:]]
+        return f"<betable.Session, open, {counted(len(trees.columns), 'column')}{', indexes: ' + ', '.join(indexes) if indexes else ''}>"
 
     def _made_lock(self) -> Any:
         return threading.Lock()
@@ -158,11 +165,25 @@ class ScriptSession(Calls):
             raise ValueError("the session is closed")
         return self._handle
 
-    @property
-    def state(self) -> State:
-        if not self._is_open:
-            raise ValueError("the session is closed")
-        return self._state
+    def trees(self) -> Trees:
+        """The trees of the table: that of its rows, and then its indexes in the order in which they were made. There are none before the table is made, and
+        after it was lost."""
+        handle, trees = self._open_handle(), self._trees
+        if trees is not None:
+            return trees
+        with self._calls():
+            status = self._library.betable_trees(handle, HEADER_OF_NONE, len(HEADER_OF_NONE), self._fault)
+            if status != OUT_OF_MEMORY:
+                earlier = {tree: tree for tree in self._earlier}
+                trees = Trees([earlier.get(tree, tree) for tree in trees_of_reply(self._copied())] if status == DONE else [])
+                self._take_trees(trees)
+        if trees is None:
+            self._raise_out_of_memory()
+        return trees
+
+    def _take_trees(self, trees: Trees | None) -> None:
+        """Takes the trees, or that they are to be asked for."""
+        self._trees = trees
 
     def close(self) -> None:
         """Drops the table. A session that is closed stays closed."""
@@ -192,17 +213,20 @@ class ScriptSession(Calls):
     def _ran(self, script: bytes, with_places: bool) -> tuple[bytes, list[Place] | None]:
         """The bytes of the replies to a script, and their places if they are wanted."""
         library, places, is_lost = self._library, None, False
-        defines = b"table" in script or b"index" in script or b"build" in script or b"drop" in script
+        defines = any(word in script for word in DEFINING) and DEFINING_LINE.search(script) is not None
         with self._calls():
             handle = self._open_handle()
             status = library.betable_run(handle, script, len(script))
             replies = self._copied()
             if status != DONE:
                 is_lost = library.betable_is_lost(handle)
-            elif with_places or defines:
+            elif with_places:
                 places = self._places()
             if defines:
-                self._note(script, replies, places)
+                # A tree that is made again is another one, even if it has the same columns.
+                dropped = DROPPED.findall(script)
+                self._earlier = [tree for tree in self._trees or self._earlier if tree.name.encode() not in dropped]
+                self._take_trees(None)
         if status != DONE:
             raise OutOfMemory(replies, status == REPLY_CUT, is_lost)
         return replies, places
@@ -225,16 +249,6 @@ class ScriptSession(Calls):
             room = ctypes.create_string_buffer(length)
             count = library.betable_copy_replies(handle, 0, room, length)
         return ctypes.string_at(room, count)
-
-    def _note(self, script: bytes, replies: bytes, places: list[Place] | None) -> None:
-        """Takes what a script defines into the state. Without places memory ran out."""
-        count = 0
-        for command, reply, _ in answered(language.commands(script), replies, places):
-            note(self._state, command, reply)
-            count += 1
-        if places is None:
-            for command in islice(language.commands(script), count, count + 1):
-                note_unanswered(self._state, command)
 
     @property
     def is_lost(self) -> bool:
@@ -274,7 +288,7 @@ class ScriptSession(Calls):
             self._refuse_tree(name)
         return reply
 
-    def _raise_out_of_memory(self) -> None:
+    def _raise_out_of_memory(self) -> NoReturn:
         raise OutOfMemory(b"", False, self.is_lost)
 
 
@@ -294,7 +308,7 @@ class CheckedCalls(ScriptSession):
 
     def get(self, *key: Any) -> Row | None:
         """The row of a key, or None."""
-        there = layout(self.state.table)
+        there = self.trees().tree()
         if there is not UNKNOWN and len(key) == len(there.key):
             check_one_by_one(key)
             values = plain_key(key, there.key, "a key")
@@ -332,12 +346,12 @@ class CheckedCalls(ScriptSession):
         columns = self._columns_between(found.name, found.start, found.stop, most, None)
         return super().scan_columns(tree, start, stop, limit) if columns is None else by_names(found.there, columns)
 
-    def _packed(self, batch: Batch, table: Table, taken: int) -> bytes | None:
-        packed = batch.packed(self) or batch.plain(table, taken).packed(self)
+    def _packed(self, batch: Batch, there: Tree, taken: int) -> bytes | None:
+        packed = batch.packed(self) or batch.plain(there, taken).packed(self)
         if packed is None:
             # A value is too long, or none that UTF-8 or 64 bits have. In a line it has the same fault.
-            written = without_breaks(batch, table, taken)
-            script = f"batch\n{written.lines(table, taken)}end\n".encode()
+            written = without_breaks(batch, there, taken)
+            script = f"batch\n{written.lines(there, taken)}end\n".encode()
             if item := first_too_long(written):
                 self._refuse_if_refused(script, refusal_reply(BAD_FIELD, item), taken, batch)
         return packed
@@ -349,7 +363,7 @@ class CheckedCalls(ScriptSession):
 
     def _next_page(self, before: CheckedCalls, found: Range, most: int) -> tuple[Range, list[Row]]:
         """The range with its next page. The pages before were read by this session, or by one of the same table that this one has taken the place of."""
-        there = layout(self.state.table, found.name)
+        there = self.trees().tree(found.name)
         is_same = there is found.there or (self is not before and (there.columns, there.key) == (found.there.columns, found.there.key))
         if not is_same:
             raise RuntimeError(f"the tree '{found.name}' was dropped, or made again, while its rows were read")
@@ -395,15 +409,13 @@ if TYPE_CHECKING or _packed is not None:
         def _made_lock(self) -> Any:
             return _packed.Lock()
 
-        def _note(self, script: bytes, replies: bytes, places: list[Place] | None) -> None:
-            super()._note(script, replies, places)
-            table = self._state.table
-            names = [] if table is None else [name.decode() for name in (PRIMARY, *table.indexes)]
-            self._know({name: description(name, layout(table, name)) for name in names})
+        def _take_trees(self, trees: Trees | None) -> None:
+            super()._take_trees(trees)
+            self._know({tree.name: description(tree) for tree in trees or ()})
 
         def _plan(self, shape: Shape) -> bytes | None:
             """The operations of the upserts of a shape, each its code and the place of its column, or None if they are not packed."""
-            return operations_of(shape, layout(self._state.table))
+            return operations_of(shape, self.trees().tree())
 
 else:
 

@@ -123,13 +123,14 @@ def images_of(text):
         before = ""
 
 
-def image_of_reply(reply, tree, table):
+def image_of_reply(reply, tree):
     """The image that the text of a reply prints. Its keys are shown as their values if the columns of the tree are known."""
-    key_columns = None
-    if table is not None and table.has_tree(tree.encode()):
-        names, kinds = zip(*table.key_of(tree.encode()))
-        key_columns = KeyColumns([kind.decode() for kind in kinds], [name.decode() for name in names])
-    return image_of(logical_lines(reply), 1, "", key_columns)
+    return image_of(logical_lines(reply), 1, "", key_columns_of(tree))
+
+
+def key_columns_of(tree):
+    """The columns of the key of a tree, or None where the tree is unknown."""
+    return KeyColumns(tree.key_kinds, tree.names[: len(tree.key)]) if tree.key else None
 
 
 def image_of(lines, number, before="", key_columns=None):

@@ -27,12 +27,13 @@ from functools import partial
 from typing import Any, Literal, NamedTuple, TypeVar
 
 from ..batches import Batch
-from ..calls import as_script, note
-from ..durable.table import CHANGING_LINE, DEFINED, ENGINE, REFUSED, IndexBuilding, RequestReused, Runner, _records, applied
-from ..language import PRIMARY, State, Table, commands
+from ..calls import as_script
+from ..durable.table import CHANGING_LINE, DEFINED, ENGINE, REFUSED, IndexBuilding, RequestReused, _records, applied
+from ..language import Definitions, commands
 from ..packed import MAGIC
-from ..reads import Reads, reader_of
+from ..reads import Reads, Runner, reader_of
 from ..replies import answered
+from ..schema import Tree, Trees
 from ..session import Session
 from .logs import ANOTHER_CHECKPOINT, LONGEST_WAIT, Checkpoint, Entry, Log, Unreachable, UnusableLog, check_request_id, log_of
 
@@ -127,7 +128,7 @@ class Replicas(Reads):
             raise ValueError(f"reads are 'latest' or 'local', and not {reads!r}")
         self._are_reads_local, self._patience, self._make, self._name = reads == "local", patience, make, name
         self._runner: Runner | None = None
-        self._state, self._position, self._chain, self._outcomes = State(), 0, b"", Outcomes()
+        self._definitions, self._position, self._chain, self._outcomes = Definitions(), 0, b"", Outcomes()
         self._divergence: Diverged | None = None
         self._is_closed = False
         self._log: Log = url if not isinstance(url, str) else log_of(url, name, patience)
@@ -143,11 +144,6 @@ class Replicas(Reads):
 
     def __exit__(self, *_: object) -> None:
         self.close()
-
-    @property
-    def state(self) -> State:
-        self._see()
-        return self._state
 
     @property
     def is_lost(self) -> bool:
@@ -205,8 +201,8 @@ class Replicas(Reads):
             raise ReplyForgotten(request_id)
         return replies
 
-    def _packed(self, batch: Batch, table: Table, taken: int) -> bytes | None:
-        return reader_of(self, self._ready())._packed(batch, table, taken)
+    def _packed(self, batch: Batch, there: Tree, taken: int) -> bytes | None:
+        return reader_of(self, self._ready())._packed(batch, there, taken)
 
     def _apply_packed(self, changes: bytes) -> bytes:
         return self.once(uuid.uuid4().hex, PackedChanges(changes))
@@ -253,14 +249,14 @@ class Replicas(Reads):
         self.catch_up()
         while True:
             trees = self._trees()
-            position = self._run_by_log(uuid.uuid4().hex, b"".join(b"rebuild %b\n" % name for name in trees))
+            position = self._run_by_log(uuid.uuid4().hex, b"".join(b"rebuild %b\n" % name for name in trees.by_name))
             # Another replica may have changed the indexes before it, or have written a checkpoint after it that this one has begun with.
-            if trees == self._trees() and self._position == position and (table := self._state.table):
+            if trees == self._trees() and self._position == position:
                 break
-        lines = [table.line.text] + [line for name, index in table.indexes.items() for line in (index.line.text, b"build %b 1" % name)]
+        lines = self._definitions.lines()
         rows = self._kept(lambda runner: runner.replies(b"scan primary\ngo\n"))
         about = json.dumps({"outcomes": self._outcomes.found}).encode()
-        text = b"\n".join([about, *lines, b"load", b",".join(table.names), b""]) + _records(rows) + b".\n"
+        text = b"\n".join([about, *lines, b"load", b",".join(trees.names), b""]) + _records(rows) + b".\n"
         if not self._reached(lambda: self._log.keep(Checkpoint(self._position, self._chain, text))):
             raise self._diverged(self._position, OTHER_PAST)
         return self._position
@@ -269,14 +265,14 @@ class Replicas(Reads):
         """Removes the scripts before the last checkpoint from the log. A replica that has not run them begins with the checkpoint again."""
         self._reached(self._log.trim)
 
-    def _trees(self) -> list[bytes]:
-        """The names of all trees, whose indexes are complete."""
-        if self._state.table is None:
+    def _trees(self) -> Trees:
+        """All trees, which are complete."""
+        trees = self._kept(lambda runner: runner.trees())
+        if not trees:
             raise ValueError("a checkpoint is of a table, and there is none so far")
-        indexes = self._state.table.indexes
-        if building := [name.decode() for name, index in indexes.items() if not index.is_complete]:
+        if building := [tree.name for tree in trees if not tree.is_complete]:
             raise IndexBuilding(building)
-        return [PRIMARY, *indexes]
+        return trees
 
     # ---- the replica ----
 
@@ -329,7 +325,7 @@ class Replicas(Reads):
     def _begin(self, checkpoint: Checkpoint | None) -> None:
         """Begins with a checkpoint, or without one."""
         self._drop()
-        self._state, self._position, self._chain, self._outcomes = State(), 0, b"", Outcomes()
+        self._definitions, self._position, self._chain, self._outcomes = Definitions(), 0, b"", Outcomes()
         self._runner = self._make()
         if checkpoint:
             try:
@@ -397,15 +393,16 @@ class Replicas(Reads):
             raise
 
     def _outcome(self, script: bytes) -> Outcome:
-        replies = applied(self._ready(), script, self._state) if script.startswith(MAGIC) else self._ready().replies(script)
+        replies = applied(self._ready(), script) if script.startswith(MAGIC) else self._ready().replies(script)
         self._note(script, replies)
         return Outcome(zlib.crc32(script), replies.decode())
 
     def _note(self, script: bytes, replies: bytes) -> None:
-        """Takes what a script defines into the state."""
+        """Takes what a script defines."""
         if DEFINED.search(replies):
-            for command, reply, _ in answered(commands(script), replies):
-                note(self._state, command, reply)
+            for command, _, is_refused in answered(commands(script), replies):
+                if not is_refused:
+                    self._definitions.take(command)
 
 
 def _script_of(entry: bytes) -> bytes:

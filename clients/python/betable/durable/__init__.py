@@ -3,7 +3,7 @@
     from betable import durable
 
     with durable.open("stock.table") as table:
-        if table.state.table is None:                           # a new file has no table yet
+        if not table.trees():                                   # a new file has no table yet
             table.table("id:int city:text qty:int")
         table.put([(1, "Oslo", 30), (2, "Bergen", 20)])         # on disk when the call returns
         with table.group():                                     # all of these calls, or none

@@ -29,15 +29,15 @@ from collections.abc import Callable, Iterable, Iterator
 from contextlib import AbstractContextManager, closing, contextmanager, nullcontext, suppress
 from hashlib import sha256
 from io import FileIO
-from typing import Any, NoReturn, Protocol, TypeVar
+from typing import Any, NoReturn, TypeVar
 
 from ..batches import Batch, script_of_changes
-from ..calls import Calls, Row, as_script, note
+from ..calls import Calls, Row, as_script
 from ..errors import before
-from ..language import CHANGING, DEFINING, PRIMARY, State, Table, commands
-from ..reads import Reads, reader_of
+from ..language import CHANGING, DEFINING, Definitions, commands
+from ..reads import Reads, Runner as Runner, reader_of
 from ..replies import Place, answered
-from ..rows import layout
+from ..schema import Tree
 from ..session import ScriptSession, Session
 from .file_lock import lock
 from .wal import FIRST_GENERATION, FOREIGN, SYNCED, UNSYNCED, fault_of_log, mark_of, new_mark, renew_mark
@@ -83,16 +83,6 @@ UPGRADES = {
 }
 # The page of `about` is written in the first transaction of each generation of SQLite's log, and over a transaction that failed.
 TOUCH = "UPDATE about SET generation = generation + 1, engine = ?"
-
-
-class Runner(Protocol):
-    """What runs the scripts of a durable table: a session, or a layer over sessions."""
-
-    def replies(self, script: bytes) -> bytes:
-        ...
-
-    def close(self) -> None:
-        ...
 
 
 class NotATable(Exception):
@@ -203,7 +193,7 @@ class Durable(Reads):
         self._is_settled = self._is_marked = False
         self._log_pages = 0
         self._request_bytes: int | None = None  # of the stored replies, once they are counted
-        self._state = State()
+        self._definitions = Definitions()
         self._file = self._locked()
         try:
             self._db = self._connection()
@@ -339,7 +329,7 @@ class Durable(Reads):
         return self._session
 
     def _replay(self, session: Runner) -> None:
-        self._state = State()
+        self._definitions = Definitions()
         about: tuple[int, int, int | None] = self._db.execute("SELECT engine, number, checksum FROM about").fetchone() or (ENGINE, 0, None)
         engine, self._number, checksum = about
         parts = [part for (part,) in self._db.execute("SELECT text FROM checkpoint ORDER BY part")]
@@ -365,7 +355,7 @@ class Durable(Reads):
                     raise Corrupt(self.path, self._number + 1, "it is missing, so restore a backup")
                 if not isinstance(script, bytes):
                     raise Corrupt(self.path, number, "it is not the script that was kept, so restore a backup")
-                replies, places = (applied(session, script, self._state), None) if is_packed else _ran(session, script)
+                replies, places = (applied(session, script), None) if is_packed else _ran(session, script)
                 if _checksum(script, replies) != checksum:
                     raise Corrupt(self.path, number, _advice(engine))
                 self._note(script, replies, places)
@@ -374,8 +364,9 @@ class Durable(Reads):
     def _note(self, script: bytes, replies: bytes, places: list[Place] | None) -> None:
         """Notes what a script has defined."""
         if DEFINED.search(replies):
-            for command, reply, _ in answered(commands(script), replies, places):
-                note(self._state, command, reply)
+            for command, _, is_refused in answered(commands(script), replies, places):
+                if not is_refused:
+                    self._definitions.take(command)
 
     # ---- scripts ----
 
@@ -480,23 +471,23 @@ class Durable(Reads):
         if len(script) > self._most_bytes and CHANGING_LINE.search(script):
             raise ScriptTooLong(len(script), self._most_bytes)
 
-    def _packed(self, batch: Batch, table: Table, taken: int) -> bytes | None:
+    def _packed(self, batch: Batch, there: Tree, taken: int) -> bytes | None:
         self._ready()
         assert self._reader
-        packed = self._reader._packed(batch, table, taken)
+        packed = self._reader._packed(batch, there, taken)
         return None if packed is None or len(packed) > self._most_bytes else packed
 
     def _apply_packed(self, changes: bytes) -> bytes:
         with self._some_group(), self._all_or_nothing():
-            refusal = applied(self._ready(), changes, self._state)
+            refusal = applied(self._ready(), changes)
             if not refusal:
                 self._keep(changes, b"", is_packed=True)
             return refusal
 
-    def _apply_after(self, batch: Batch, table: Table, taken: int) -> None:
+    def _apply_after(self, batch: Batch, there: Tree, taken: int) -> None:
         """Each batch is kept by itself, unless a group is open: RolledBack says how many rows were kept before one that failed."""
         try:
-            super()._apply_after(batch, table, taken)
+            super()._apply_after(batch, there, taken)
         except RolledBack as fault:
             fault.taken = 0 if self._is_in_group else taken
             raise
@@ -609,18 +600,16 @@ class Durable(Reads):
     def checkpoint(self) -> None:
         """Rebuilds all trees, and puts the rows in place of the log. Request ids stay."""
         self._check_outside("a checkpoint")
-        table = self._state.table
-        if table is None:
+        trees = self.trees()
+        if not trees:
             return
-        if building := [name.decode() for name, index in table.indexes.items() if not index.is_complete]:
+        if building := [tree.name for tree in trees if not tree.is_complete]:
             raise IndexBuilding(building)
         with self.group(), self._all_or_nothing():
             session = self._ready()
             self._is_changed = True
-            session.replies(b"".join(b"rebuild %b\n" % name for name in (PRIMARY, *table.indexes)))
-            lines = [table.line.text] + [line for name, index in table.indexes.items() for line in (index.line.text, b"build %b 1" % name)]
-            lines += [b"load", b",".join(table.names)]
-            text = b"\n".join([*lines, _records(session.replies(b"scan primary\ngo\n")) + b".\n"])
+            session.replies(b"".join(b"rebuild %b\n" % name for name in trees.by_name))
+            text = b"\n".join([*self._definitions.lines(), b"load", b",".join(trees.names), _records(session.replies(b"scan primary\ngo\n")) + b".\n"])
             self._write("DELETE FROM checkpoint")
             for at in range(0, len(text), PART_BYTES):
                 self._write("INSERT INTO checkpoint(text) VALUES(?)", text[at : at + PART_BYTES])
@@ -664,9 +653,10 @@ class Durable(Reads):
         return False
 
     @property
-    def state(self) -> State:
+    def definitions(self) -> Definitions:
+        """The lines that made the table and its indexes."""
         self._ready()
-        return self._state
+        return self._definitions
 
     @property
     def number(self) -> int:
@@ -789,11 +779,11 @@ def _ran(runner: Runner, script: bytes) -> tuple[bytes, list[Place] | None]:
     return runner._replies_with_places(script) if isinstance(runner, Calls) else (runner.replies(script), None)
 
 
-def applied(runner: Runner, changes: bytes, state: State) -> bytes:
+def applied(runner: Runner, changes: bytes) -> bytes:
     """No bytes if packed changes were applied, or their refusal. A layer over sessions runs them as a script."""
     if isinstance(runner, ScriptSession):
         return runner._apply_packed(changes)
-    reply = runner.replies(script_of_changes(changes, layout(state.table)))
+    reply = runner.replies(script_of_changes(changes, runner.trees().tree()))
     return reply if reply.startswith(b"refused ") else b""
 
 

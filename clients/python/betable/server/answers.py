@@ -10,12 +10,13 @@ from collections.abc import Iterator
 from itertools import islice
 from typing import Any
 
-from ..calls import copied, note, refusal
+from ..calls import refusal
 from ..figures import picture
-from ..language import CHANGING, PRIMARY, Command, State, commands, counted
+from ..language import CHANGING, Command, commands, counted
 from ..packed import Usage
 from ..replies import BLOCK_BYTES, answered, line_blocks, whole_lines
 from ..rows import rows_of
+from ..schema import Trees, trees_after
 from ..trees import image_of_reply
 from .engine import Answer
 from .bodies import Batch
@@ -42,18 +43,18 @@ def refused_count(script: bytes, replies: bytes) -> int:
 _json_text = json.JSONEncoder(ensure_ascii=False).encode
 
 
-def json_replies(script: bytes, answer: Answer, state: State, refused: int) -> Iterator[bytes]:
+def json_replies(script: bytes, answer: Answer, trees: Trees, refused: int) -> Iterator[bytes]:
     """Each reply with its command as JSON, in parts: the lines of the reply, or the refusal. The first refusals have their reasons."""
-    return _in_blocks(_json_replies(script, answer, state, refused))
+    return _in_blocks(_json_replies(script, answer, trees, refused))
 
 
-def _json_replies(script: bytes, answer: Answer, state: State, refused: int) -> Iterator[str]:
-    state, explained, separator = copied(state), 0, ""
+def _json_replies(script: bytes, answer: Answer, trees: Trees, refused: int) -> Iterator[str]:
+    explained, separator = 0, ""
     yield f'{{"refused": {refused}, "explained": {min(refused, MOST_EXPLAINED)}, "number": {answer.number}, "replies": ['
     for command, reply, is_refused in answered(commands(script), answer.replies):
         said: dict[str, Any] = {"line": command.head.number, "command": command.head.word.decode(errors="replace")}
         if is_refused:
-            said["refused"] = _explained(command, reply, state) if explained < MOST_EXPLAINED else _unexplained(command, reply)
+            said["refused"] = _explained(command, reply, trees) if explained < MOST_EXPLAINED else _unexplained(command, reply)
             explained += 1
             yield separator + _json_text(said)
         else:
@@ -64,12 +65,12 @@ def _json_replies(script: bytes, answer: Answer, state: State, refused: int) -> 
                 comma = ", "
             yield "]}"
         separator = ",\n"
-        note(state, command, reply[: reply.find(b"\n") + 1])
+        trees = trees_after(trees, command, reply)
     yield "]}\n"
 
 
-def _explained(command: Command, reply: bytes, state: State) -> dict[str, Any]:
-    fault = refusal(command, reply, state, [])
+def _explained(command: Command, reply: bytes, trees: Trees) -> dict[str, Any]:
+    fault = refusal(command, reply, trees, [])
     return {**refusal_fields(fault), "line": line_at_fault(command, fault.item), "reason": fault.reason}
 
 
@@ -102,10 +103,10 @@ def _in_blocks(texts: Iterator[str]) -> Iterator[bytes]:
     yield "".join(block).encode("utf-8", "replace")
 
 
-def refusal_of_batch(batch: Batch, replies: bytes, state: State) -> Problem:
+def refusal_of_batch(batch: Batch, replies: bytes, trees: Trees) -> Problem:
     """The problem of a batch that was refused, with the place in the body."""
     command = next(commands(batch.script))
-    fault = refusal(command, replies, state, [])
+    fault = refusal(command, replies, trees, [])
     problem = problem_of(fault)
     if fault.item is not None:
         problem.fields[batch.unit] = line_at_fault(command, fault.item) - 1 if batch.places is None else batch.places[fault.item - 1]
@@ -121,15 +122,14 @@ def line_at_fault(command: Command, item: int | None) -> int:
     return command.head.number
 
 
-def first_reason(script: bytes, replies: bytes, state: State) -> str:
+def first_reason(script: bytes, replies: bytes, trees: Trees) -> str:
     """The line and the reason of the first command of a script that was refused, in letters that a header may have."""
-    state = copied(state)
     for command, reply, is_refused in answered(commands(script), replies):
         if is_refused:
-            fault = refusal(command, reply, state, [])
+            fault = refusal(command, reply, trees, [])
             reason = " ".join(f"line {line_at_fault(command, fault.item)}: {fault.reason}".split())
             return reason.encode("ascii", "backslashreplace").decode()[:MOST_REASON]
-        note(state, command, reply[: reply.find(b"\n") + 1])
+        trees = trees_after(trees, command, reply)
     return ""
 
 
@@ -212,25 +212,17 @@ class JsonRows(RowsAnswer):
         return b"]}\n"
 
 
-def trees_of(state: State) -> dict[str, Any]:
+def trees_of(trees: Trees) -> dict[str, Any]:
     """The table as JSON: its columns, and its trees with the columns of their rows and of their keys."""
-    table = state.table
-    if table is None:
-        return {"columns": [], "key": [], "trees": {}}
-
-    def names(columns: list[tuple[bytes, bytes]]) -> list[str]:
-        return [name.decode() for name, _ in columns]
-
-    trees = {}
-    for name in (PRIMARY, *table.indexes):
-        is_complete = name == PRIMARY or table.indexes[name].is_complete
-        trees[name.decode()] = {"columns": names(table.columns_of(name)), "key": names(table.key_of(name)), "complete": is_complete}
-    return {"columns": [{"name": name.decode(), "kind": kind.decode()} for name, kind in table.columns], "key": names(table.key), "trees": trees}
+    rows = trees.tree()
+    columns = [{"name": column.name, "kind": column.kind} for column in rows.columns]
+    found = {tree.name: {"columns": tree.names, "key": tree.names[: len(tree.key)], "complete": tree.is_complete} for tree in trees}
+    return {"columns": columns, "key": rows.names[: len(rows.key)], "trees": found}
 
 
-def picture_of(replies: bytes, tree: str, state: State, columns: int, lines: int) -> str:
+def picture_of(replies: bytes, tree: str, trees: Trees, columns: int, lines: int) -> str:
     """The picture of the image of a tree. Its keys are shown as their values."""
-    image = image_of_reply(replies.decode(), tree, state.table)
+    image = image_of_reply(replies.decode(), trees.tree(tree))
     return picture([image], columns, lines, [image.title()])
 
 

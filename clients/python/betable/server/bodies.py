@@ -10,7 +10,8 @@ from typing import Any, NamedTuple
 from aiohttp import web
 
 from ..language import MARK, broken_quotes_of_lines, fields, visible
-from ..rows import JSON_TYPES, Column, Layout
+from ..rows import JSON_TYPES
+from ..schema import Tree, TreeColumn
 from .requests import Problem, checked_name
 
 BLANK_LINES = re.compile(rb"^\r?\n|\n\r?\n")
@@ -49,7 +50,7 @@ def is_json_body(request: web.Request) -> bool:
 # ---- rows ----
 
 
-def rows_of_csv(body: bytes, has_header: bool, there: Layout) -> Batch:
+def rows_of_csv(body: bytes, has_header: bool, there: Tree) -> Batch:
     """The batch that puts rows of CSV. Columns under a header may be in any order."""
     if not has_header:
         return Batch(batch_of(body))
@@ -61,7 +62,7 @@ def rows_of_csv(body: bytes, has_header: bool, there: Layout) -> Batch:
     return Batch(batch_of(b"\n" * line + rest))
 
 
-def rows_of_json(body: bytes, content_type: str, there: Layout) -> Batch:
+def rows_of_json(body: bytes, content_type: str, there: Tree) -> Batch:
     """The batch that puts rows of JSON: objects by the names of the columns, or lists in their order."""
     return _batch_of_json(body, content_type, there.columns, lambda values: f"put {','.join(values)}\n")
 
@@ -76,7 +77,7 @@ def batch_of(body: bytes) -> bytes:
     return b"batch\n" + lines.removesuffix(b"\n") + b"\nend\n"
 
 
-def header_hint(body: bytes, there: Layout) -> str:
+def header_hint(body: bytes, there: Tree) -> str:
     """What to do if the first record of rows without a header has the names of the columns, as the end of a sentence, or nothing."""
     names = [name.decode(errors="replace").strip().lower() for name in fields(body.partition(b"\n")[0].removesuffix(b"\r"))]
     return ". These are the names of the columns: leave the line out, or send it with header=1" if sorted(names) == sorted(there.names) else ""
@@ -85,7 +86,7 @@ def header_hint(body: bytes, there: Layout) -> str:
 # ---- upserts ----
 
 
-def upserts_of_csv(body: bytes, has_header: bool, there: Layout, operations: list[Operation]) -> Batch:
+def upserts_of_csv(body: bytes, has_header: bool, there: Tree, operations: list[Operation]) -> Batch:
     """The batch of upserts, each a line of CSV: the key, and the argument of each operation in order."""
     names = [*(column.name for column in there.key), *(operation.column for operation in operations)]
     first, places = 1, list(range(len(names)))
@@ -109,7 +110,7 @@ def upserts_of_csv(body: bytes, has_header: bool, there: Layout, operations: lis
     return Batch(b"batch\n%bend\n" % script, numbers)
 
 
-def upserts_of_json(body: bytes, content_type: str, there: Layout, operations: list[Operation]) -> Batch:
+def upserts_of_json(body: bytes, content_type: str, there: Tree, operations: list[Operation]) -> Batch:
     """The batch of upserts of JSON: objects with the columns of the key and those of the operations, or lists in the order of a line of CSV."""
     by_name, count = {column.name: column for column in there.columns}, len(there.key)
     if unknown := next((one.column for one in operations if one.column not in by_name), None):
@@ -172,7 +173,7 @@ def _check_quotes(lines: bytes, body: bytes, numbers: Sequence[int] | None = Non
 # ---- JSON ----
 
 
-def _batch_of_json(body: bytes, content_type: str, columns: Sequence[Column], line_of: Callable[[list[str]], str]) -> Batch:
+def _batch_of_json(body: bytes, content_type: str, columns: Sequence[TreeColumn], line_of: Callable[[list[str]], str]) -> Batch:
     rows, places, unit = _json_rows(body, content_type)
     lines = [line_of(_values(row, columns, {unit: place})) for row, place in zip(rows, places)]
     try:
@@ -199,7 +200,7 @@ def _parsed(text: bytes, line: int | None) -> Any:
         raise Problem(400, f"the body is no JSON: {fault}", **(dict[str, Any]() if line is None else {"line": line})) from None
 
 
-def _values(row: Any, columns: Sequence[Column], place: dict[str, Any]) -> list[str]:
+def _values(row: Any, columns: Sequence[TreeColumn], place: dict[str, Any]) -> list[str]:
     """The fields of a row of JSON."""
     names = [column.name for column in columns]
     if isinstance(row, dict):
@@ -214,7 +215,7 @@ def _values(row: Any, columns: Sequence[Column], place: dict[str, Any]) -> list[
     return [_field(value, column, place) for value, column in zip(row, columns)]
 
 
-def _field(value: Any, column: Column, place: dict[str, Any]) -> str:
+def _field(value: Any, column: TreeColumn, place: dict[str, Any]) -> str:
     """The field of a value of JSON."""
     kind, name = JSON_TYPES[column.kind]
     reason = None

@@ -21,10 +21,11 @@ from typing import Any, BinaryIO, NamedTuple
 
 from ..durable.table import FAULTS, ReplyDamaged, RequestReused, ScriptTooLong, open as open_table
 from ..errors import Refused, RowError
-from ..language import State, counted
+from ..language import counted
 from ..packed import Usage
 from ..replies import reply_end
-from ..rows import UNKNOWN, Layout, Value, layout, printed_records, value_of_field
+from ..rows import Value, printed_records, value_of_field
+from ..schema import UNKNOWN, Tree, Trees
 
 # The largest number of requests in a group, and the bytes of scripts that close one.
 MOST_GROUP, GROUP_BYTES = 256, 16 << 20
@@ -76,7 +77,7 @@ class Answer(NamedTuple):
 
 class Result(NamedTuple):
     """The results of works: for each its answer or its fault, the time of its scripts and that of its commit. `number` is that of the last script that
-    is kept, `log_bytes` are those of the log, `request_bytes` those of the stored replies, and `state` has the trees if they have changed."""
+    is kept, `log_bytes` are those of the log, `request_bytes` those of the stored replies, and `trees` are those of the table if they have changed."""
 
     answers: list[Answer | Exception]
     run_seconds: float = 0
@@ -84,7 +85,7 @@ class Result(NamedTuple):
     number: int = 0
     log_bytes: int = 0
     request_bytes: int = 0
-    state: State | None = None
+    trees: Trees | None = None
 
 
 class WrongKey(Exception):
@@ -119,13 +120,13 @@ def main() -> int:
         _send(results, fault)
         return 1
     with worker.table as table:
-        known: Any = None
+        known: Trees | None = None
         group: list[Work] | None = []
         while group is not None:
             result = worker.run_group(group)
-            before, known = known, _trees(table.state)
-            state = table.state if known != before else None
-            _send(results, result._replace(number=table.number, log_bytes=table.log_bytes, request_bytes=table.request_bytes, state=state))
+            before, known = known, table.trees()
+            trees = known if known != before else None
+            _send(results, result._replace(number=table.number, log_bytes=table.log_bytes, request_bytes=table.request_bytes, trees=trees))
             group = _received(works)
     return 0
 
@@ -170,15 +171,15 @@ class Worker:
         if work.most_rows is None:
             return Answer(replies, table.number)
         rows, is_cut = first_rows(replies, work.most_rows)
-        return Answer(rows, table.number, is_cut, _columns(table.state, script))
+        return Answer(rows, table.number, is_cut, _columns(table.trees(), script))
 
     def _usage(self, tree: str) -> Usage | None:
         """How much a tree holds, if there is one of this name."""
-        return None if layout(self.table.state.table, tree) is UNKNOWN else self.table.usage(tree)
+        return None if self.table.trees().tree(tree) is UNKNOWN else self.table.usage(tree)
 
     def _page(self, page: Page, most: int) -> Answer | None:
         """At most that many rows of a page, written as the reply to a scan of them. None if the scan would be refused."""
-        there = layout(self.table.state.table, page.tree)
+        there = self.table.trees().tree(page.tree)
         if there is UNKNOWN:
             return None
         try:
@@ -203,7 +204,7 @@ class Worker:
         return Answer(replies.encode(), self.table.number, is_cut, [(column.name, column.kind) for column in there.columns], last=last)
 
 
-def _key_values(fields: list[str] | None, there: Layout, least: int = 1) -> tuple[Value, ...] | None:
+def _key_values(fields: list[str] | None, there: Tree, least: int = 1) -> tuple[Value, ...] | None:
     """The values of the fields of a key, or of the first ones of it. A ValueError says why there are none."""
     if fields is None:
         return None
@@ -212,14 +213,12 @@ def _key_values(fields: list[str] | None, there: Layout, least: int = 1) -> tupl
     return tuple([value_of_field(field, column) for field, column in zip(fields, there.key)])
 
 
-def _columns(state: State, script: bytes) -> list[tuple[str, str]]:
+def _columns(trees: Trees, script: bytes) -> list[tuple[str, str]]:
     """The names and kinds of the columns of the reply to a script of one command."""
-    word, *words = script.split(b"\n", 1)[0].split()
-    table = state.table
-    if table is None or (word != b"get" and not table.has_tree(words[0])):
-        return []
-    columns = table.columns if word == b"get" else table.columns_of(words[0]) if word == b"scan" else table.key_of(words[0])[: int(words[1])]
-    return [(name.decode(), kind.decode()) for name, kind in columns]
+    word, *words = script.decode().split("\n", 1)[0].split()
+    tree = trees.tree("primary" if word == "get" else words[0])
+    columns = tree.key[: int(words[1])] if word == "sums" else tree.columns
+    return [(column.name, column.kind) for column in columns]
 
 
 def first_rows(replies: bytes, most: int) -> tuple[bytes, bool]:
@@ -230,12 +229,6 @@ def first_rows(replies: bytes, most: int) -> tuple[bytes, bool]:
     while count < most and replies.startswith(word, at):
         at, count = reply_end(b"get", replies, at), count + 1
     return b"%b%b %d\n" % (replies[:at], LAST_WORDS[word], count), replies.startswith(word, at)
-
-
-def _trees(state: State) -> Any:
-    """What the server has to know of a state: it is another one if this is."""
-    table = state.table
-    return table and (table.line.text, [(index.line.text, index.is_complete) for index in table.indexes.values()])
 
 
 def _send(stream: BinaryIO, sent: Any) -> None:
@@ -258,7 +251,7 @@ def _frame(sent: Any) -> bytes:
 
 
 class Engine:
-    """The engine's process, as its server sees it. `state` has the trees, `number` that of the last script that is kept, `starts` how often it was started.
+    """The engine's process, as its server sees it. `trees` are those of the table, `number` that of the last script that is kept, `starts` how often it was started.
 
     `on_result` is called with the works and the result of each group, before their answers are given, and `on_notice` with a line when the process has ended,
     and when another one has taken its place.
@@ -269,7 +262,7 @@ class Engine:
         on_notice: Callable[[str], None] = lambda line: None,
     ) -> None:  # fmt: skip
         self.path, self.on_result, self.on_notice = os.fspath(path), on_result, on_notice
-        self.state, self.number, self.log_bytes, self.request_bytes, self.starts = State(), 0, 0, 0, 0
+        self.trees, self.number, self.log_bytes, self.request_bytes, self.starts = Trees(), 0, 0, 0, 0
         self.is_open = False
         self._waiting: deque[tuple[Work, asyncio.Future[Answer]]] = deque()
         self._group: list[tuple[Work, asyncio.Future[Answer]]] = []
@@ -386,7 +379,7 @@ class Engine:
     def _take(self, result: Result) -> None:
         group, self._group = self._group, []
         self.on_result([work for work, _ in group], result)
-        self.state, self.number = result.state or self.state, result.number
+        self.trees, self.number = self.trees if result.trees is None else result.trees, result.number
         self.log_bytes, self.request_bytes = result.log_bytes, result.request_bytes
         self._send_group()
         for (_, future), answer in zip(group, result.answers):

@@ -25,10 +25,10 @@ from prometheus_client import CollectorRegistry, Counter, Gauge, Histogram, Proc
 from ..calls import refusal
 from ..durable.table import FAULTS
 from ..errors import Refused
-from ..language import MOST_SCRIPT_BYTES, State, commands
+from ..language import MOST_SCRIPT_BYTES, commands
 from ..messages import OPERATIONS
 from ..replies import BLOCK_BYTES
-from ..rows import layout
+from ..schema import Trees
 from .answers import (
     CsvRows, CsvRowsWithHeader, JsonRows, RowsAnswer, content_policy, event_of, first_reason, json_replies, picture_of, refusal_of_batch, refused_count,
     start_event, too_large, trees_of,
@@ -316,7 +316,7 @@ class Service:
 
     async def post_run(self, request: web.Request) -> web.StreamResponse:
         with self.place():
-            script, state, once = await self.body(request), self.engine.state, request_id(request)
+            script, trees, once = await self.body(request), self.engine.trees, request_id(request)
             if self.is_read_only or once:
                 word = await in_thread_if_large(len(script), changing_word, script)
                 if self.is_read_only and word:
@@ -324,7 +324,7 @@ class Service:
                 # A script that only reads may run again: nothing is stored for it.
                 once = once if word else None
             answer = await self.engine.run(Work(script, once))
-        return await self.replies(request, script, answer, state)
+        return await self.replies(request, script, answer, trees)
 
     async def post_rows(self, request: web.Request) -> web.StreamResponse:
         has_header = flag_of(query_of(request, "header"), "header")
@@ -343,29 +343,29 @@ class Service:
         """The reply to the batch that a body is. A body of rows in the order of the columns is a batch without a look at the table."""
         self.expect_writable()
         with self.place():
-            body, state = await self.body(request, JSON + JSON_LINES), self.engine.state
-            there = layout(state.table)
-            if needs_table and state.table is None:
+            body, trees = await self.body(request, JSON + JSON_LINES), self.engine.trees
+            there = trees.tree()
+            if needs_table and not trees:
                 raise Problem(409, "there is no table yet: POST /run takes its 'table' command")
             batch = await in_thread_if_large(len(body), batch_of_body, body, form, there, *more)
             answer = await self.engine.run(Work(batch.script, request_id(request)))
         if answer.replies.startswith(b"refused "):
             self.metrics.refused.inc()
-            problem = await asyncio.to_thread(refusal_of_batch, batch, answer.replies, state)
+            problem = await asyncio.to_thread(refusal_of_batch, batch, answer.replies, trees)
             if problem.fields.get("line") == 1 and batch_of_body is rows_of_csv:
                 problem.fields["reason"] = f"{problem.fields['reason']}{header_hint(body, there)}"
             raise problem
-        return await self.replies(request, batch.script, answer, state)
+        return await self.replies(request, batch.script, answer, trees)
 
     async def delete_row(self, request: web.Request) -> web.StreamResponse:
         self.expect_writable()
-        script, state = f"batch\ndel {key_of(query_of(request, 'key'))}\nend\n".encode(), self.engine.state
+        script, trees = f"batch\ndel {key_of(query_of(request, 'key'))}\nend\n".encode(), self.engine.trees
         with self.place():
             answer = await self.engine.run(Work(script, request_id(request)))
         if answer.replies.startswith(b"refused "):
             self.metrics.refused.inc()
-            raise refusal(next(commands(script)), answer.replies, state, [])
-        return await self.replies(request, script, answer, state)
+            raise refusal(next(commands(script)), answer.replies, trees, [])
+        return await self.replies(request, script, answer, trees)
 
     async def post_checkpoint(self, request: web.Request) -> web.StreamResponse:
         self.expect_writable()
@@ -378,17 +378,17 @@ class Service:
         if self.is_read_only:
             raise Problem(403, "this server is read-only")
 
-    async def replies(self, request: web.Request, script: bytes, answer: Answer, state: State) -> web.StreamResponse:
+    async def replies(self, request: web.Request, script: bytes, answer: Answer, trees: Trees) -> web.StreamResponse:
         """The replies to a script: their bytes, or as JSON each with its command."""
         self.hold(request, len(answer.replies))
         refused = await in_thread_if_large(len(answer.replies), refused_count, script, answer.replies)
         self.metrics.refused.inc(refused)
         headers = {"Betable-Refused": str(refused), "Betable-Number": str(answer.number)}
         if refused:
-            headers["Betable-Reason"] = await in_thread_if_large(len(script), first_reason, script, answer.replies, state)
+            headers["Betable-Reason"] = await in_thread_if_large(len(script), first_reason, script, answer.replies, trees)
         if is_json(request, ""):
             headers["Content-Type"] = "application/json; charset=utf-8"
-            return await self.response_in_parts(request, made_in_thread(json_replies(script, answer, state, refused)), headers)
+            return await self.response_in_parts(request, made_in_thread(json_replies(script, answer, trees, refused)), headers)
         headers |= {"Content-Type": "text/plain; charset=utf-8", "Content-Length": str(len(answer.replies))}
         if len(answer.replies) <= BLOCK_BYTES:
             return web.Response(body=answer.replies, headers={**COMMON_HEADERS, **headers})
@@ -421,7 +421,7 @@ class Service:
             answer = await self.engine.run(work)
         self.hold(request, len(answer.replies))
         if answer.replies.startswith(b"refused "):
-            raise refusal(next(commands(script)), answer.replies, self.engine.state, [])
+            raise refusal(next(commands(script)), answer.replies, self.engine.trees, [])
         if script.startswith(b"get "):
             if answer.replies == b"none\n":
                 raise Problem(404, "no row has this key")
@@ -449,7 +449,7 @@ class Service:
         yield written.end()
 
     async def get_trees(self, request: web.Request) -> web.StreamResponse:
-        return json_response(trees_of(self.engine.state))
+        return json_response(trees_of(self.engine.trees))
 
     async def get_picture(self, request: web.Request) -> web.StreamResponse:
         query, tree = query_of(request, "columns", "lines"), tree_of(request)
@@ -458,12 +458,12 @@ class Service:
         with self.place():
             answer = await self.engine.run(Work(script, image_of=tree))
         self.hold(request, len(answer.replies))
-        state = self.engine.state
+        trees = self.engine.trees
         if answer.usage is not None:
             raise too_large(answer.usage)
         if answer.replies.startswith(b"refused "):
-            raise refusal(next(commands(script)), answer.replies, state, [])
-        drawn = await asyncio.to_thread(picture_of, answer.replies, tree, state, columns, lines)
+            raise refusal(next(commands(script)), answer.replies, trees, [])
+        drawn = await asyncio.to_thread(picture_of, answer.replies, tree, trees, columns, lines)
         return web.Response(text=drawn, content_type="image/svg+xml", headers=COMMON_HEADERS)
 
     async def get_events(self, request: web.Request) -> web.StreamResponse:

@@ -13,9 +13,10 @@ from typing import BinaryIO, NamedTuple
 from ..calls import Calls, ends_load
 from ..faults import MEANINGS, header_faults, load_faults
 from ..language import (
-    CLOSING, KINDS, MARK, MOST_MESSAGES, MOST_SCRIPT_BYTES, NAME, RECORD, Command, Line, Table, counted, fields, printed_record, records,
+    CLOSING, KINDS, MARK, MOST_MESSAGES, MOST_SCRIPT_BYTES, NAME, RECORD, Command, Line, counted, fields, printed_record, records,
 )  # fmt: skip
 from ..replies import line_blocks
+from ..schema import Tree, Trees
 
 READ_BYTES = 4 << 20
 MOST_RECORD_BYTES = 1 << 20  # no record that a table takes has as many
@@ -55,7 +56,7 @@ class Imported(NamedTuple):
 # ---- CSV in ----
 
 
-def import_csv(table: Calls, there: Table, path: str, progress: Progress, most_bytes: int = MOST_SCRIPT_BYTES) -> Iterator[Imported]:
+def import_csv(table: Calls, there: Trees, path: str, progress: Progress, most_bytes: int = MOST_SCRIPT_BYTES) -> Iterator[Imported]:
     """Puts the records of a CSV file into a table, and gives what was done after each script, of at most `most_bytes`.
 
     A file that fits one script is loaded if the table has no rows. Otherwise, or if that is refused, the records are put in batches; each batch is applied
@@ -77,7 +78,7 @@ def import_csv(table: Calls, there: Table, path: str, progress: Progress, most_b
         raise FileFault(f"{path}: {fault.strerror or fault}") from None
 
 
-def _expect_header(text: bytes, there: Table, path: str) -> None:
+def _expect_header(text: bytes, there: Trees, path: str) -> None:
     """That a file begins with the names of the table's columns."""
     if text.startswith(b"\x1f\x8b"):
         raise FileFault(f"{path} is compressed by gzip: unpack it first, as by gunzip")
@@ -98,7 +99,7 @@ def _loaded(table: Calls, text: bytes) -> int | None:
 class _Batches:
     """The records of a file in batches."""
 
-    def __init__(self, table: Calls, there: Table, progress: Progress, size: int, most_bytes: int) -> None:
+    def __init__(self, table: Calls, there: Trees, progress: Progress, size: int, most_bytes: int) -> None:
         self.table, self.there, self.progress, self.size = table, there, progress, max(size, 1)
         self.room = most_bytes - sum(map(len, BATCH_ENDS))
         self.done = 0
@@ -201,17 +202,17 @@ def suggested_table(path: str) -> str:
 # ---- CSV out ----
 
 
-def export_csv(table: Calls, there: Table, tree: str, path: str, progress: Progress) -> int:
+def export_csv(table: Calls, tree: Tree, path: str, progress: Progress) -> int:
     """Writes the rows of a tree to a new CSV file with a header, and returns how many there are. The file has its name once it is whole."""
     if os.path.lexists(path):
         raise FileFault(f"{path} is there already: rows are written to a new file")
-    replies = table.replies(f"scan {tree}\ngo\n")
+    replies = table.replies(f"scan {tree.name}\ngo\n")
     if replies.startswith(b"refused "):
-        raise FileFault(f"scan {tree}: {replies.decode().strip()}: {MEANINGS.get(int(replies.split()[1]), '')}")
+        raise FileFault(f"scan {tree.name}: {replies.decode().strip()}: {MEANINGS.get(int(replies.split()[1]), '')}")
     part, rows = Path(f"{path}.part"), 0
     try:
         with open(part, "w", encoding="utf-8", newline="") as stream:
-            stream.write(",".join(name.decode() for name, _ in there.columns_of(tree.encode())) + "\n")
+            stream.write(",".join(tree.names) + "\n")
             count = int(replies[replies.rindex(b" ") :])
             for lines in line_blocks(replies):
                 stream.writelines(f"{line}\n" for line in lines)

@@ -12,7 +12,8 @@ from io import TextIOWrapper
 from pathlib import Path
 from typing import BinaryIO, Protocol
 
-from ..language import BLOCK_WORDS, CLOSING, FORMS, KINDS, OF_INDEXES, OF_TREES, OPERATIONS, OPERATORS, PRIMARY, State
+from ..language import BLOCK_WORDS, CLOSING, FORMS, KINDS, OF_INDEXES, OF_TREES, OPERATIONS, OPERATORS
+from ..schema import Trees
 
 HISTORY_LINES = 10_000
 FILE_COMMANDS = (".import", ".export", ".read")
@@ -94,12 +95,9 @@ def _texts(names: Iterable[bytes]) -> list[str]:
     return [name.decode() for name in names]
 
 
-def completions(before: str, state: State, block: bytes | None, dot_commands: Iterable[str]) -> list[str]:
+def completions(before: str, there: Trees, block: bytes | None, dot_commands: Iterable[str]) -> list[str]:
     """The words that can follow the text of a line. `block` is the command whose block is open, or None."""
-    table = state.table
-    columns = _texts(table.names) if table else []
-    indexes = _texts(table.indexes) if table else []
-    trees = [PRIMARY.decode(), *indexes] if table else []
+    columns, trees = there.tree().names, [tree.name for tree in there]
     words = [word for word in before.split(" ") if word]
     if block is not None:
         if not words:
@@ -113,7 +111,7 @@ def completions(before: str, state: State, block: bytes | None, dot_commands: It
     if word in OF_TREES and place == 1:
         return trees
     if word in OF_INDEXES and place == 1:
-        return indexes
+        return trees[1:]
     if word == b"sums" and place == 3:
         return columns
     if word == b"table":

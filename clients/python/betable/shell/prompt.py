@@ -19,13 +19,14 @@ from types import FrameType
 from typing import NamedTuple
 
 from .. import durable
-from ..calls import Calls, copied, note
+from ..calls import Calls
 from ..errors import OutOfMemory
 from ..faults import MEANINGS, WITH_ADVICE, Fault, MessageFaults, bound_faults
 from ..forms import head_faults
-from ..language import BLOCK_WORDS, CLOSING, FORMS, MOST_SCRIPT_BYTES, PRIMARY, Command, Line, State, Table, any_of, commands, counted, visible
+from ..language import BLOCK_WORDS, CLOSING, FORMS, MOST_SCRIPT_BYTES, Command, Definitions, Line, any_of, commands, counted, index_of, visible
 from ..refusals import Refusal
 from ..replies import ROW_WORDS, answered
+from ..schema import Tree, Trees, trees_after
 from ..session import Session
 from .files import FileFault, Imported, ProgressBar, export_csv, import_csv, suggested_table
 from .input import Lines, Stream, Terminal, completions
@@ -86,6 +87,8 @@ class Shell:
         self.is_ended, self.status = False, 0
         self.has_times, self.most_rows = lines.is_terminal, SHOWN_ROWS if lines.is_terminal else None
         self.refusal: tuple[Refusal, bytes] | None = None
+        # The definitions among the commands of this prompt, which are all of a table in memory.
+        self.typed = Definitions()
 
     # ---- lines ----
 
@@ -114,7 +117,7 @@ class Shell:
 
     def completions(self, before: str) -> list[str]:
         """The words that can follow the text of a line."""
-        return completions(before, self.table.state, self.word() if self.block else None, DOT_COMMANDS)
+        return completions(before, self.table.trees(), self.word() if self.block else None, DOT_COMMANDS)
 
     def take(self, raw: bytes) -> None:
         """Takes a line: of the block that is open, of the prompt, or a command."""
@@ -149,9 +152,9 @@ class Shell:
         if not line.text or word not in BLOCK_WORDS:
             return []
         if word == b"batch":
-            return MessageFaults(self.table.state.table).of(line)
+            return MessageFaults(self.table.trees()).of(line)
         command = Command(Line(1, self.block[0]), CLOSING[word], b"".join(one + b"\n" for one in [*self.block[1:], raw]), True)
-        return [fault for fault in bound_faults(command, self.table.state) if fault.line == line.number]
+        return [fault for fault in bound_faults(command, self.table.trees()) if fault.line == line.number]
 
     # ---- commands of the language ----
 
@@ -165,7 +168,7 @@ class Shell:
         script, fault = b"".join(map(bytes_of, some)), None
         begin = time.perf_counter()
         try:
-            state = copied(self.table.state)
+            trees = self.table.trees()
             with noticed_interrupts() as is_interrupted:
                 try:
                     replies, places = self.table._replies_with_places(script)
@@ -179,19 +182,21 @@ class Shell:
             print(f"interrupted: {'the command was' if len(some) == 1 else f'{len(some):,} commands were'} carried out, and no reply is shown")
         for command, reply, is_refused in answered(some, replies, places):
             if is_refused:
-                self.show_refusal(command, reply, state)
-            elif not is_interrupted():
-                self.show(command, reply, state, f" ({seconds:.3f} s)" if self.has_times else "")
-            note(state, command, reply)
+                self.show_refusal(command, reply, trees)
+            else:
+                self.typed.take(command)
+                if not is_interrupted():
+                    self.show(command, reply, trees, f" ({seconds:.3f} s)" if self.has_times else "")
+            trees = trees_after(trees, command, reply)
         if fault:
             self.fail(fault)
         return is_interrupted()
 
-    def show(self, command: Command, reply: bytes, state: State, time_taken: str) -> None:
+    def show(self, command: Command, reply: bytes, trees: Trees, time_taken: str) -> None:
         """Shows a reply: rows as a table, and others as they are."""
         word = command.head.word
         if word in ROW_WORDS:
-            for line in table_of_reply(word, command.head.words, reply, state, self.most_rows):
+            for line in table_of_reply(word, command.head.words, reply, trees, self.most_rows):
                 print(line)
             print(f"{count_of_reply(word, reply)}{time_taken}")
             return
@@ -201,8 +206,8 @@ class Shell:
         if self.most_rows is not None and len(lines) > self.most_rows:
             print(f".. {len(lines) - self.most_rows:,} more lines: .limit off shows all, and .tree draws the tree")
 
-    def show_refusal(self, command: Command, reply: bytes, state: State) -> None:
-        refusal = Refusal(command, reply, state, False)
+    def show_refusal(self, command: Command, reply: bytes, trees: Trees) -> None:
+        refusal = Refusal(command, reply, trees, False)
         word = visible(command.head.word, 20)
         meant = MEANT.get(command.head.word.rstrip(b";").lower().decode(errors="replace")) if refusal.number == 1 else None
         if meant:
@@ -243,19 +248,18 @@ class Shell:
         except FAULTS as fault:
             self.fail(fault)
 
-    def the_table(self) -> Table:
-        table: Table | None = self.table.state.table
-        if table is None:
+    def the_table(self) -> Trees:
+        table = self.table.trees()
+        if not table:
             raise PromptFault("there is no table yet: make one by 'table', as 'table 16 1024 256 1 id:int city:text qty:int'")
         return table
 
-    def tree(self, name: str) -> str:
-        """The name of a tree that is there."""
+    def tree(self, name: str) -> Tree:
+        """A tree that is there."""
         table = self.the_table()
         if not table.has_tree(name.encode()):
-            names = ", ".join(one.decode() for one in (PRIMARY, *table.indexes))
-            raise PromptFault(f"no tree is named '{name}': there {'are' if table.indexes else 'is'} {names}")
-        return name
+            raise PromptFault(f"no tree is named '{name}': there {'are' if table.indexes else 'is'} {', '.join(tree.name for tree in table)}")
+        return table.tree(name)
 
     def help(self, word: str | None = None) -> None:
         if word is None:
@@ -289,35 +293,40 @@ class Shell:
         if refusal.number not in (1, *WITH_ADVICE) and meaning not in refusal.lines[0]:
             print(f"  {meaning}")
 
+    def definitions(self) -> Definitions:
+        return self.table.definitions if isinstance(self.table, durable.Durable) else self.typed
+
     def schema(self) -> None:
-        table = self.the_table()
-        for line in [table.line, *(index.line for index in table.indexes.values())]:
+        self.the_table()
+        for line in self.definitions().values():
             print(line.text.decode(errors="replace"))
 
     def indexes(self) -> None:
-        table = self.the_table()
-        rows = []
-        for name, index in table.indexes.items():
-            condition = b" ".join(index.condition).decode(errors="replace") if index.condition else ""
-            lists = [b",".join(names).decode() for names in (index.on, index.included)]
-            rows.append([name.decode(), *lists, condition, "yes" if index.is_complete else "building"])
+        rows, table = [], self.the_table()
+        for name, definition in self.definitions().items():
+            if name in table.indexes:
+                index = index_of(definition)
+                condition = b" ".join(index.condition).decode(errors="replace") if index.condition else ""
+                lists = [b",".join(names).decode() for names in (index.on, index.included)]
+                rows.append([name.decode(), *lists, condition, "yes" if table.indexes[name].is_complete else "building"])
         for line in aligned(["name", "on", "include", "where", "complete"], ["text"] * 5, rows) if rows else ():
             print(line)
         print(counted(len(rows), "index", "indexes"))
 
     def draw(self, name: str = "primary") -> None:
         with noticed_interrupts() as is_interrupted:
-            reply = self.table.replies(f"image {self.tree(name)}\n")
+            tree = self.tree(name)
+            reply = self.table.replies(f"image {name}\n")
         if is_interrupted():
             raise Interrupted("interrupted: the tree is not drawn")
         if len(reply) > MOST_TREE_BYTES:
             raise PromptFault(f"the image of {name} has {len(reply) >> 20} MiB, and at most {MOST_TREE_BYTES >> 20} are drawn")
-        for line in drawn_tree(reply, name, self.table.state):
+        for line in drawn_tree(reply, tree):
             print(line)
 
     def import_file(self, path: str) -> None:
         path = os.path.expanduser(path)
-        if self.table.state.table is None:
+        if not self.table.trees():
             line = suggested_table(path)
             raise PromptFault(f"there is no table yet. Make one that has the columns of the file, as\n  {line}\nwith the kinds that its first records show")
         done, bar = Imported(), ProgressBar()
@@ -354,7 +363,7 @@ class Shell:
                 bar(part, rows)
 
             try:
-                rows = export_csv(self.table, self.the_table(), self.tree(tree), path, progress)
+                rows = export_csv(self.table, self.tree(tree), path, progress)
             finally:
                 bar.end()
         print(f"{counted(rows, 'row')} written to {path}")

@@ -7,9 +7,10 @@ from itertools import islice
 from typing import Any
 
 from ..figures import Drawing, one_line, width_of
-from ..language import State, counted
+from ..language import counted
 from ..replies import line_blocks
 from ..rows import rows_of
+from ..schema import Tree, Trees
 from ..trees import image_of_reply
 
 MOST_TREE_BYTES = 16 << 20  # of an image that is drawn
@@ -30,19 +31,12 @@ def aligned(names: Sequence[str], kinds: Sequence[str], rows: Sequence[Sequence[
         yield "  ".join(parts).rstrip()
 
 
-def columns_of_reply(word: bytes, words: Sequence[bytes], state: State) -> list[tuple[str, str]]:
+def columns_of_reply(word: bytes, words: Sequence[bytes], trees: Trees) -> list[tuple[str, str]]:
     """The names and kinds of what a `get`, a `scan` or `sums` prints."""
-    table = state.table
-    if table is None:
-        return []
-    if word == b"get":
-        columns = table.columns
-    elif word == b"scan":
-        columns = table.columns_of(words[1])
-    else:
-        columns = table.key_of(words[1])[: int(words[2])]
+    tree = trees.tree() if word == b"get" else trees.by_name[words[1]]
+    columns = tree.key[: int(words[2])] if word == b"sums" else tree.columns
     groups = [("count", "count"), ("sum", "sum")] if word == b"sums" else []
-    return groups + [(name.decode(), kind.decode()) for name, kind in columns]
+    return groups + [(column.name, column.kind) for column in columns]
 
 
 def records_of_reply(word: bytes, reply: bytes) -> Iterator[str]:
@@ -55,9 +49,9 @@ def records_of_reply(word: bytes, reply: bytes) -> Iterator[str]:
         yield from (line.replace(" ", ",", 2) for line in lines) if word == b"sums" else lines
 
 
-def table_of_reply(word: bytes, words: Sequence[bytes], reply: bytes, state: State, most: int | None) -> list[str]:
+def table_of_reply(word: bytes, words: Sequence[bytes], reply: bytes, trees: Trees, most: int | None) -> list[str]:
     """The lines of the table that shows the first `most` rows of a reply, or all of them, and how many more there are."""
-    columns = columns_of_reply(word, words, state)
+    columns = columns_of_reply(word, words, trees)
     lines = list(islice(records_of_reply(word, reply), most))
     if not lines:
         return []
@@ -75,9 +69,9 @@ def count_of_reply(word: bytes, reply: bytes) -> str:
     return counted(number, "group" if word == b"sums" else "row")
 
 
-def drawn_tree(reply: bytes, tree: str, state: State) -> Iterator[str]:
+def drawn_tree(reply: bytes, tree: Tree) -> Iterator[str]:
     """The lines of a drawing of a tree: each node with its first rows or messages, the nodes below it, and the pivots between these."""
-    image = image_of_reply(reply.decode(), tree, state.table)
+    image = image_of_reply(reply.decode(), tree)
     yield image.title()
     yield from _drawn_box(Drawing(image, TREE_COLUMNS, TREE_LINES).root, "", "")
 
