@@ -32,6 +32,7 @@ mod fault;
 mod packed;
 mod rows;
 mod sums;
+mod trees;
 mod usage;
 mod values;
 
@@ -39,10 +40,11 @@ pub use changes::{Changes, Op};
 pub use fault::Fault;
 pub use rows::{Row, Rows};
 pub use sums::{Group, Sums};
+pub use trees::Tree;
 pub use usage::Usage;
-pub use values::{FromValue, Kind, Packer, ToValue, Value, Values};
+pub use values::{Column, FromValue, Kind, Packer, ToValue, Value, Values};
 
-use packed::{CallFault, Tree};
+use packed::CallFault;
 use std::error::Error;
 use std::fmt;
 use std::ops::Range;
@@ -70,8 +72,8 @@ extern "C" {
     fn betable_get(session: *mut Handle, key: *const u8, length: usize, fault: *mut CallFault) -> u32;
     fn betable_page(session: *mut Handle, page: *const u8, length: usize, fault: *mut CallFault) -> u32;
     fn betable_sums(session: *mut Handle, sums: *const u8, length: usize, fault: *mut CallFault) -> u32;
-    fn betable_columns(session: *mut Handle, name: *const u8, length: usize, fault: *mut CallFault) -> u32;
     fn betable_usage(session: *mut Handle, name: *const u8, length: usize, fault: *mut CallFault) -> u32;
+    fn betable_trees(session: *mut Handle, request: *const u8, length: usize, fault: *mut CallFault) -> u32;
     fn betable_replies_length(session: *mut Handle) -> usize;
     fn betable_copy_replies(session: *mut Handle, from: usize, out: *mut u8, room: usize) -> usize;
     fn betable_refused_count(session: *mut Handle) -> usize;
@@ -109,7 +111,7 @@ impl Error for OutOfMemory {}
 /// A table, or none so far, that lives between scripts.
 pub struct Session {
     handle: Handle,
-    /// The trees whose columns typed calls have read since the last script.
+    /// The trees, if a typed call has read them since the last script.
     trees: Vec<Tree>,
     /// The packed bytes of a typed call.
     packed: Vec<u8>,

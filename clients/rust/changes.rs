@@ -1,7 +1,8 @@
 //! Changes of rows by values.
 
 use crate::fault::Fault;
-use crate::packed::{MAGIC, PRIMARY, Tree};
+use crate::packed::{MAGIC, PRIMARY};
+use crate::trees::Tree;
 use crate::values::{Value, Values, append, pack_all, pack_value};
 use crate::{Session, betable_apply};
 

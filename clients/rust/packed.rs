@@ -1,8 +1,8 @@
-//! Calls on packed bytes, and the columns that they are checked by.
+//! Calls on packed bytes.
 
 use crate::fault::Fault;
-use crate::values::{Column, Kind, append, reserve};
-use crate::{DONE, Handle, REFUSED, Session, betable_columns, betable_copy_replies, betable_replies_length};
+use crate::values::{append, reserve};
+use crate::{DONE, Handle, REFUSED, Session, betable_copy_replies, betable_replies_length};
 
 /// What packed bytes begin with: the version is 1.
 pub(crate) const MAGIC: [u8; 4] = *b"BTV\x01";
@@ -20,19 +20,6 @@ pub(crate) struct CallFault {
 }
 
 type Call = unsafe extern "C" fn(*mut Handle, *const u8, usize, *mut CallFault) -> u32;
-
-/// The columns of a tree. Those of the key are the first.
-pub(crate) struct Tree {
-    name: String,
-    pub(crate) columns: Vec<Column>,
-    keys: usize,
-}
-
-impl Tree {
-    pub(crate) fn key(&self) -> &[Column] {
-        &self.columns[..self.keys]
-    }
-}
 
 impl Session {
     /// Begins packed bytes with a number.
@@ -84,43 +71,7 @@ impl Session {
         }
         if self.reply.starts_with(&MAGIC) { Ok(()) } else { Err(Fault::OtherVersion) }
     }
-
-    /// The place in `trees` of the tree of this name. Its columns are read if no call has read them since the last script.
-    pub(crate) fn tree(&mut self, name: &str) -> Result<usize, Fault> {
-        if let Some(place) = self.trees.iter().position(|tree| tree.name == name) {
-            return Ok(place);
-        }
-        self.begin(1)?;
-        self.pack_name(name)?;
-        self.call_with_reply(betable_columns)?;
-        let tree = tree_of_reply(name, &self.reply[MAGIC.len()..]).ok_or(Fault::OtherVersion)?;
-        self.trees.push(tree);
-        Ok(self.trees.len() - 1)
-    }
 }
 
 const NO_SUCH_TREE: u64 = 8;
 const NO_SUCH_COLUMN: u64 = 15;
-
-fn tree_of_reply(name: &str, reply: &[u8]) -> Option<Tree> {
-    let keys = usize::try_from(u64::from_le_bytes(reply.get(..8)?.try_into().ok()?)).ok()?;
-    let mut columns = Vec::new();
-    let mut rest = &reply[8..];
-    while let [code, length, others @ ..] = rest {
-        let name = others.get(..usize::from(*length))?;
-        columns.push(Column { name: String::from_utf8(name.to_vec()).ok()?, kind: kind_of(*code)? });
-        rest = &others[name.len()..];
-    }
-    let is_whole = rest.is_empty() && (1..=columns.len()).contains(&keys);
-    is_whole.then(|| Tree { name: name.to_string(), columns, keys })
-}
-
-fn kind_of(code: u8) -> Option<Kind> {
-    match code {
-        0 => Some(Kind::Int),
-        1 => Some(Kind::Text),
-        2 => Some(Kind::Flag),
-        4 => Some(Kind::Bytes),
-        _ => None,
-    }
-}

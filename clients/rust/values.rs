@@ -132,9 +132,9 @@ read_as!(Int as i64, Flag as bool, Text as &'r str, Text as String, Bytes as &'r
 
 /// A column of a tree.
 #[derive(Debug)]
-pub(crate) struct Column {
-    pub(crate) name: String,
-    pub(crate) kind: Kind,
+pub struct Column {
+    pub name: String,
+    pub kind: Kind,
 }
 
 /// The values of a row, of a key, or of a bound, in the order of the columns: a tuple, a slice of [`Value`], one value by itself, or `()`, which has none.

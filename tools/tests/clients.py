@@ -387,6 +387,10 @@ class Clients(TestCase):
         typed_calls_hold(self, "usage")
 
     @needs("rustc")
+    def test_trees_in_rust_are_those_that_scripts_make(self):
+        typed_calls_hold(self, "trees")
+
+    @needs("rustc")
     def test_wrong_typed_calls_in_rust_say_where_and_change_nothing(self):
         typed_calls_hold(self, "wrong")
 

@@ -1,12 +1,12 @@
 //! Typed calls beside scripts that do the same, and wrong typed calls.
 //!
-//!     typed changes | reads | pages | sums | usage | wrong | allocations | replies | threads
+//!     typed changes | reads | pages | sums | usage | trees | wrong | allocations | replies | threads
 //!
 //! The status is not 0 if what the word names does not hold, and a line says where.
 
 mod fields;
 
-use betable::{Fault, FromValue, Group, Kind, Op, Packer, Refusal, Reply, Row, Session, Sum, Usage, Value, Values, quoted};
+use betable::{Fault, FromValue, Group, Kind, Op, Packer, Refusal, Reply, Row, Session, Sum, Tree, Usage, Value, Values, quoted};
 use fields::{field, hexadecimal};
 use std::alloc::{GlobalAlloc, Layout, System};
 use std::sync::atomic::{AtomicUsize, Ordering};
@@ -301,6 +301,41 @@ fn check_usage() -> Result<(), Fault> {
         }
         assert_eq!(typed.usage("none"), Err(refused(8, "NoSuchTree", None)));
     }
+    Ok(())
+}
+
+/// The name of a tree, the names of its columns with `*` after those of its key, and whether it is complete.
+fn description(tree: &Tree) -> (String, String, bool) {
+    let mark = |place: usize| if place < tree.key().len() { "*" } else { "" };
+    let names: Vec<_> = tree.columns().iter().enumerate().map(|(place, column)| format!("{}{}", column.name, mark(place))).collect();
+    (tree.name().to_string(), names.join(" "), tree.is_complete())
+}
+
+fn trees_of(session: &mut Session) -> Result<Vec<(String, String, bool)>, Fault> {
+    Ok(session.trees()?.iter().map(description).collect())
+}
+
+/// The trees after each script: none without a table, and indexes that are building, complete, dropped, and made again with other columns.
+fn check_trees() -> Result<(), Fault> {
+    let mut session = Session::new()?;
+    let primary = ("primary", "id* city qty ok raw", true);
+    for (script, wanted) in [
+        ("", vec![]),
+        ("table 16 64 16 1 id:int city:text qty:int ok:flag raw:bytes\n", vec![primary]),
+        ("batch\nput 1,Oslo,2,true,00\nput 2,Oslo,2,true,00\nend\nindex a on city include qty\n", vec![primary, ("a", "city* id* qty", false)]),
+        ("index b on ok,raw\nbuild b 9\n", vec![primary, ("a", "city* id* qty", false), ("b", "ok* raw* id*", true)]),
+        ("build a 1\n", vec![primary, ("a", "city* id* qty", false), ("b", "ok* raw* id*", true)]),
+        ("build a 9\n", vec![primary, ("a", "city* id* qty", true), ("b", "ok* raw* id*", true)]),
+        ("drop a\nindex a on qty\n", vec![primary, ("b", "ok* raw* id*", true), ("a", "qty* id*", false)]),
+    ] {
+        session.run(script.as_bytes())?;
+        let wanted: Vec<_> = wanted.iter().map(|(name, columns, is_complete)| (name.to_string(), columns.to_string(), *is_complete)).collect();
+        assert_eq!(trees_of(&mut session)?, wanted, "{script}");
+        session.put::<(i64, &str, i64, bool, &[u8])>(&[]).err();
+        assert_eq!(trees_of(&mut session)?, wanted, "{script}");
+    }
+    let kinds: Vec<_> = session.trees()?[0].columns().iter().map(|column| column.kind).collect();
+    assert_eq!(kinds, [Kind::Int, Kind::Text, Kind::Int, Kind::Flag, Kind::Bytes]);
     Ok(())
 }
 
@@ -664,6 +699,7 @@ fn main() -> Result<(), Fault> {
         Some("pages") => check_pages(),
         Some("sums") => check_sums(),
         Some("usage") => check_usage(),
+        Some("trees") => check_trees(),
         Some("wrong") => {
             check_texts_of_faults();
             check_columns()?;
