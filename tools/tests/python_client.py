@@ -27,6 +27,10 @@ from unittest import TestCase
 from .common import fault_of, TABLE, TOP
 from .clients import OtherLibrary, betable, both_ways, build_extension, library, library_without_memory
 
+from betable import language
+from betable.replies import answered
+from betable.schema import Trees, trees_after
+
 SCHEMA = "table 16 64 16 1 id:int city:text ok:flag raw:bytes\nindex by_city on city include ok\nbuild by_city 100\n"
 ROWS = [(1, "Oslo", True, b"\0"), (2, "Bergen, west", False, b""), (3, "", True, b"ab")]
 LONG = "x" * 256
@@ -646,7 +650,8 @@ class Exceptions(TestCase):
             library = library_that_runs(session, b"get 1\n")
             fault = fault_of(lambda: session.run("get 1\nindex by_city on city\nbuild by_city 9\n"))
             self.assertEqual((type(fault), fault.replies, fault.is_cut, fault.is_lost, fault.taken), (client.OutOfMemory, b"row 1,a\n", False, False, 0))
-            # Perhaps the index was made, so its columns are known.
+            # No index was made, which the library tells.
+            self.assertEqual([tree.name for tree in session.trees()], ["primary"])
             library.end(session)
             session.run("index by_city on city\nbuild by_city 9\n")
             self.assertEqual(session.scan("by_city"), [("a", 1)])
@@ -809,8 +814,8 @@ class Exceptions(TestCase):
 
     @both_ways
     def test_counts_and_totals_are_those_of_the_rows_of_a_scan(self):
-        """Of all rows and of ranges, with rows and without, of a table without rows, with three key columns and with no int column, and of an index that selects
-        rows. An index that is building is refused."""
+        """Of all rows and of ranges, with rows and without, of a table without rows, with three key columns and with no int column, and of an index that
+        selects rows. An index that is building is refused."""
         tables = ["table 4 8 4 3 city:text id:int ok:flag qty:int", "table 4 8 4 2 city:text raw:bytes ok:flag", "table 4 8 4 1 id:int qty:int"]
         for table in tables:
             with self.subTest(table=table), betable().Session() as session:
@@ -837,6 +842,39 @@ class Exceptions(TestCase):
                                 self.assertEqual(session.sums(tree, length, "", start, stop), groups)
                 self.assertEqual(session.count(), len(session.scan()))
                 self.assertEqual(fault_of(lambda: session.count("begun")).name, "Building")
+
+    @both_ways
+    def test_trees_follow_the_definitions_of_each_script(self):
+        """Of random scripts that make, build and drop: what the library tells after a script is what its commands have done, one after the other. Words of such
+        commands are texts too, and lines of them have blanks."""
+        lines = ["table 8 8 8 2 id:int city:text qty:int raw:bytes", "table 8", "rebuild primary", "drop primary", "index a", "batch\nput 1,drop,2,00\nend"]
+        for seed in range(40):
+            dice, session, followed = random.Random(seed), betable().Session(), Trees()
+            for _ in range(10):
+                name, on, rest = dice.choice("abc"), dice.choice(["city", "qty,raw", "id"]), dice.choice(["", " include qty", " include id,raw where qty >= 3"])
+                some = [*lines[1:], f"index {name} on {on}{rest}", f"build {name} {dice.choice([0, 1, 99])}"]
+                some += [f"drop {name}", f"  drop  {name}\r", f"scan {name}\ngo"]
+                script = "".join(f"{line}\n" for line in [lines[0], *dice.choices(some, k=4)]).encode()
+                text, places = session._replies_with_places(script)
+                for command, reply, _ in answered(language.commands(script), text, places):
+                    followed = trees_after(followed, command, reply)
+                self.assertEqual(session.trees(), followed, script)
+                self.assertEqual([list(tree.columns) for tree in followed], [session.columns(tree.name) for tree in followed])
+                self.assertEqual([len(session.scan(tree.name)) for tree in followed if tree.is_complete and tree.name == "primary"], [session.count()])
+
+    @both_ways
+    def test_trees_are_asked_for_again_after_memory_ran_out(self):
+        with filled() as session:
+            before = session.trees()
+            session.replies("get 1\nbatch\nput 4,index ,true,00\nend\n")
+            self.assertIs(session.trees(), before)
+            session.replies("index by_ok on ok\n")
+            library = library_without_memory(session, ["betable_trees"])
+            for call in (session.trees, session.scan, lambda: session.put(ROWS)):
+                self.assertEqual(type(fault_of(call)), betable().OutOfMemory)
+            library.end(session)
+            self.assertEqual([(tree.name, tree.is_complete) for tree in session.trees()], [("primary", True), ("by_city", True), ("by_ok", False)])
+            self.assertEqual((session.trees()[:2], session.put(ROWS), session.count()), (tuple(before), 3, 4))
 
     def test_usage_has_names_and_is_refused_without_a_tree(self):
         client = betable()

@@ -283,8 +283,8 @@ class Calls(ABC):
     def sums(
         self, tree: str, columns: int, column: str, start: Bound = None, stop: Bound = None
     ) -> list[Row]:
-        """For each group of rows that are equal in the tree's first columns: their number, the sum of a column, and the values of those columns. By 0 columns all
-        rows are one group, even if there are none. Without a name for the column, as "", the sums are 0."""
+        """For each group of rows that are equal in the tree's first columns: their number, the sum of a column, and the values of those columns. By 0 columns
+        all rows are one group, even if there are none. Without a name for the column, as "", the sums are 0."""
         count, summed = checked_group(columns), checked_summed(column)
         name = checked_name(tree, "a tree")
         there = self.trees().tree(name)

@@ -216,17 +216,17 @@ class ScriptSession(Calls):
         defines = any(word in script for word in DEFINING) and DEFINING_LINE.search(script) is not None
         with self._calls():
             handle = self._open_handle()
+            if defines:
+                # Before the run, which an interrupt may follow. A tree that is made again is another one, even if it has the same columns.
+                dropped = DROPPED.findall(script)
+                self._earlier = [tree for tree in self._trees or self._earlier if tree.name.encode() not in dropped]
+                self._take_trees(None)
             status = library.betable_run(handle, script, len(script))
             replies = self._copied()
             if status != DONE:
                 is_lost = library.betable_is_lost(handle)
             elif with_places:
                 places = self._places()
-            if defines:
-                # A tree that is made again is another one, even if it has the same columns.
-                dropped = DROPPED.findall(script)
-                self._earlier = [tree for tree in self._trees or self._earlier if tree.name.encode() not in dropped]
-                self._take_trees(None)
         if status != DONE:
             raise OutOfMemory(replies, status == REPLY_CUT, is_lost)
         return replies, places
@@ -332,8 +332,8 @@ class CheckedCalls(ScriptSession):
     def sums(
         self, tree: str, columns: int, column: str, start: Bound = None, stop: Bound = None
     ) -> list[Row]:
-        """For each group of rows that are equal in the tree's first columns: their number, the sum of a column, and the values of those columns. By 0 columns all
-        rows are one group, even if there are none. Without a name for the column, as "", the sums are 0."""
+        """For each group of rows that are equal in the tree's first columns: their number, the sum of a column, and the values of those columns. By 0 columns
+        all rows are one group, even if there are none. Without a name for the column, as "", the sums are 0."""
         found, count, summed = self._range(tree, start, stop), checked_group(columns), checked_summed(column)
         groups = self._groups_between(found.name, count, summed, found.start, found.stop)
         return super().sums(tree, columns, column, start, stop) if groups is None else groups

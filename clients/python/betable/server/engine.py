@@ -251,7 +251,7 @@ def _frame(sent: Any) -> bytes:
 
 
 class Engine:
-    """The engine's process, as its server sees it. `trees` are those of the table, `number` that of the last script that is kept, `starts` how often it was started.
+    """The engine's process, as its server sees it. `trees` are the table's, `number` that of the last script that is kept, `starts` how often it was started.
 
     `on_result` is called with the works and the result of each group, before their answers are given, and `on_notice` with a line when the process has ended,
     and when another one has taken its place.
