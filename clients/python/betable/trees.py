@@ -1,13 +1,22 @@
 """Trees as 'image' prints them: their nodes, the values in their keys, and the differences from an earlier image."""
 
+from __future__ import annotations
+
 import itertools
 import re
 from collections import Counter
+from collections.abc import Iterator, Sequence
+
+from .schema import Tree
 
 HEAD = re.compile(r"image (\S+) height (\d+)")
 NODE = re.compile(r"leaf (\d+)|inner (\d+) (\d+)")
 ITEM = re.compile(r"([=+~]) ([0-9a-f]+)(?: (.*))?|(-) ([0-9a-f]+)|(\|) ([0-9a-f]+)", re.DOTALL)
 PRIMARY = "primary"
+
+
+# A row or a message: its sign, its key and its text.
+Item = tuple[str, str, str]
 
 
 class Node:
@@ -16,17 +25,22 @@ class Node:
     `lower` is the pivot before it, that of the node above for a first child, and `level` counts from the leaves.
     """
 
-    def __init__(self, line, is_leaf, counts):
+    def __init__(self, line: str, is_leaf: bool, counts: list[int]) -> None:
         self.line, self.is_leaf, self.counts = line, is_leaf, counts
-        self.items, self.children, self.pivots = [], [], []
-        self.lower, self.is_changed, self.new_items = "", False, ()
+        self.items: list[Item] = []
+        self.children: list[Node] = []
+        self.pivots: list[str] = []
+        self.lower, self.is_changed = "", False
+        self.new_items: set[int] = set()
+        # What is at this node and below, by `measure`.
+        self.leaves = self.rows = self.pending = self.level = 0
 
-    def nodes(self):
+    def nodes(self) -> Iterator[Node]:
         yield self
         for child in self.children:
             yield from child.nodes()
 
-    def measure(self, lower=""):
+    def measure(self, lower: str = "") -> None:
         """Works out, once, the leaves, rows, messages and levels of what is at this node and below."""
         self.lower = lower
         for child, pivot in zip(self.children, [lower, *self.pivots]):
@@ -36,7 +50,7 @@ class Node:
         self.pending = sum(child.pending for child in self.children) + (0 if self.is_leaf else len(self.items))
         self.level = 1 + max((child.level for child in self.children), default=0)
 
-    def changed_nodes(self):
+    def changed_nodes(self) -> int:
         return sum(node.is_changed for node in self.nodes())
 
 
@@ -46,15 +60,17 @@ class KeyColumns:
     The names are None where only the kinds are known.
     """
 
-    def __init__(self, kinds, names=None):
+    def __init__(self, kinds: Sequence[str], names: Sequence[str] | None = None) -> None:
         self.kinds, self.names = tuple(kinds), names
-        self.places = [place for place, name in enumerate(names) if name not in names[:place]] if names else range(len(self.kinds))
+        self.places: Sequence[int] = range(len(self.kinds))
+        if names:
+            self.places = [place for place, name in enumerate(names) if name not in names[:place]]
 
-    def names_once(self):
+    def names_once(self) -> list[str]:
         """The names of the columns of the key, each once."""
         return [self.names[place] for place in self.places] if self.names else []
 
-    def values_once(self, key):
+    def values_once(self, key: str) -> list[str] | None:
         """The values of the columns of a key, each column once, or None where the key is no code of such."""
         values = values_of(key, self.kinds) if self.kinds else None
         return values and [values[place] for place in self.places]
@@ -63,20 +79,20 @@ class KeyColumns:
 class Image:
     """A tree as it was printed, with the tree's name and the reply before it. Without its key's columns their kinds are inferred from the rows."""
 
-    def __init__(self, name, height, before, root, key_columns=None):
+    def __init__(self, name: str, height: int, before: str, root: Node, key_columns: KeyColumns | None = None) -> None:
         self.name, self.height, self.before, self.root = name, height, before, root
         self.nodes_gone = 0  # since the image before
         root.measure()
         self.key_columns = key_columns or KeyColumns(() if self.is_index() else kinds_of_keys(root))
 
-    def is_index(self):
+    def is_index(self) -> bool:
         return self.name != PRIMARY
 
-    def title(self):
+    def title(self) -> str:
         names = ", ".join(self.key_columns.names_once())
         return f"{self.name} ({names}), height {self.height}" if names else f"{self.name}, height {self.height}"
 
-    def mark_changes(self, before):
+    def mark_changes(self, before: Image) -> None:
         """Marks the nodes that have other items or pivots than the node in their place in the image before, and the items that are new at their level."""
         nodes_before = {(node.level, node.lower): node for node in before.root.nodes()}
         items_before = Counter((node.level, item) for node in nodes_before.values() for item in node.items)
@@ -99,7 +115,7 @@ class Broken(Exception):
     """An image that is not what the program prints. Its text ends a sentence that names the image."""
 
 
-def logical_lines(text):
+def logical_lines(text: str) -> Iterator[str]:
     """The lines of the replies. One whose text holds a line break in quotes is one line."""
     lines = iter(text.split("\n"))
     for line in lines:
@@ -111,7 +127,7 @@ def logical_lines(text):
         yield line
 
 
-def images_of(text):
+def images_of(text: str) -> Iterator[Image]:
     """All images of the replies, each with the last line of the reply before it."""
     lines, before, number = logical_lines(text), "", 0
     for line in lines:
@@ -123,19 +139,20 @@ def images_of(text):
         before = ""
 
 
-def image_of_reply(reply, tree):
+def image_of_reply(reply: str, tree: Tree) -> Image:
     """The image that the text of a reply prints. Its keys are shown as their values if the columns of the tree are known."""
     return image_of(logical_lines(reply), 1, "", key_columns_of(tree))
 
 
-def key_columns_of(tree):
+def key_columns_of(tree: Tree) -> KeyColumns | None:
     """The columns of the key of a tree, or None where the tree is unknown."""
     return KeyColumns(tree.key_kinds, tree.names[: len(tree.key)]) if tree.key else None
 
 
-def image_of(lines, number, before="", key_columns=None):
+def image_of(lines: Iterator[str], number: int, before: str = "", key_columns: KeyColumns | None = None) -> Image:
     """The image whose first line is the next one. It takes the lines up to its last one, and its number names it where it is broken."""
     head = HEAD.fullmatch(next(lines))
+    assert head
     try:
         root = tree_of(block_of(lines))
         expect_height(root, int(head[2]), 1)
@@ -144,9 +161,9 @@ def image_of(lines, number, before="", key_columns=None):
     return Image(head[1], int(head[2]), before, root, key_columns)
 
 
-def block_of(lines):
+def block_of(lines: Iterator[str]) -> list[str]:
     """The lines between the first and the last one of an image."""
-    block = []
+    block: list[str] = []
     for line in lines:
         if line == "end":
             return block
@@ -156,9 +173,10 @@ def block_of(lines):
     raise Broken("its line 'end' is missing, so the replies were cut inside of it")
 
 
-def tree_of(block):
+def tree_of(block: list[str]) -> Node:
     """The tree that the lines between the first and the last one of an image print."""
-    root, path = None, []
+    root: Node | None = None
+    path: list[Node] = []
     for line in block:
         words = line.lstrip(" ")
         indent = len(line) - len(words)
@@ -171,17 +189,17 @@ def tree_of(block):
                 path[depth - 1].children.append(found)
             root = root or found
             path[depth:] = [found]
-        else:
+        elif item:
             add_item(path[depth - 1], item)
             del path[depth:]
     if root is None:
         raise Broken("it has no node")
-    for node in root.nodes():
-        expect_counts(node)
+    for one in root.nodes():
+        expect_counts(one)
     return root
 
 
-def add_item(node, item):
+def add_item(node: Node, item: re.Match[str]) -> None:
     """Adds a row, a message or a pivot to the node above its line."""
     sign = item[1] or item[4] or item[6]
     if (sign == "=") != node.is_leaf:
@@ -192,8 +210,9 @@ def add_item(node, item):
         node.items.append((sign, item[2] or item[5], item[3] or ""))
 
 
-def expect_counts(node):
+def expect_counts(node: Node) -> None:
     """That a node has as much as its first line says."""
+    wanted: list[tuple[str, str, int, Sequence[object]]]
     if node.is_leaf:
         wanted = [("row or entry", "rows or entries", node.counts[0], node.items), ("child", "children", 0, node.children)]
     else:
@@ -205,7 +224,7 @@ def expect_counts(node):
             raise Broken(f"its line '{node.line}' has {len(found)} {one if len(found) == 1 else many} below it, and has to have {count}")
 
 
-def expect_height(node, height, depth):
+def expect_height(node: Node, height: int, depth: int) -> None:
     """That each leaf is as deep as the height says."""
     if node.is_leaf and depth != height:
         raise Broken(f"its height is {height}, and a leaf of it, '{node.line}', is at height {depth}")
@@ -218,15 +237,15 @@ def expect_height(node, height, depth):
 TEXT_CODE = re.compile(r"((?:(?!00)..|00ff)*)0001", re.DOTALL)
 
 
-def fields_of(text):
+def fields_of(text: str) -> list[str]:
     """The fields of a record."""
     found = re.findall(r'(?:^|,)(?:"((?:[^"]|"")*)"|([^,]*))', text)
     return [quoted.replace('""', '"') if quoted else plain for quoted, plain in found]
 
 
-def values_of(key, kinds):
+def values_of(key: str, kinds: Sequence[str]) -> list[str] | None:
     """The values that a key codes, where its columns have these kinds, or None."""
-    values = []
+    values: list[str] = []
     for kind in kinds:
         if kind == "int" and len(key) >= 16:
             value, key = str(int(key[:16], 16) - 2**63), key[16:]
@@ -241,7 +260,7 @@ def values_of(key, kinds):
     return values if key == "" else None
 
 
-def kinds_of_keys(root):
+def kinds_of_keys(root: Node) -> tuple[str, ...]:
     """The kinds of the key's columns, where all rows of the tree begin with the values of one way to read their keys."""
     rows = [item for node in root.nodes() for item in node.items if item[0] in "=+"]
     samples = [(key, fields_of(text)) for _, key, text in rows[:200]]
