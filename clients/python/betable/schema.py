@@ -121,6 +121,8 @@ def trees_after(trees: Trees, command: Command, reply: bytes) -> Trees:
         index = index_of(command.head)
         kinds, key = dict(trees.columns), [one for one, _ in trees.key]
         names = [*index.on, *key, *index.included]
+        if not kinds.keys() >= set(names):  # as only another program makes it
+            return trees
         return Trees([*trees, _tree(name, [(one.decode(), kinds[one].decode()) for one in names], len(index.on) + len(key), False)])
     if word == b"drop" and reply.startswith(b"dropped "):
         return Trees([tree for tree in trees if tree.name.encode() != name])
