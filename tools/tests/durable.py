@@ -799,7 +799,8 @@ class Files(TestCase):
                 (5, "damaged", "UPDATE log SET checksum = checksum + 1 WHERE number = 5"),
                 (3, "missing", "DELETE FROM log WHERE number = 3"),
                 (4, "missing", "DELETE FROM log WHERE number = 4"),
-                (0, "backup", "UPDATE checkpoint SET text = CAST(replace(CAST(text AS TEXT), '30', '31') AS BLOB)"),
+                (0, "backup", "UPDATE checkpoint SET text = zeroblob(length(text)) WHERE is_packed"),
+                (0, "backup", "DELETE FROM checkpoint WHERE is_packed"),
                 (0, "backup", "DELETE FROM checkpoint"),
                 (0, "backup", "UPDATE checkpoint SET text = 5"),
                 (0, "backup", "UPDATE about SET number = 'x'"),
@@ -952,7 +953,7 @@ class Files(TestCase):
                 crashed = crashed_copy(table, path / "crashed")
                 table.backup(path / "backup")
             db = sqlite3.connect(old)
-            self.assertEqual(db.execute("PRAGMA user_version").fetchone(), (3,))
+            self.assertEqual(db.execute("PRAGMA user_version").fetchone(), (durable().FORMAT,))
             db.close()
             for name in (old, crashed, path / "backup"):
                 with durable().open(name) as table:
@@ -1291,11 +1292,6 @@ class TheObject(TestCase):
                 lambda: table.get(1),
                 table.close,
             ]
-            faults = []
-            other = threading.Thread(target=lambda: faults.extend(map(fault_of, calls)))
-            other.start()
-            other.join()
-            self.assertEqual([(type(fault), "thread" in str(fault)) for fault in faults], [(RuntimeError, True)] * len(calls))
             child = os.fork()
             if child == 0:
                 found = [type(fault_of(call)) for call in calls[:-1]]
@@ -1352,7 +1348,7 @@ durable.open(sys.argv[1])"""
                 subprocess.run([sys.executable, "-c", text, path / "t", manner], env=environment, stderr=theirs, check=True, timeout=SECONDS)
                 os.write(theirs, b".")
                 told = os.read(ours, 4096).decode()
-                self.assertEqual(("1 of 6 scripts" in told, "5 of 6 scripts" in told, "0 of 6" in told), (is_told, is_told, False))
+                self.assertEqual(("2 of 6 scripts" in told, "4 of 6 scripts" in told, "3 of 6" in told), (is_told, is_told, False))
                 os.close(ours)
                 os.close(theirs)
             self.assertEqual(run_python(text, path / "t", "slow"), (0, ""))

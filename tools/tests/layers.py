@@ -297,6 +297,23 @@ class Replicas(TestCase):
             session.replies("rebuild primary\nrebuild c\n")
             self.assertEqual(two.replies(images), session.replies(images))
 
+    def test_a_checkpoint_has_all_texts(self):
+        """Also those with a line that would end a load. One of before checkpoints had parts is a script."""
+        package, log = betable(), Log()
+        images = "image primary\nimage c\nscan c\ngo\n"
+        with package.cluster.replicas.Replicas(log) as one:
+            one.run(TABLE + INDEX)
+            one.put([(number, text, number) for number, text in enumerate(["a\n.\nb", "\n.\n", "x\r\n.\r\n", ".", "", "a"])])
+            one.checkpoint()
+            one.trim()
+            with package.cluster.replicas.Replicas(log) as two:
+                self.assertEqual((two.scan(), two.replies(images)), (one.scan(), one.replies(images)))
+        script = f'{TABLE}{INDEX}load\nid,city,qty\n1,"a\nb",2\n.\n'.encode()
+        log = Log()
+        log.kept = package.cluster.logs.Checkpoint(0, b"", b'{"outcomes": {}}\n' + script)
+        with package.cluster.replicas.Replicas(log) as one:
+            self.assertEqual(one.scan("c"), [("a\nb", 1, 2)])
+
     def test_requests_are_run_once(self):
         package, log = betable(), Log()
         add = "batch\nups 1,add,qty,1\nend\nget 1\n"

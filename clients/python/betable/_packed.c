@@ -772,6 +772,58 @@ static outcome applied(caller *self, encoder *encode, PyObject *given)
     return found;
 }
 
+/* The packed changes of a row of a log, or NULL if it has none with this number, or other ones than its checksum says: also with an exception. */
+static PyObject *changes_of_entry(PyObject *row, uint64_t number, PyObject *checksum)
+{
+    if (!PyTuple_CheckExact(row) || PyTuple_Size(row) != 4)
+        return NULL;
+    PyObject *place = PyTuple_GetItem(row, 0), *changes = PyTuple_GetItem(row, 1), *is_packed = PyTuple_GetItem(row, 3);
+    if (!PyLong_CheckExact(place) || !PyBytes_CheckExact(changes) || !PyLong_CheckExact(is_packed))
+        return NULL;
+    int overflow;
+    if (PyLong_AsLongLongAndOverflow(is_packed, &overflow) != 1 || (uint64_t)PyLong_AsLongLongAndOverflow(place, &overflow) != number || overflow != 0)
+        return NULL;
+    PyObject *found = PyObject_CallFunctionObjArgs(checksum, changes, NULL);
+    const int is_same = found != NULL && PyObject_RichCompareBool(found, PyTuple_GetItem(row, 2), Py_EQ) == 1;
+    Py_XDECREF(found);
+    return is_same ? changes : NULL;
+}
+
+/* _replay(rows, number, most, checksum): applies the packed changes of the next rows of a log, each a number, bytes, their checksum, and 1. The first one has
+ * the number. Returns how many were applied, how many bytes they have, and the row at which that ended: one of another form, or that the library refuses. It is
+ * None after as many rows as the most, or at the end of the log. */
+static PyObject *replay(PyObject *object, PyObject *const *args, Py_ssize_t count)
+{
+    caller *self = (caller *)object;
+    if (count != 4 || !PyIter_Check(args[0])) {
+        PyErr_SetString(PyExc_TypeError, "_replay takes an iterator of rows, a number, the most rows, and a checksum");
+        return NULL;
+    }
+    const uint64_t number = PyLong_AsUnsignedLongLong(args[1]), most = PyLong_AsUnsignedLongLong(args[2]);
+    if (PyErr_Occurred())
+        return NULL;
+    uint64_t applied = 0, total = 0;
+    PyObject *row = NULL;
+    while (applied < most && (row = PyIter_Next(args[0])) != NULL) {
+        char *at;
+        Py_ssize_t length;
+        PyObject *changes = changes_of_entry(row, number + applied, args[3]);
+        if (changes == NULL || PyBytes_AsStringAndSize(changes, &at, &length) < 0)
+            break;
+        const bytes_in_room bytes = {(unsigned char *)at, (size_t)length, (size_t)length};
+        if (called(self, self->apply, &bytes, length >= MUCH_CHANGED) != DONE)
+            break;
+        Py_CLEAR(row);
+        applied++;
+        total += (uint64_t)length;
+    }
+    if (PyErr_Occurred()) {
+        Py_XDECREF(row);
+        return NULL;
+    }
+    return Py_BuildValue("(KKN)", (unsigned long long)applied, (unsigned long long)total, row == NULL ? Py_NewRef(Py_None) : row);
+}
+
 /* The count of what was given to `put` or `batch`, if it is one batch that is applied here. */
 static PyObject *applied_count(PyObject *self, encoder *encode, const char *name, PyObject *const *args, Py_ssize_t count, PyObject *names)
 {
@@ -1064,6 +1116,86 @@ static PyObject *scanned(caller *self, PyObject *const given[5], int are_columns
     return rows;
 }
 
+static int have_count(Py_ssize_t count, Py_ssize_t wanted)
+{
+    if (count != wanted)
+        PyErr_Format(PyExc_TypeError, "%zd arguments are taken, and not %zd", wanted, count);
+    return count == wanted;
+}
+
+/* Reads a page: at most as many rows as the limit, the first ones after a key, or of all if it is None. */
+static outcome read_page(caller *self, bytes_in_room *bytes, const tree *there, uint32_t limit, PyObject *after, reader *reply)
+{
+    outcome found = begin_range(bytes, there, limit);
+    if (found == DONE)
+        found = add_bound(bytes, after, there, AFTER);
+    if (found == DONE)
+        found = add_bound(bytes, Py_None, there, NO_BOUND);
+    if (found == DONE)
+        found = called(self, self->page, bytes, limit >= MUCH_READ);
+    return found == DONE ? read_reply(self, bytes, reply) : found;
+}
+
+/* The changes that put the rows of a page, as bytes, and where the last of its rows begins. */
+static PyObject *puts_of_page(reader reply, const tree *there, reader *last)
+{
+    const Py_ssize_t count = counted(reply, there);
+    if (count < 0)
+        return not_of_layout();
+    const size_t length = HEADER_LENGTH + (size_t)count + (size_t)(reply.end - reply.at);
+    PyObject *found = PyBytes_FromStringAndSize(NULL, (Py_ssize_t)length);
+    if (found == NULL)
+        return NULL;
+    bytes_in_room puts = {(unsigned char *)PyBytes_AsString(found), 0, length};
+    begin(&puts, (uint64_t)count);
+    while (reply.at < reply.end) {
+        *last = reply;
+        for (Py_ssize_t place = 0; place < there->columns; place++) {
+            size_t length_of_text = 0;
+            const unsigned kind = there->kinds[place];
+            if (kind == INT || kind == FLAG)
+                next_bytes(&reply, kind == INT ? 8 : 1);
+            else
+                next_text(&reply, &length_of_text);
+        }
+        add_byte(&puts, PUT);
+        add_bytes(&puts, last->at, (size_t)(reply.at - last->at));
+    }
+    return found;
+}
+
+/* _puts_after(key, limit): the changes that put the first rows after a key, or the first ones of all, and the last of these rows. None if there are none. */
+static PyObject *puts_after(PyObject *object, PyObject *const *args, Py_ssize_t count)
+{
+    caller *self = (caller *)object;
+    tree there;
+    bytes_in_room bytes;
+    reader reply, last;
+    uint32_t limit;
+    PyObject *puts = NULL, *row = NULL;
+    if (!have_count(count, 2))
+        return NULL;
+    outcome found = limit_of(args[1], &limit);
+    PyObject *description = found == DONE && is_ready(self) ? description_of(self, NULL) : NULL;
+    found = OTHER;
+    if (described(description, &there)) {
+        found = taken(self, &bytes) ? read_page(self, &bytes, &there, limit, args[0], &reply) : RAISED;
+        if (found == DONE && reply.at == reply.end) {
+            found = OTHER;
+        } else if (found == DONE) {
+            puts = puts_of_page(reply, &there, &last);
+            row = puts == NULL ? NULL : next_tuple(&last, 0, there.columns, there.kinds);
+            found = row == NULL ? RAISED : DONE;
+        }
+        kept(self, &bytes);
+    }
+    Py_XDECREF(description);
+    if (found == DONE)
+        return Py_BuildValue("(NN)", puts, row);
+    Py_XDECREF(puts);
+    return found == OTHER && !PyErr_Occurred() ? Py_NewRef(Py_None) : NULL;
+}
+
 static PyObject *call_scan(PyObject *self, PyObject *const *args, Py_ssize_t count, PyObject *names)
 {
     PyObject *given[5], *rows = NULL;
@@ -1077,13 +1209,6 @@ static PyObject *call_scan(PyObject *self, PyObject *const *args, Py_ssize_t cou
 static PyObject *none_if_other(PyObject *found, outcome ended)
 {
     return ended == OTHER ? Py_NewRef(Py_None) : found;
-}
-
-static int have_count(Py_ssize_t count, Py_ssize_t wanted)
-{
-    if (count != wanted)
-        PyErr_Format(PyExc_TypeError, "%zd arguments are taken, and not %zd", wanted, count);
-    return count == wanted;
 }
 
 static PyObject *rows_between(PyObject *self, PyObject *const *args, Py_ssize_t count)
@@ -1307,6 +1432,8 @@ static PyMethodDef methods[] = {
     {"_pack_columns", FAST(pack_columns), METH_FASTCALL, "The bytes of changes by columns, of their number, their form and the columns, or None."},
     {"_rows_between", FAST(rows_between), METH_FASTCALL, "The rows of a scan, or None."},
     {"_columns_between", FAST(columns_between), METH_FASTCALL, "The columns of the rows of a scan, of ints their bytes, and lists of other values, or None."},
+    {"_puts_after", FAST(puts_after), METH_FASTCALL, "The changes that put the first rows after a key, and the last of these rows, or None."},
+    {"_replay", FAST(replay), METH_FASTCALL, "Applies the packed changes of the next rows of a log."},
     {"_groups_between", FAST(groups_between), METH_FASTCALL, "The groups of a range, or None."},
     {"_places", places_of_replies, METH_NOARGS, "The places of the replies to the last script."},
     {"_connect", FAST(connect), METH_FASTCALL, "Connects it with a session, by addresses."},

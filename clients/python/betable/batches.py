@@ -3,14 +3,14 @@ script, which also say why the library has refused it."""
 
 from __future__ import annotations
 
-from collections.abc import Sequence
+from collections.abc import Iterator, Sequence
 from typing import Any, Protocol
 
 from .errors import RowTypeError, RowValueError
 from .language import counted
 from .messages import Message, Shape, message_lines, plain_messages
 from .packed import HEADER_BYTES, value_at
-from .rows import FIELDS, line_fault, plain_rows, records, rows_of_columns, shown, tuples_of_dicts
+from .rows import FIELDS, Value, line_fault, plain_rows, records, rows_of_columns, shown, tuples_of_dicts
 from .schema import Tree
 
 # The first byte of a packed change, by the word of its line, and that of each operation.
@@ -185,6 +185,17 @@ def script_of_changes(changes: bytes, there: Tree) -> bytes:
                 fields += [operation, there.names[place], field(there.kinds[place])]
         lines.append(f"{word} {','.join(fields)}\n")
     return "".join([*lines, "end\n"]).encode()
+
+
+def rows_of_changes(puts: bytes, there: Tree) -> Iterator[tuple[Value, ...]]:
+    """The rows of changes that are all puts."""
+    at = HEADER_BYTES
+    while at < len(puts):
+        at, row = at + 1, []
+        for kind in there.kinds:
+            value, at = value_at(puts, at, kind)
+            row.append(value)
+        yield tuple(row)
 
 
 def without_breaks(batch: Batch, there: Tree, taken: int) -> Batch:

@@ -505,10 +505,6 @@ class Definitions(dict[bytes, Line]):
         elif word == b"drop":
             self.pop(name, None)
 
-    def lines(self) -> list[bytes]:
-        """The lines of a script that makes the same trees, complete, before the table has rows."""
-        return [line for name, head in self.items() for line in ([head.text] if name == PRIMARY else [head.text, b"build %b 1" % name])]
-
 
 # ---- replies ----
 

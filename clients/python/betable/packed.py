@@ -3,7 +3,8 @@
 from __future__ import annotations
 
 import struct
-from typing import NamedTuple
+from collections.abc import Callable, Iterator, Sequence
+from typing import Any, NamedTuple
 
 from .rows import Value
 from .schema import Tree, TreeColumn, Trees
@@ -11,6 +12,7 @@ from .schema import Tree, TreeColumn, Trees
 MAGIC = b"BTV\x01"
 HEADER_OF_NONE, HEADER_OF_ONE = (struct.pack("<4sI", MAGIC, number) for number in range(2))
 HEADER_BYTES = len(HEADER_OF_ONE)
+PUT = b"\0"  # begins a change that puts a row
 USAGE = struct.Struct("<4s3Q")
 # The state of a tree, and the numbers of its key columns and of all.
 TREE = struct.Struct("<B2Q")
@@ -46,6 +48,22 @@ def description(tree: Tree) -> bytes:
 def _text(text: str) -> bytes:
     encoded = text.encode()
     return bytes([len(encoded)]) + encoded
+
+
+# By kind: the bytes of a value.
+VALUE_BYTES: dict[str, Callable[[Any], bytes]] = {
+    "int": struct.Struct("<q").pack, "text": _text, "flag": struct.Struct("<?").pack, "bytes": lambda value: bytes([len(value)]) + bytes(value),
+}  # fmt: skip
+
+
+def puts_of_rows(rows: Sequence[Sequence[Value]], kinds: Sequence[str]) -> bytes:
+    """The changes that put rows, which the extension makes in less time."""
+    writers = [VALUE_BYTES[kind] for kind in kinds]
+    parts = [struct.pack("<4sI", MAGIC, len(rows))]
+    for row in rows:
+        parts.append(PUT)
+        parts += [write(value) for write, value in zip(writers, row)]
+    return b"".join(parts)
 
 
 def value_at(packed: bytes, at: int, kind: str) -> tuple[Value, int]:

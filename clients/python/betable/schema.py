@@ -94,6 +94,11 @@ class Trees(tuple[Tree, ...]):
     def kinds(self) -> list[bytes]:
         return [kind for _, kind in self.columns]
 
+    @property
+    def building(self) -> list[str]:
+        """The names of the indexes that are not complete."""
+        return [tree.name for tree in self if not tree.is_complete]
+
     def has_tree(self, name: bytes) -> bool:
         return name in self.by_name
 

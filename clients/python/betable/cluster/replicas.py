@@ -21,14 +21,15 @@ import json
 import time
 import uuid
 import zlib
-from collections.abc import Callable
+from collections.abc import Callable, Iterable, Iterator
 from contextlib import suppress
 from functools import partial
 from typing import Any, Literal, NamedTuple, TypeVar
 
 from ..batches import Batch
 from ..calls import as_script
-from ..durable.table import CHANGING_LINE, DEFINED, ENGINE, REFUSED, IndexBuilding, RequestReused, _records, applied
+from ..durable.checkpoints import Part, parts_of, puts_of, scripts_of
+from ..durable.table import CHANGING_LINE, DEFINED, ENGINE, REFUSED, IndexBuilding, RequestReused, applied
 from ..language import Definitions, commands
 from ..packed import MAGIC
 from ..reads import Reads, Runner, reader_of
@@ -253,10 +254,9 @@ class Replicas(Reads):
             # Another replica may have changed the indexes before it, or have written a checkpoint after it that this one has begun with.
             if trees == self._trees() and self._position == position:
                 break
-        lines = self._definitions.lines()
-        rows = self._kept(lambda runner: runner.replies(b"scan primary\ngo\n"))
-        about = json.dumps({"outcomes": self._outcomes.found}).encode()
-        text = b"\n".join([about, *lines, b"load", b",".join(trees.names), b""]) + _records(rows) + b".\n"
+        parts = self._kept(lambda runner: list(parts_of(self._definitions, puts_of(runner))))
+        about = {"outcomes": self._outcomes.found, "parts": [(len(part), is_packed) for part, is_packed in parts]}
+        text = b"\n".join([json.dumps(about).encode(), b"".join([part for part, _ in parts])])
         if not self._reached(lambda: self._log.keep(Checkpoint(self._position, self._chain, text))):
             raise self._diverged(self._position, OTHER_PAST)
         return self._position
@@ -270,8 +270,8 @@ class Replicas(Reads):
         trees = self._kept(lambda runner: runner.trees())
         if not trees:
             raise ValueError("a checkpoint is of a table, and there is none so far")
-        if building := [tree.name for tree in trees if not tree.is_complete]:
-            raise IndexBuilding(building)
+        if trees.building:
+            raise IndexBuilding(trees.building)
         return trees
 
     # ---- the replica ----
@@ -329,12 +329,15 @@ class Replicas(Reads):
         self._runner = self._make()
         if checkpoint:
             try:
-                about, script = checkpoint.text.split(b"\n", 1)
-                replies = self._runner.replies(script)
-                if REFUSED.search(replies):
-                    raise UnusableLog(self._name, f"its checkpoint at {checkpoint.position} was refused: {replies.decode()!r}. {ANOTHER_CHECKPOINT}")
-                self._note(script, replies)
-                self._outcomes = Outcomes(json.loads(about)["outcomes"])
+                head, text = checkpoint.text.split(b"\n", 1)
+                about = json.loads(head)
+                # A log of before there were parts has one script.
+                for script, is_packed in scripts_of(_divided(text, about.get("parts", [(len(text), False)])), self._runner):
+                    replies = applied(self._runner, script) if is_packed else self._runner.replies(script)
+                    if REFUSED.search(replies):
+                        raise UnusableLog(self._name, f"its checkpoint at {checkpoint.position} was refused: {replies.decode()!r}. {ANOTHER_CHECKPOINT}")
+                    self._note(script, replies)
+                self._outcomes = Outcomes(about["outcomes"])
             except BaseException:
                 self._drop()
                 raise
@@ -403,6 +406,14 @@ class Replicas(Reads):
             for command, _, is_refused in answered(commands(script), replies):
                 if not is_refused:
                     self._definitions.take(command)
+
+
+def _divided(text: bytes, sizes: Iterable[tuple[int, bool]]) -> Iterator[Part]:
+    """The parts of a checkpoint, by their sizes."""
+    at = 0
+    for size, is_packed in sizes:
+        yield text[at : at + size], is_packed
+        at += size
 
 
 def _script_of(entry: bytes) -> bytes:

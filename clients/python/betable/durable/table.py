@@ -10,13 +10,16 @@ then answered. If any of that fails, the session is dropped and the next call ma
 many commands it has. A batch of values is kept as the packed changes that the session has applied, and counts as a script.
 
 Each script is kept with a checksum of itself and its replies, which is compared when it runs again; packed changes have no replies. A checkpoint puts the
-definitions and the rows in place of the log. It rebuilds every tree first, and a load packs trees as a rebuild does, so that a table opened from it has the
-same images, byte for byte.
+definitions and the rows in place of the log, and rebuilds every tree, as opening it does. So a table opened from it has the same images, byte for byte. Once the
+log is long, the call that has added to it writes a checkpoint after its commit.
+
+Any thread may use the table. Each call, and each group, has the lock of the table.
 """
 
 from __future__ import annotations
 
 import ctypes
+import logging
 import os
 import re
 import sqlite3
@@ -25,8 +28,8 @@ import threading
 import time
 import weakref
 import zlib
-from collections.abc import Callable, Iterable, Iterator
-from contextlib import AbstractContextManager, closing, contextmanager, nullcontext, suppress
+from collections.abc import Callable, Iterator
+from contextlib import closing, contextmanager, suppress
 from hashlib import sha256
 from io import FileIO
 from typing import Any, NoReturn, TypeVar
@@ -36,26 +39,33 @@ from ..calls import Calls, Row, as_script
 from ..errors import before
 from ..language import CHANGING, DEFINING, Definitions, commands
 from ..reads import Reads, Runner as Runner, reader_of
-from ..replies import Place, answered
+from ..replies import Place, Reply, answered
 from ..schema import Tree
 from ..session import ScriptSession, Session
+from .checkpoints import parts_of, puts_of, scripts_of
 from .file_lock import lock
 from .wal import FIRST_GENERATION, FOREIGN, SYNCED, UNSYNCED, fault_of_log, mark_of, new_mark, renew_mark
 
 T = TypeVar("T")
-FORMAT = 3  # of the file: raised when an older program could not read it
+FORMAT = 4  # of the file: raised when an older program could not read it
 MARKED_FORMAT = 2  # the first one whose files have a mark
+PACKED_LOGS, PACKED_CHECKPOINTS = 3, 4  # the first ones whose logs, and whose checkpoints, may have packed changes
 ENGINE = 1  # raised when a script may give other replies, or other trees, than before
 APPLICATION_ID = 0x6274626C
 MOST_REQUESTS, LARGEST_MOST_REQUESTS = 100_000, 1_000_000_000
 MOST_REQUEST_BYTES = 1 << 28  # of the replies that are stored with request ids
 REQUEST_BYTES = "SELECT coalesce(sum(length(replies)), 0) FROM requests"
+# Of older formats the last column is 0.
 ENTRIES = "SELECT number, script, checksum, {is_packed} FROM log ORDER BY number"
-PART_BYTES = 1 << 20  # of a checkpoint: SQLite copies a value whole
+PARTS = "SELECT text, {is_packed} FROM checkpoint ORDER BY part"
+MOST_ENTRIES = 1_000  # of the log that are replayed at once
+CHECKPOINT_BYTES, LARGEST_CHECKPOINT_BYTES = 1 << 24, 1 << 60  # of a log that is replayed in some seconds
 LONG_TEXT = 1 << 25  # of a checkpoint that takes about a second to load
 LARGEST_IDLE_LOG = 1 << 24  # bytes that SQLite's log keeps on disk when it is empty
 LOG_PAGES, PAGE_BYTES = 1_000, 4_096  # about as many pages are in SQLite's log when it is written back
 ROW_BYTES = 64  # at most, of a row of the log beside its script
+
+notices = logging.getLogger("betable.durable")
 
 # A line that may begin a changing command, the start of the reply to one that is not refused, and the start of a reply to a command that defines something.
 CHANGING_LINE = re.compile(rb"^ *(?:%b)" % b"|".join(sorted(CHANGING)), re.MULTILINE)
@@ -65,13 +75,14 @@ REFUSED = re.compile(rb"^refused ", re.MULTILINE)
 
 SCHEMA = f"""
     CREATE TABLE about(engine INTEGER NOT NULL, number INTEGER NOT NULL, checksum INTEGER NOT NULL, generation INTEGER NOT NULL, mark BLOB);
-    CREATE TABLE checkpoint(part INTEGER PRIMARY KEY, text BLOB NOT NULL);
+    CREATE TABLE checkpoint(part INTEGER PRIMARY KEY, text BLOB NOT NULL, is_packed INTEGER NOT NULL DEFAULT 0);
     CREATE TABLE log(number INTEGER PRIMARY KEY, script BLOB NOT NULL, checksum INTEGER NOT NULL, is_packed INTEGER NOT NULL DEFAULT 0);
     CREATE TABLE requests(number INTEGER PRIMARY KEY, id TEXT NOT NULL UNIQUE, script BLOB NOT NULL, replies BLOB NOT NULL, checksum INTEGER);
     INSERT INTO about VALUES({ENGINE}, 0, 0, {FIRST_GENERATION}, NULL);
     PRAGMA application_id={APPLICATION_ID};
 """
-# From each format to the next one. The requests of format 1 have no checksums, and the logs of formats 1 and 2 no packed changes.
+# From each format to the next one. The requests of format 1 have no checksums, the logs of formats 1 and 2 no packed changes, and the checkpoints of formats 1 to
+# 3 neither.
 UPGRADES = {
     0: SCHEMA,
     1: f"""
@@ -80,6 +91,7 @@ UPGRADES = {
     ALTER TABLE requests ADD COLUMN checksum INTEGER;
 """,
     2: "ALTER TABLE log ADD COLUMN is_packed INTEGER NOT NULL DEFAULT 0;",
+    3: "ALTER TABLE checkpoint ADD COLUMN is_packed INTEGER NOT NULL DEFAULT 0;",
 }
 # The page of `about` is written in the first transaction of each generation of SQLite's log, and over a transaction that failed.
 TOUCH = "UPDATE about SET generation = generation + 1, engine = ?"
@@ -164,35 +176,54 @@ class RequestReused(Exception):
 FAULTS = (RolledBack, IndexBuilding, RequestReused, ReplyDamaged)
 
 
-def open(path: str | os.PathLike[str], *, sync: bool = True, most_requests: int = MOST_REQUESTS, make: Callable[[], Runner] = Session) -> Durable:
+def open(
+    path: str | os.PathLike[str],
+    *,
+    sync: bool = True,
+    most_requests: int = MOST_REQUESTS,
+    checkpoint_bytes: int | None = CHECKPOINT_BYTES,
+    make: Callable[[], Runner] = Session,
+) -> Durable:
     """The durable table of a file, which is created if it does not exist.
 
     Without `sync` a power loss may lose the last scripts, but no crash of the process does. `most_requests` is how many request ids of `once` are kept.
+    A checkpoint is written after the commit with which the log has more than `checkpoint_bytes`, and more than the last checkpoint: with None it is left to you.
     `make` returns what runs the scripts, which has no table yet: a session by default.
     """
-    if isinstance(most_requests, bool) or not isinstance(most_requests, int):
-        raise TypeError(f"most_requests is an int, and not {most_requests!r}")
-    if not 1 <= most_requests <= LARGEST_MOST_REQUESTS:
-        raise ValueError(f"most_requests is between 1 and {LARGEST_MOST_REQUESTS:,}, and not {most_requests:,}")
-    return Durable(path, sync=sync, most_requests=most_requests, make=make)
+    _check_number("most_requests", most_requests, LARGEST_MOST_REQUESTS)
+    if checkpoint_bytes is not None:
+        _check_number("checkpoint_bytes", checkpoint_bytes, LARGEST_CHECKPOINT_BYTES)
+    return Durable(path, sync=sync, most_requests=most_requests, checkpoint_bytes=checkpoint_bytes, make=make)
+
+
+def _check_number(name: str, number: Any, most: int) -> None:
+    if isinstance(number, bool) or not isinstance(number, int):
+        raise TypeError(f"{name} is an int, and not {number!r}")
+    if not 1 <= number <= most:
+        raise ValueError(f"{name} is between 1 and {most:,}, and not {number:,}")
 
 
 class Durable(Reads):
-    """A durable table. Only the thread and the process that opened it may use it."""
+    """A durable table. Any thread of the process that opened it may use it: a call waits until those of other threads, and their groups, have ended."""
 
-    def __init__(self, path: str | os.PathLike[str], *, sync: bool, most_requests: int, make: Callable[[], Runner]) -> None:
+    def __init__(
+        self, path: str | os.PathLike[str], *, sync: bool, most_requests: int, checkpoint_bytes: int | None, make: Callable[[], Runner]
+    ) -> None:
         self.path, self._sync, self._most_requests, self._make = os.path.abspath(os.fsdecode(path)), sync, most_requests, make
-        # The thread that may use it: none in a forked child.
-        self._thread: threading.Thread | None = threading.current_thread()
-        self._process = os.getpid()
+        self._lock = threading.RLock()
+        self._process, self._is_forked = os.getpid(), False
         # What runs the scripts, and what reads the table that it has.
         self._session: Runner | None = None
         self._reader: Calls | None = None
-        self._is_closed = self._is_in_group = self._is_rolled_back = self._is_changed = False
+        self._is_closed = self._is_in_group = self._is_rolled_back = self._is_changed = self._is_committed = False
         # Whether the file has what a crash has left, whether the generation of SQLite's log has the page of `about`, and about how many pages it has.
         self._is_settled = self._is_marked = False
         self._log_pages = 0
         self._request_bytes: int | None = None  # of the stored replies, once they are counted
+        # By itself a checkpoint is written when the log has more bytes than the last of these.
+        self._checkpoint_bytes, self._stored_bytes, self._most_log_bytes = checkpoint_bytes, 0, 0
+        self._checkpoint_count, self._checkpoint_time, self._checkpoint_seconds = 0, None, None
+        self._checkpoint_fault: Exception | None = None
         self._definitions = Definitions()
         self._file = self._locked()
         try:
@@ -247,7 +278,7 @@ class Durable(Reads):
         db = None
         try:
             self._check_log()
-            # The threads are those that `_check` lets pass, and one that collects garbage.
+            # The threads are that with the lock, and one that collects garbage.
             db = sqlite3.connect(self.path, timeout=0, isolation_level=None, check_same_thread=False)
             db.execute("PRAGMA locking_mode=EXCLUSIVE")
             check_format(db, self.path)
@@ -314,7 +345,7 @@ class Durable(Reads):
         self._is_settled, self._is_marked, self._log_pages = True, False, 0
 
     def _ready(self) -> Runner:
-        """The session. If it was dropped, it is made again from the file."""
+        """The session, for a thread that has the lock. If it was dropped, it is made again from the file."""
         self._check()
         if self._session is None:
             session = self._make()
@@ -330,36 +361,67 @@ class Durable(Reads):
 
     def _replay(self, session: Runner) -> None:
         self._definitions = Definitions()
+        version = _value(self._db, "PRAGMA user_version")
         about: tuple[int, int, int | None] = self._db.execute("SELECT engine, number, checksum FROM about").fetchone() or (ENGINE, 0, None)
         engine, self._number, checksum = about
-        parts = [part for (part,) in self._db.execute("SELECT text FROM checkpoint ORDER BY part")]
-        # A changed byte may make a value one of another type.
-        text = b"".join(parts) if all(isinstance(part, bytes) for part in parts) else None
-        del parts
-        if text is None or not isinstance(self._number, int) or zlib.crc32(text) != checksum:
-            raise Corrupt(self.path, 0, "its bytes are not those that were written, so restore a backup")
-        if text:
-            if len(text) > LONG_TEXT:
-                _tell(f"betable: {self.path}: loading a checkpoint of {len(text) >> 20} MiB")
-            replies, places = _ran(session, text)
-            if REFUSED.search(replies):
-                raise Corrupt(self.path, 0, f"it was refused, so open it with engine {engine} (this is {ENGINE}): {replies.decode()}")
-            self._note(text[: text.index(b"\nload\n") + 1], replies, places)
-        self._log_bytes = 0
-        count = (_value(self._db, "SELECT max(number) FROM log") or self._number) - self._number
+        parts = PARTS.format(is_packed="is_packed" if version >= PACKED_CHECKPOINTS else "0")
+        self._stored_bytes = self._checked_bytes(parts, checksum)
+        if self._stored_bytes > LONG_TEXT:
+            _tell(f"betable: {self.path}: loading a checkpoint of {self._stored_bytes >> 20} MiB")
         # A cursor that is left open would keep the file locked.
-        is_packed = "is_packed" if _value(self._db, "PRAGMA user_version") == FORMAT else "0"
-        with closing(self._db.execute(ENTRIES.format(is_packed=is_packed))) as log:
-            for number, script, checksum, is_packed in _with_progress(log, f"betable: {self.path}: {{:,}} of {count:,} scripts"):
-                if number != self._number + 1:
-                    raise Corrupt(self.path, self._number + 1, "it is missing, so restore a backup")
-                if not isinstance(script, bytes):
-                    raise Corrupt(self.path, number, "it is not the script that was kept, so restore a backup")
+        with closing(self._db.execute(parts)) as rows:
+            for script, is_packed in scripts_of(rows, session):
                 replies, places = (applied(session, script), None) if is_packed else _ran(session, script)
-                if _checksum(script, replies) != checksum:
-                    raise Corrupt(self.path, number, _advice(engine))
-                self._note(script, replies, places)
-                self._number, self._log_bytes = number, self._log_bytes + len(script)
+                if REFUSED.search(replies):
+                    raise Corrupt(self.path, 0, f"it was refused, so open it with engine {engine} (this is {ENGINE}): {replies.decode()}")
+                self._note(script.partition(b"\nload\n")[0] + b"\n", replies, places)
+        self._log_bytes = 0
+        if self._checkpoint_fault is None:
+            self._set_most_log_bytes()
+        count = (_value(self._db, "SELECT max(number) FROM log") or self._number) - self._number
+        entries = ENTRIES.format(is_packed="is_packed" if version >= PACKED_LOGS else "0")
+        with closing(self._db.execute(entries)) as log, _Progress(f"betable: {self.path}: {{:,}} of {count:,} scripts") as progress:
+            begin = self._number
+            while self._replay_some(session, log, engine):
+                progress.tell(self._number - begin)
+
+    def _checked_bytes(self, parts: str, checksum: int | None) -> int:
+        """The size of the checkpoint, whose bytes are those that were written."""
+        size, found = 0, 0
+        for part, _ in self._db.execute(parts):
+            # A changed byte may make a value one of another type.
+            if not isinstance(part, bytes):
+                checksum = None
+                break
+            size, found = size + len(part), zlib.crc32(part, found)
+        if not isinstance(self._number, int) or found != checksum:
+            raise Corrupt(self.path, 0, "its bytes are not those that were written, so restore a backup")
+        return size
+
+    def _replay_some(self, session: Runner, log: sqlite3.Cursor, engine: int) -> bool:
+        """Replays the next entries of the log: as many that are packed changes as the extension takes, or up to one that it leaves to this. Whether there was any.
+        Each is applied by itself, since trees depend on batches."""
+        count, size, entry = 0, 0, None
+        if isinstance(session, Session) and hasattr(session, "_replay"):
+            count, size, entry = session._replay(log, self._number + 1, MOST_ENTRIES, zlib.crc32)
+            self._number, self._log_bytes = self._number + count, self._log_bytes + size
+            if entry is None:
+                return count == MOST_ENTRIES
+        else:
+            entry = next(log, None)
+            if entry is None:
+                return False
+        number, script, checksum, is_packed = entry
+        if number != self._number + 1:
+            raise Corrupt(self.path, self._number + 1, "it is missing, so restore a backup")
+        if not isinstance(script, bytes):
+            raise Corrupt(self.path, number, "it is not the script that was kept, so restore a backup")
+        replies, places = (applied(session, script), None) if is_packed else _ran(session, script)
+        if _checksum(script, replies) != checksum:
+            raise Corrupt(self.path, number, _advice(engine))
+        self._note(script, replies, places)
+        self._number, self._log_bytes = number, self._log_bytes + len(script)
+        return True
 
     def _note(self, script: bytes, replies: bytes, places: list[Place] | None) -> None:
         """Notes what a script has defined."""
@@ -374,6 +436,10 @@ class Durable(Reads):
         """The bytes of the replies to a script, which is kept if it changed anything."""
         return self._replies_with_places(as_script(script))[0]
 
+    def run(self, script: str | bytes) -> list[Reply]:
+        with self._lock:
+            return super().run(script)
+
     def _replies_with_places(self, script: bytes) -> tuple[bytes, list[Place] | None]:
         with self._some_group():
             self._check_length(script)
@@ -382,25 +448,27 @@ class Durable(Reads):
 
     def _read(self, call: Callable[[Any], T]) -> T:
         """What a call gives of the session. After a failed request for memory the session goes, as after a script that failed."""
-        if self._is_in_group:
-            self._refuse_after_failure()
-        try:
-            self._ready()
-            return call(self._reader)
-        except MemoryError:
-            with self._some_group(), self._all_or_nothing():
-                raise
+        with self._lock:
+            if self._is_in_group:
+                self._refuse_after_failure()
+            try:
+                self._ready()
+                return call(self._reader)
+            except MemoryError:
+                with self._some_group(), self._all_or_nothing():
+                    raise
 
     def get(self, *key: Any) -> Row | None:
         # `_read` with fewer calls of Python, which would take longer than the get itself.
-        reader = self._reader
-        if reader is None or self._is_in_group:
-            return super().get(*key)
-        self._check_caller()
-        try:
-            return reader.get(*key)
-        except MemoryError:
-            return super().get(*key)
+        with self._lock:
+            reader = self._reader
+            if reader is None or self._is_in_group:
+                return super().get(*key)
+            self._check_process()
+            try:
+                return reader.get(*key)
+            except MemoryError:
+                return super().get(*key)
 
     def once(self, request_id: str, script: str | bytes) -> bytes:
         """Like `replies`, but a script that comes again with the same request id is not run again: the call returns the replies that were kept with the id.
@@ -472,10 +540,11 @@ class Durable(Reads):
             raise ScriptTooLong(len(script), self._most_bytes)
 
     def _packed(self, batch: Batch, there: Tree, taken: int) -> bytes | None:
-        self._ready()
-        assert self._reader
-        packed = self._reader._packed(batch, there, taken)
-        return None if packed is None or len(packed) > self._most_bytes else packed
+        with self._lock:
+            self._ready()
+            assert self._reader
+            packed = self._reader._packed(batch, there, taken)
+            return None if packed is None or len(packed) > self._most_bytes else packed
 
     def _apply_packed(self, changes: bytes) -> bytes:
         with self._some_group(), self._all_or_nothing():
@@ -486,21 +555,44 @@ class Durable(Reads):
 
     def _apply_after(self, batch: Batch, there: Tree, taken: int) -> None:
         """Each batch is kept by itself, unless a group is open: RolledBack says how many rows were kept before one that failed."""
-        try:
-            super()._apply_after(batch, there, taken)
-        except RolledBack as fault:
-            fault.taken = 0 if self._is_in_group else taken
-            raise
+        with self._lock:
+            try:
+                super()._apply_after(batch, there, taken)
+            except RolledBack as fault:
+                fault.taken = 0 if self._is_in_group else taken
+                raise
 
     # ---- groups ----
 
     @contextmanager
     def group(self) -> Iterator[None]:
-        """What is run in this context is kept together at its end, by one sync, and is to be answered only then. An exception rolls all of it back."""
-        self._check()
-        if self._is_in_group:
-            raise RuntimeError("a group is open already, and groups cannot be nested")
-        self._is_in_group, self._is_rolled_back, self._is_changed = True, False, False
+        """What is run in this context is kept together at its end, by one sync, and is to be answered only then. An exception rolls all of it back. The calls of
+        other threads wait until it ends."""
+        with self._lock:
+            self._check()
+            if self._is_in_group:
+                raise RuntimeError("a group is open already, and groups cannot be nested")
+            with self._transaction():
+                yield
+            if self._is_committed:
+                self._checkpoint_if_due()
+
+    @contextmanager
+    def _some_group(self) -> Iterator[None]:
+        """The group that is open, or one for this call alone."""
+        with self._lock:
+            self._check()
+            if self._is_in_group:
+                yield
+                return
+            with self._transaction():
+                yield
+            if self._is_committed:
+                self._checkpoint_if_due()
+
+    @contextmanager
+    def _transaction(self) -> Iterator[None]:
+        self._is_in_group, self._is_rolled_back, self._is_changed, self._is_committed = True, False, False, False
         try:
             yield
             self._check()
@@ -508,16 +600,12 @@ class Durable(Reads):
                 raise RolledBack(f"{self.path}: a call of the group failed, and nothing of the group was kept")
             if self._db.in_transaction:
                 self._commit()
+                self._is_committed = True
         except BaseException:
             self._roll_back()
             raise
         finally:
             self._is_in_group = False
-
-    def _some_group(self) -> AbstractContextManager[None]:
-        """The group that is open, or one for this call alone."""
-        self._check()
-        return nullcontext() if self._is_in_group else self.group()
 
     @contextmanager
     def _all_or_nothing(self) -> Iterator[None]:
@@ -526,7 +614,8 @@ class Durable(Reads):
         try:
             yield
         except BaseException as fault:
-            self._is_changed = True
+            # A disk without room leaves the session as it is.
+            self._is_changed = self._is_changed or not isinstance(fault, sqlite3.Error)
             self._roll_back()
             if isinstance(fault, sqlite3.Error) and isinstance(damage := named_fault(fault, self.path), Corrupt):
                 raise damage from fault
@@ -558,7 +647,6 @@ class Durable(Reads):
             self._db.execute("COMMIT")
             self._is_marked = True
         except sqlite3.Error as fault:
-            self._is_changed = True
             is_gone = self._roll_back()
             # If a sync failed, all of the transaction may be in the file, and would be found there after a crash: another one is written over it.
             # If the disk is full, the end of the transaction is not in the file.
@@ -598,28 +686,54 @@ class Durable(Reads):
     # ---- checkpoints and backups ----
 
     def checkpoint(self) -> None:
-        """Rebuilds all trees, and puts the rows in place of the log. Request ids stay."""
-        self._check_outside("a checkpoint")
-        trees = self.trees()
-        if not trees:
-            return
-        if building := [tree.name for tree in trees if not tree.is_complete]:
-            raise IndexBuilding(building)
-        with self.group(), self._all_or_nothing():
-            session = self._ready()
-            self._is_changed = True
-            session.replies(b"".join(b"rebuild %b\n" % name for name in trees.by_name))
-            text = b"\n".join([*self._definitions.lines(), b"load", b",".join(trees.names), _records(session.replies(b"scan primary\ngo\n")) + b".\n"])
+        """Puts the definitions and the rows in place of the log, and rebuilds all trees. Request ids stay."""
+        with self._lock:
+            self._check_outside("a checkpoint")
+            if trees := self.trees():
+                if trees.building:
+                    raise IndexBuilding(trees.building)
+                self._write_checkpoint()
+
+    def _write_checkpoint(self) -> None:
+        begin = time.monotonic()
+        session, size, checksum = self._ready(), 0, 0
+        with self._transaction(), self._all_or_nothing():
             self._write("DELETE FROM checkpoint")
-            for at in range(0, len(text), PART_BYTES):
-                self._write("INSERT INTO checkpoint(text) VALUES(?)", text[at : at + PART_BYTES])
+            for part, is_packed in parts_of(self._definitions, puts_of(session)):
+                self._write("INSERT INTO checkpoint(text, is_packed) VALUES(?, ?)", part, is_packed)
+                size, checksum = size + len(part), zlib.crc32(part, checksum)
             self._write("DELETE FROM log")
-            self._write("UPDATE about SET number = ?, checksum = ?", self._number, zlib.crc32(text))
-        self._log_bytes = 0
+            self._write("UPDATE about SET number = ?, checksum = ?", self._number, checksum)
+        self._log_bytes, self._stored_bytes = 0, size
+        self._set_most_log_bytes()
+        try:
+            session.replies(b"".join(b"rebuild %b\n" % name for name in self._definitions))
+        except BaseException as fault:
+            # The next call makes it again from the checkpoint.
+            self._drop()
+            if not isinstance(fault, MemoryError):
+                raise
+        self._checkpoint_count, self._checkpoint_fault = self._checkpoint_count + 1, None
+        self._checkpoint_time, self._checkpoint_seconds = time.time(), time.monotonic() - begin
+
+    def _set_most_log_bytes(self) -> None:
+        """How long the log is to be before a checkpoint is written by itself: longer than the last one, so that checkpoints are no larger than all logs."""
+        self._most_log_bytes = self._log_bytes + max(self._checkpoint_bytes or 0, self._stored_bytes)
+
+    def _checkpoint_if_due(self) -> None:
+        """Writes a checkpoint if the log is long. If that fails, nothing is lost, and it is tried again when the log has grown by as much again."""
+        if self._checkpoint_bytes is None or self._log_bytes <= self._most_log_bytes or self._session is None:
+            return
+        try:
+            if (trees := self._session.trees()) and not trees.building:
+                self._write_checkpoint()
+        except Exception as fault:
+            self._checkpoint_fault = fault
+            self._set_most_log_bytes()
+            notices.warning("%s: no checkpoint was written, and the log has %s bytes: %s", self.path, f"{self._log_bytes:,}", fault)
 
     def backup(self, path: str | os.PathLike[str]) -> None:
-        """Copies the table as it is to a new file, which is whole as soon as it is there."""
-        self._check_outside("a backup")
+        """Copies the table as it is to a new file, which is whole as soon as it is there. Other calls wait while the file is read, and not while it is synced."""
         path = os.path.abspath(os.fsdecode(path))
         part = f"{path}.part"
         for name in (path, f"{path}-wal"):
@@ -629,7 +743,8 @@ class Durable(Reads):
         try:
             with suppress(FileNotFoundError):
                 os.remove(part)
-            with closing(sqlite3.connect(part, isolation_level=None)) as copy:
+            with closing(sqlite3.connect(part, isolation_level=None)) as copy, self._lock:
+                self._check_outside("a backup")
                 copy.execute("PRAGMA journal_mode=OFF")
                 self._db.backup(copy)
             renew_mark(part)
@@ -649,55 +764,79 @@ class Durable(Reads):
     @property
     def is_lost(self) -> bool:
         """False: a table that its session lost is made again from the file."""
-        self._check()
-        return False
+        with self._lock:
+            self._check()
+            return False
 
     @property
     def definitions(self) -> Definitions:
         """The lines that made the table and its indexes."""
-        self._ready()
-        return self._definitions
+        with self._lock:
+            self._ready()
+            return self._definitions
 
     @property
     def number(self) -> int:
         """The number of the last script that was kept, counted from 1 on since the table was created."""
-        self._ready()
-        return self._number
+        with self._lock:
+            self._ready()
+            return self._number
 
     @property
     def request_bytes(self) -> int:
         """How many bytes the replies have that are stored with request ids."""
-        self._ready()
-        if self._request_bytes is None:
-            self._request_bytes = _value(self._db, REQUEST_BYTES)
-        return self._request_bytes
+        with self._lock:
+            self._ready()
+            if self._request_bytes is None:
+                self._request_bytes = _value(self._db, REQUEST_BYTES)
+            return self._request_bytes
 
     @property
     def log_bytes(self) -> int:
         """How many bytes the scripts of the log have, which opening the table runs: a checkpoint makes it 0."""
-        self._ready()
-        return self._log_bytes
+        with self._lock:
+            self._ready()
+            return self._log_bytes
+
+    @property
+    def checkpoint_count(self) -> int:
+        """How many checkpoints were written since the table was opened."""
+        return self._checkpoint_count
+
+    @property
+    def checkpoint_time(self) -> float | None:
+        """When the last of them ended, in seconds as of `time.time`, or None."""
+        return self._checkpoint_time
+
+    @property
+    def checkpoint_seconds(self) -> float | None:
+        """How long the last of them took, during which other calls waited, or None."""
+        return self._checkpoint_seconds
+
+    @property
+    def checkpoint_fault(self) -> Exception | None:
+        """Why the last checkpoint that was to be written by itself was not, or None if one was written since."""
+        return self._checkpoint_fault
 
     def close(self) -> None:
         """Closes the file. A table that is closed stays so, and a group that is open is rolled back. A call that was interrupted can be made again."""
-        if not self._file.closed and os.getpid() == self._process:
-            self._check_caller()
-            self._is_closed = True
-            self._drop()
-            self._db.close()
-            # The lock goes last.
-            self._file.close()
-            self._release.detach()
+        with self._lock:
+            if not self._file.closed and os.getpid() == self._process:
+                self._is_closed = True
+                self._drop()
+                self._db.close()
+                # The lock of the file goes last.
+                self._file.close()
+                self._release.detach()
 
     def _check(self) -> None:
-        self._check_caller()
+        self._check_process()
         if self._is_closed:
-            raise ValueError("the table is closed")
+            raise ValueError("the table is closed" + (f", since {self._checkpoint_fault}" if isinstance(self._checkpoint_fault, InDoubt) else ""))
 
-    def _check_caller(self) -> None:
-        if threading.current_thread() is not self._thread:
-            owner = "thread" if os.getpid() == self._process else "process"
-            raise RuntimeError(f"a durable table is used by the {owner} that opened it alone")
+    def _check_process(self) -> None:
+        if self._is_forked:
+            raise RuntimeError("a durable table is used by the process that opened it alone")
 
     def _check_outside(self, what: str) -> None:
         self._ready()
@@ -712,7 +851,8 @@ _OPEN: weakref.WeakSet[Durable] = weakref.WeakSet()
 
 def _leave_to_parent() -> None:
     for table in _OPEN:
-        table._thread = None
+        # Another thread of the parent may have the lock.
+        table._lock, table._is_forked = threading.RLock(), True
         ctypes.pythonapi.Py_IncRef(ctypes.py_object(table._db))
         table._file.close()
 
@@ -828,29 +968,25 @@ def _advice(engine: int) -> str:
     return f"it was kept by engine {engine}, and engine {ENGINE} replies otherwise: open the table with the version that wrote it, write a checkpoint, and update"
 
 
-def _records(replies: bytes) -> bytes:
-    """The replies to a scan of the rows as the records of a load. Every second piece between double quotes is inside of quotes."""
-    pieces = replies[: replies.rindex(b"rows ")].split(b'"')
-    del replies
-    pieces[::2] = [piece.replace(b"\nrow ", b"\n") for piece in pieces[::2]]
-    # A row of one column that is a point would end the load.
-    pieces[0] = b"\n" + pieces[0].removeprefix(b"row ")
-    return b'"'.join(pieces).replace(b"\n.\n", b'\n"."\n')[1:]
-
-
 def _tell(line: str) -> None:
     """Puts a line in the place of the last one, if standard error is a terminal."""
     if sys.stderr is not None and sys.stderr.isatty():
         print(f"\r\033[K{line}", end="", file=sys.stderr, flush=True)
 
 
-def _with_progress(rows: Iterable[Any], line: str) -> Iterator[Any]:
-    """The rows. Once a second a line at the terminal says how many have come."""
-    last = time.monotonic()
-    for count, row in enumerate(rows):
-        now = time.monotonic()
-        if now - last >= 1:
-            last = now
-            _tell(line.format(count))
-        yield row
-    _tell("")
+class _Progress:
+    """Says at the terminal how many have come, once a second."""
+
+    def __init__(self, line: str) -> None:
+        self._line, self._last = line, time.monotonic()
+
+    def tell(self, count: int) -> None:
+        if (now := time.monotonic()) - self._last >= 1:
+            self._last = now
+            _tell(self._line.format(count))
+
+    def __enter__(self) -> _Progress:
+        return self
+
+    def __exit__(self, *_: object) -> None:
+        _tell("")
