@@ -92,7 +92,7 @@ class Messages(unittest.TestCase):
     def test_a_range_is_not_deleted_as_a_key(self) -> None:
         self.session.table("id:int qty:int")
         said = self.said(lambda session: session.delete((1,), (5,)), client.RowTypeError)
-        self.assertIn("there is no delete of a range: scan it, and batch a delete of each row", said)
+        self.assertIn("a range is removed by delete_range('primary', start, stop)", said)
         self.assertIn("the values of a key are given one by one, as delete(*key)", self.said(lambda session: session.delete((1,)), client.RowTypeError))
 
     def test_a_data_frame_has_a_call_of_its_own(self) -> None:

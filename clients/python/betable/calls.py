@@ -9,7 +9,7 @@ from abc import ABC, abstractmethod
 from array import array
 from collections import Counter
 from collections.abc import Callable, Iterable, Iterator, Mapping, Sequence
-from contextlib import suppress
+from contextlib import AbstractContextManager, nullcontext, suppress
 from io import BytesIO
 from itertools import islice
 from typing import Any, NamedTuple, NoReturn
@@ -23,6 +23,7 @@ from .forms import name_fault
 from .language import Command
 from .messages import Message, Shape, columns_of_shape, delete, record, shape_of, shape_of_columns, upsert
 from .packed import MOST_ROWS, Usage
+from .ranges import delete_range
 from .replies import Place, Reply, answered, kinds_of_rows, rows_of_reply
 from .rows import (
     ARRAY_TYPES, VALUE_TYPES, VALUES, ColumnValues, Value, as_iterator, as_tuple, changes_by_column, columns_of_rows, key_fields, line_field, names_fault,
@@ -153,9 +154,15 @@ class Calls(ABC):
         if key and all(isinstance(value, (tuple, list)) for value in key):
             advice = "the values of a key are given one by one, as delete(*key)"
             if len(key) > 1:
-                advice = "there is no delete of a range: scan it, and batch a delete of each row"
+                advice = "a range is removed by delete_range('primary', start, stop)"
             raise RowTypeError(f"{shown(key[0])} is of type {type(key[0]).__name__}: {advice}", value=key[0])
         self.batch([delete(*key)])
+
+    def delete_range(self, tree: str, start: Bound = None, stop: Bound = None, most: int = MOST_MESSAGES) -> int:
+        """Removes the rows that a scan gives of a tree, `primary` or an index, from `start` to before `stop`, and returns how many there were. They are removed
+        in batches of at most `most`, the first rows first. If the call ends in the middle, call it again."""
+        _check_most(most)
+        return delete_range(self, tree, start, stop, most)
 
     def load(self, rows: Iterable[Any]) -> int:
         """Fills a table that has no rows with these, all at once, and returns how many."""
@@ -351,6 +358,10 @@ class Calls(ABC):
         self._refuse_if_refused(script, self.replies(script), 0, None)
 
     # What the calls share.
+
+    def _without_others(self) -> AbstractContextManager[Any]:
+        """A context in which no other thread makes a call. What has a lock of its own takes it."""
+        return nullcontext()
 
     def _replies_with_places(self, script: bytes) -> tuple[bytes, list[Place] | None]:
         """The bytes of the replies to a script, and the place of each, or None where nothing but their text says that."""

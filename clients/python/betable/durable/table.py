@@ -29,7 +29,7 @@ import time
 import weakref
 import zlib
 from collections.abc import Callable, Iterator
-from contextlib import closing, contextmanager, suppress
+from contextlib import AbstractContextManager, closing, contextmanager, suppress
 from hashlib import sha256
 from io import FileIO
 from typing import Any, NoReturn, TypeVar
@@ -538,6 +538,9 @@ class Durable(Reads):
         """Refuses a script that could not be kept, before it is run."""
         if len(script) > self._most_bytes and CHANGING_LINE.search(script):
             raise ScriptTooLong(len(script), self._most_bytes)
+
+    def _without_others(self) -> AbstractContextManager[Any]:
+        return self._lock
 
     def _packed(self, batch: Batch, there: Tree, taken: int) -> bytes | None:
         with self._lock:
