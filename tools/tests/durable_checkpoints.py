@@ -281,6 +281,8 @@ class Parts(TestCase):
                     for number in range(3):
                         with durable().open(path / "t", make=make) as table:
                             self.assertEqual(table.number, 2)
+                            if number > 0:
+                                self.assertEqual(probe(table), probe(plain))
                             table.checkpoint()
                             self.assertEqual((probe(table), table.log_bytes), (probe(plain), 0))
                 finally:

@@ -1,9 +1,9 @@
-"""The commands of the package: `python3 -m betable shell [PATH]`, `python3 -m betable serve PATH --port N` and `python3 -m betable restore BACKUP PATH`."""
+"""The commands of the package, by `python3 -m betable`: `shell [PATH]`, `serve PATH --port N`, `restore BACKUP PATH` and `copy OLD NEW`."""
 
 import argparse
 import sys
 
-from .durable import backups
+from .durable import backups, copies
 from .shell import prompt
 
 
@@ -13,9 +13,10 @@ def main() -> int:
     prompt.add_words(commands.add_parser("shell", help="a prompt over a table", description=prompt.DESCRIPTION))
     words = commands.add_parser("serve", help="a durable table by HTTP", description="Serves a durable table by HTTP. docs/SERVICE.md has its endpoints.")
     backups.add_words(commands.add_parser("restore", help="a backup in the place of a durable table", description=backups.DESCRIPTION))
+    copies.add_words(commands.add_parser("copy", help="a durable table in a new file, with other columns", description=copies.DESCRIPTION))
     if sys.argv[1:2] != ["serve"]:
         given = parser.parse_args()
-        return backups.run(given) if given.command == "restore" else prompt.run(given)
+        return {"restore": backups.run, "copy": copies.run, "shell": prompt.run}[given.command](given)
     try:
         from .server import serve
     except ModuleNotFoundError as fault:

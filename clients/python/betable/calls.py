@@ -332,7 +332,7 @@ class Calls(ABC):
         """Makes the table. Its columns are a text such as "id:int city:text", a dict from names to kinds, or a list of "id:int" or of pairs of a name and a
         kind. The first ones, as many as `keys`, are the key. The other numbers are those of `table` in a script: a buffer is a number of messages, or of bytes,
         as in "4096b"."""
-        words = [f"{checked_name(name, 'a column')}:{_checked_kind(kind)}" for name, kind in _columns_given(columns)]
+        words = [f"{checked_name(name, 'a column')}:{checked_kind(kind)}" for name, kind in _columns_given(columns)]
         if isinstance(buffer, str) and not language.BUFFER.fullmatch(buffer.encode()):
             raise ValueError(f"a buffer is a number of messages, or of bytes, as in '4096b', and not {shown(buffer)}")
         numbers = [_checked_number(fanout, "a fanout"), buffer if isinstance(buffer, str) else _checked_number(buffer, "a buffer")]
@@ -663,7 +663,8 @@ OTHER_KINDS = {
 }
 
 
-def _checked_kind(kind: Any) -> str:
+def checked_kind(kind: Any) -> str:
+    """A kind of columns."""
     if not isinstance(kind, str) or kind not in VALUES:
         name = kind.__name__ if isinstance(kind, type) else str(kind)
         advice = f": {OTHER_KINDS[name.lower()]}" if name.lower() in OTHER_KINDS else ""

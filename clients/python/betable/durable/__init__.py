@@ -10,7 +10,7 @@
             table.upsert(1, add={"qty": -5})
             table.delete(2)
         table.once("order 17", "batch\\nups 1,add,qty,-1\\nend\\n")  # run once, however often it is sent
-        table.checkpoint()                                      # rows in place of the log: the next opening takes less time
+        table.checkpoint()                                      # rows in place of the log, which is also done by itself
         table.backup("stock.backup")
 
 A call that changes the table returns when the change is synced. After a crash of the process, or a loss of power, the table has all calls that returned, each
@@ -18,19 +18,21 @@ of them whole. Reads go to the session in memory, and take as long as its own.
 
 | Name | What it is |
 |---|---|
-| `open(path, sync=True, most_requests=.., make=..)` | opens or creates a table, a `Durable` |
+| `open(path, sync=True, most_requests=.., checkpoint_bytes=.., make=..)` | opens or creates a table, a `Durable` |
 | `Durable` | the table: the calls of a session, and `group`, `once`, `checkpoint`, `backup`, `number`, `close` |
+| `copy(old, new, add={..}, rename={..}, drop=[..])` | copies a table with other columns; also `python3 -m betable copy OLD NEW` |
 | `restore(backup, path)` | puts a backup in the place of a table; also `python3 -m betable restore BACKUP PATH` |
 | `RolledBack`, `ScriptTooLong`, `InDoubt` | why a call was not kept, or may have been |
 | `RequestReused`, `ReplyDamaged` | why `once` does not reply |
 | `IndexBuilding` | why no checkpoint is written |
 | `InUse`, `NotATable`, `NewerFormat`, `Corrupt` | why a file is not opened |
 
-docs/DURABLE.md says what is promised, and what each exception means. `table.py` has the table, `wal.py` finds damage that SQLite would pass over, `backups.py`
-has `restore`, and `file_lock.py` the lock of a file.
+docs/DURABLE.md says what is promised, and what each exception means. `table.py` has the table, `checkpoints.py` says what a checkpoint is, `wal.py` finds damage
+that SQLite would pass over, `backups.py` has `restore`, `copies.py` has `copy`, and `file_lock.py` the lock of a file.
 """
 
 from .backups import restore
+from .copies import copy
 from .table import (
     Corrupt, Durable, InDoubt, IndexBuilding, InUse, NewerFormat, NotATable, ReplyDamaged, RequestReused, RolledBack, Runner, ScriptTooLong, open as open,
 )  # fmt: skip
@@ -49,5 +51,6 @@ __all__ = [
     "RolledBack",
     "Runner",
     "ScriptTooLong",
+    "copy",
     "restore",
 ]

@@ -28,7 +28,7 @@ import threading
 import time
 import weakref
 import zlib
-from collections.abc import Callable, Iterator
+from collections.abc import Callable, Iterable, Iterator
 from contextlib import AbstractContextManager, closing, contextmanager, suppress
 from hashlib import sha256
 from io import FileIO
@@ -42,7 +42,7 @@ from ..reads import Reads, Runner as Runner, reader_of
 from ..replies import Place, Reply, answered
 from ..schema import Tree
 from ..session import ScriptSession, Session
-from .checkpoints import parts_of, puts_of, scripts_of
+from .checkpoints import Part, parts_of, puts_of, scripts_of
 from .file_lock import lock
 from .wal import FIRST_GENERATION, FOREIGN, SYNCED, UNSYNCED, fault_of_log, mark_of, new_mark, renew_mark
 
@@ -699,14 +699,9 @@ class Durable(Reads):
 
     def _write_checkpoint(self) -> None:
         begin = time.monotonic()
-        session, size, checksum = self._ready(), 0, 0
+        session = self._ready()
         with self._transaction(), self._all_or_nothing():
-            self._write("DELETE FROM checkpoint")
-            for part, is_packed in parts_of(self._definitions, puts_of(session)):
-                self._write("INSERT INTO checkpoint(text, is_packed) VALUES(?, ?)", part, is_packed)
-                size, checksum = size + len(part), zlib.crc32(part, checksum)
-            self._write("DELETE FROM log")
-            self._write("UPDATE about SET number = ?, checksum = ?", self._number, checksum)
+            size = self._store(parts_of(self._definitions, puts_of(session)), self._number)
         self._log_bytes, self._stored_bytes = 0, size
         self._set_most_log_bytes()
         try:
@@ -718,6 +713,24 @@ class Durable(Reads):
                 raise
         self._checkpoint_count, self._checkpoint_fault = self._checkpoint_count + 1, None
         self._checkpoint_time, self._checkpoint_seconds = time.time(), time.monotonic() - begin
+
+    def _store(self, parts: Iterable[Part], number: int) -> int:
+        """Puts a checkpoint in place of the log, and returns its size."""
+        size = checksum = 0
+        self._write("DELETE FROM checkpoint")
+        for part, is_packed in parts:
+            self._write("INSERT INTO checkpoint(text, is_packed) VALUES(?, ?)", part, is_packed)
+            size, checksum = size + len(part), zlib.crc32(part, checksum)
+        self._write("DELETE FROM log")
+        self._write("UPDATE about SET number = ?, checksum = ?", number, checksum)
+        return size
+
+    def _store_copy(self, source: Durable, parts: Iterable[Part]) -> None:
+        """Fills a new file with a checkpoint, and with the number and the request ids of another table."""
+        with self._transaction(), self._all_or_nothing():
+            self._store(parts, source.number)
+            for request in source._db.execute("SELECT number, id, script, replies, checksum FROM requests ORDER BY number"):
+                self._write("INSERT INTO requests VALUES(?, ?, ?, ?, ?)", *request)
 
     def _set_most_log_bytes(self) -> None:
         """How long the log is to be before a checkpoint is written by itself: longer than the last one, so that checkpoints are no larger than all logs."""
