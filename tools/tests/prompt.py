@@ -287,13 +287,21 @@ class FilesInAndOut(TestCase):
 
     def test_records_that_are_refused_are_told_and_the_others_put(self):
         rows = "".join(f"{key},x\n" for key in range(100))
-        text = f'id,city\n{rows}a,y\n7\n8,"y\nz"\n9,{"z" * 256}\n\n{rows.replace("x", "w")}1,2,3\n'
+        text = f'id,city\n{rows}a,y\n7\n800,"y\nz"\n9,{"z" * 256}\n\n{rows.replace("x", "w")}1,2,3\n'
         for most_bytes in (1 << 20, 200):
             done, there = imported(self, text, most_bytes)
-            self.assertEqual((done.rows, done.refused, there), (200, 5, [(key, "w") for key in range(100)]))
+            self.assertEqual((done.rows, done.refused, there), (201, 4, [*((key, "w") for key in range(100)), (800, "y\nz")]))
             self.assertEqual([(refusal.line, refusal.reason.split(":")[-1].split(",")[0].strip()) for refusal in done.refusals], [
-                (102, "'a' is no whole number"), (103, "7"), (104, "a text has a line break"), (106, f"'{'z' * 40}…'"), (208, "1"),
+                (102, "'a' is no whole number"), (103, "7"), (106, f"'{'z' * 40}…'"), (208, "1"),
             ])  # fmt: skip
+        # Texts with line breaks are put like others, also beside rows, and their batch without those that are wrong.
+        text = 'id,city\r\n1,"a\r\nb"\r\n2,"c\n\n,""d"""\r\nx,"e\nf"\r\n3,"g\rh"\r\n4,"i\nj"k\r\n5,l\r\n'
+        for before in ("", "batch\nput 2,x\nput 6,y\nend\n"):
+            done, there = imported(self, text, 1 << 20, before)
+            wanted = [(1, "a\r\nb"), (2, 'c\n\n,"d"'), (3, "g\rh"), (5, "l"), *([(6, "y")] if before else [])]
+            self.assertEqual((there, done.rows, done.refused), (wanted, 4, 2))
+            self.assertEqual([refusal.line for refusal in done.refusals], [7, 10])
+            self.assertIn("goes on after its closing quote", done.refusals[1].reason)
         # Rows that are in are replaced by those of the file, and the others stay.
         done, there = imported(self, "id,city\n1,a\n2,b\n", 1 << 20, "batch\nput 2,x\nput 3,y\nend\n")
         self.assertEqual((done.rows, done.batches, done.refused, there), (2, 1, 0, [(1, "a"), (2, "b"), (3, "y")]))

@@ -11,7 +11,9 @@ from pathlib import Path
 from typing import BinaryIO, NamedTuple
 
 from ..calls import Calls, ends_load
-from ..faults import MEANINGS, header_faults, load_faults
+from ..csv_input import Part, has_line_breaks, rows_of_records, wrong_records
+from ..errors import RowValueError
+from ..faults import MEANINGS, header_faults
 from ..language import (
     CLOSING, KINDS, MARK, MOST_MESSAGES, MOST_SCRIPT_BYTES, NAME, RECORD, Command, Line, counted, fields, printed_record, records,
 )  # fmt: skip
@@ -142,8 +144,7 @@ class _Batches:
 
     def put(self, some: list[Record]) -> Imported:
         """Puts records by one batch, without those that are refused."""
-        refused = [RefusedRecord(line, "a text has a line break, and only a load takes such") for line, raw in some if b"\n" in raw or b"\r" in raw]
-        some = [(line, raw) for line, raw in some if not (b"\n" in raw or b"\r" in raw)] if refused else some
+        refused: list[RefusedRecord] = []
         while some and (wrong := self.tried(some)):
             refused += [RefusedRecord(some[place][0], reason) for place, reason in wrong.items()]
             some = [record for place, record in enumerate(some) if place not in wrong]
@@ -158,18 +159,23 @@ class _Batches:
         self.so_far = self.so_far._replace(refused=self.so_far.refused + len(some), refusals=refusals)
 
     def tried(self, some: list[Record]) -> dict[int, str]:
-        """Runs a batch of records. If it is refused, the places of those at fault with the reasons."""
-        script = b"".join([b"put %b\n" % (unmarked(raw) if raw.startswith(MARK) else raw) for _, raw in some]).join(BATCH_ENDS)
-        reply = self.table.replies(script)
-        if reply.startswith(b"batch "):
+        """Runs a batch of records. If it is refused, the places of those at fault with the reasons. Texts with line breaks are put as values, which no line
+        has."""
+        lines, raws = zip(*some)
+        part, reply = Part([*raws], [*lines], 0), b""
+        if not has_line_breaks(raws):
+            reply = self.table.replies(b"".join([b"put %b\n" % (unmarked(raw) if raw.startswith(MARK) else raw) for raw in raws]).join(BATCH_ENDS))
+            if reply.startswith(b"batch "):
+                return {}
+        if faults := wrong_records(part, self.there):
+            return {place: ": ".join(text for text in (fault.place, fault.what()) if text) for place, fault in faults.items()}
+        if not reply:
+            try:
+                self.table.put(rows_of_records(raws, self.there))
+            except RowValueError as fault:
+                # Without the extension only a load takes such texts.
+                return {place: fault.reason for place, raw in enumerate(raws) if has_line_breaks([raw])}
             return {}
-        found: dict[int, str] = {}
-        text = b"\n".join([b",".join(self.there.names), *(raw for _, raw in some)])
-        for fault in load_faults(Command(Line(0, b"load"), CLOSING[b"load"], text, True), self.there):
-            if fault.line is not None:
-                found.setdefault(fault.line - 2, ": ".join(part for part in (fault.place, fault.what()) if part))
-        if found:
-            return found
         words = reply.split()
         if len(words) < 4:
             raise FileFault(f"a batch was refused: {reply.decode().strip()}: {MEANINGS.get(int(words[1]), '')}")
