@@ -550,8 +550,8 @@ BAD_REQUESTS = [
     ("GET", "/rows/Primary", {}, None, 400, "primary"),
     ("GET", "/rows/" + "a" * 33, {}, None, 400, "32"),
     ("GET", "/rows/%ff", {}, None, 400, "no name"),
-    ("GET", "/rows/primary?from=1%0ago", {}, None, 400, "line break"),
-    ("GET", "/rows/primary?to=1%0dgo", {}, None, 400, "line break"),
+    ("GET", "/rows/primary?from=1%0ago", {}, None, 400, "column 'id' (int)"),
+    ("GET", "/rows/primary?to=1%0dgo", {}, None, 400, "column 'id' (int)"),
     ("GET", "/rows/primary?from=%ff", {}, None, 400, "utf-8"),
     ("GET", "/rows/primary?from=x", {}, None, 422, "id"),
     ("GET", "/rows/primary?from=1&from=2", {}, None, 422, "2"),
@@ -591,7 +591,7 @@ BAD_REQUESTS = [
     ("POST", "/rows", {}, b"1,a,1\n2,b\n", 422, "2 fields"),
     ("POST", "/rows", {}, b"1,a,1\n2,b\xff,1\n", 422, "UTF-8"),
     ("POST", "/rows", {}, b"1,a\rb,1\n", 422, ""),
-    ("POST", "/rows", {}, b'1,"a\nb",1\n', 400, "line break"),
+    ("POST", "/rows", {}, b'1,"a\nb,1\n', 400, "line break"),
     ("POST", "/rows", {}, b"".join(b"%d,a,1\n" % key for key in range(65_537)), 422, "65,53"),
     ("POST", "/checkpoint", {}, b"", 409, "building"),
     ("GET", "/healthz", {"Long": "x" * 9_000}, None, 400, "too long"),
@@ -653,7 +653,7 @@ class BadRequests(TestCase):
             self.assertEqual((status, said.pop("reason") != ""), (422, True))
             self.assertEqual(said, {"status": 422, "number": 6, "name": "BadField", "line": 4, "item": 2, "column": "qty", "value": "x"})
             self.assertEqual(found.json("/rows/primary")["rows"], [])
-            status, _, body = found.ask("POST", "/rows", b'1,a,1\n2,"b\nc",3\n')
+            status, _, body = found.ask("POST", "/rows", b'1,a,1\n2,"b\nc,3\n')
             self.assertEqual((status, json.loads(body)["line"]), (400, 2))
 
     @with_aiohttp

@@ -10,8 +10,9 @@ from .rows import Value
 from .schema import Tree, TreeColumn, Trees
 
 MAGIC = b"BTV\x01"
-HEADER_OF_NONE, HEADER_OF_ONE = (struct.pack("<4sI", MAGIC, number) for number in range(2))
-HEADER_BYTES = len(HEADER_OF_ONE)
+HEADER = struct.Struct("<4sI")
+HEADER_OF_NONE, HEADER_OF_ONE = (HEADER.pack(MAGIC, number) for number in range(2))
+HEADER_BYTES = HEADER.size
 PUT = b"\0"  # begins a change that puts a row
 USAGE = struct.Struct("<4s3Q")
 # The state of a tree, and the numbers of its key columns and of all.
@@ -59,7 +60,7 @@ VALUE_BYTES: dict[str, Callable[[Any], bytes]] = {
 def puts_of_rows(rows: Sequence[Sequence[Value]], kinds: Sequence[str]) -> bytes:
     """The changes that put rows, which the extension makes in less time."""
     writers = [VALUE_BYTES[kind] for kind in kinds]
-    parts = [struct.pack("<4sI", MAGIC, len(rows))]
+    parts = [HEADER.pack(MAGIC, len(rows))]
     for row in rows:
         parts.append(PUT)
         parts += [write(value) for write, value in zip(writers, row)]
@@ -75,6 +76,12 @@ def value_at(packed: bytes, at: int, kind: str) -> tuple[Value, int]:
     end = at + 1 + packed[at]
     found = packed[at + 1 : end]
     return found.decode() if kind == "text" else found, end
+
+
+def change_count(changes: bytes) -> int:
+    """The number of packed changes."""
+    count: int = HEADER.unpack_from(changes)[1]
+    return count
 
 
 def refusal_reply(number: int, item: int) -> bytes:

@@ -473,7 +473,14 @@ class Durable(Reads):
     def once(self, request_id: str, script: str | bytes) -> bytes:
         """Like `replies`, but a script that comes again with the same request id is not run again: the call returns the replies that were kept with the id.
         So a caller that got no reply sends the request again. RequestReused if another script had the id."""
-        script = as_script(script)
+        given = as_script(script)
+        return self._once(request_id, given, lambda: self._run(given)[0])
+
+    def _apply_once(self, request_id: str, changes: bytes, done: bytes) -> bytes:
+        """Like `once`, for packed changes: the reply is their refusal, or `done`."""
+        return self._once(request_id, changes, lambda: self._apply_and_keep(changes) or done)
+
+    def _once(self, request_id: str, script: bytes, run: Callable[[], bytes]) -> bytes:
         _check_request_id(request_id)
         hash = sha256(script).digest()
         with self._some_group():
@@ -484,7 +491,7 @@ class Durable(Reads):
                     self._settle(self._db)
                 found = self._db.execute("SELECT script, replies, checksum FROM requests WHERE id = ?", (request_id,)).fetchone()
                 if found is None:
-                    return self._run_once(request_id, hash, script)
+                    return self._run_once(request_id, hash, run())
         kept_hash, replies, checksum = found
         if not isinstance(replies, bytes) or checksum not in (None, _request_checksum(request_id, kept_hash, replies)):
             raise ReplyDamaged(self.path, None, f"what was kept of request {request_id!r} is damaged: its script was run once. Read what it changed")
@@ -492,8 +499,7 @@ class Durable(Reads):
             raise RequestReused(request_id)
         return replies
 
-    def _run_once(self, request_id: str, hash: bytes, script: bytes) -> bytes:
-        replies, _ = self._run(script)
+    def _run_once(self, request_id: str, hash: bytes, replies: bytes) -> bytes:
         values = request_id, hash, replies, _request_checksum(request_id, hash, replies)
         added = self._write("INSERT INTO requests(id, script, replies, checksum) VALUES(?, ?, ?, ?)", *values).lastrowid or 0
         self._forget_oldest(added, len(replies))
@@ -551,10 +557,13 @@ class Durable(Reads):
 
     def _apply_packed(self, changes: bytes) -> bytes:
         with self._some_group(), self._all_or_nothing():
-            refusal = applied(self._ready(), changes)
-            if not refusal:
-                self._keep(changes, b"", is_packed=True)
-            return refusal
+            return self._apply_and_keep(changes)
+
+    def _apply_and_keep(self, changes: bytes) -> bytes:
+        refusal = applied(self._ready(), changes)
+        if not refusal:
+            self._keep(changes, b"", is_packed=True)
+        return refusal
 
     def _apply_after(self, batch: Batch, there: Tree, taken: int) -> None:
         """Each batch is kept by itself, unless a group is open: RolledBack says how many rows were kept before one that failed."""

@@ -110,6 +110,8 @@ def refusal_of_batch(batch: Batch, replies: bytes, trees: Trees) -> Problem:
     problem = problem_of(fault)
     if fault.item is not None:
         problem.fields[batch.unit] = line_at_fault(command, fault.item) - 1 if batch.places is None else batch.places[fault.item - 1]
+    if batch.value is not None:
+        problem.fields["value"] = batch.value.decode(errors="replace")
     return problem
 
 

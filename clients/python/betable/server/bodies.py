@@ -4,13 +4,15 @@ from __future__ import annotations
 
 import json
 import re
-from collections.abc import Callable, Iterable, Sequence
+from collections.abc import Iterable, Iterator, Sequence
 from typing import Any, NamedTuple
 
 from aiohttp import web
 
-from ..language import MARK, broken_quotes_of_lines, fields, visible
-from ..rows import JSON_TYPES
+from ..batches import WORDS, operations_of as packed_operations_of
+from ..language import KINDS, MARK, MOST_MESSAGES, QUOTED_FIELD, RECORD, SOUND_FIELD, broken_quotes, fields, matched, visible
+from ..packed import BAD_FIELD, BAD_LENGTH, HEADER, MAGIC, VALUE_BYTES, refusal_reply
+from ..rows import JSON_TYPES, value_of_field
 from ..schema import Tree, TreeColumn
 from .requests import Problem, checked_name
 
@@ -19,13 +21,21 @@ BLANK_LINES = re.compile(rb"^\r?\n|\n\r?\n")
 JSON, JSON_LINES = ("application/json",), ("application/x-ndjson", "application/jsonl", "application/x-jsonlines")
 
 
+def no_table() -> Problem:
+    return Problem(409, "there is no table yet: POST /run takes its 'table' command")
+
+
 class Batch(NamedTuple):
     """The script of a batch. `places` are those of its messages in the body, each the number of a `unit`; without them line N of the body is line N + 1 of the
-    script."""
+    script. A batch whose texts have line breaks has `changes`, which are packed, or its `refusal`, with the value at fault. Its script then has spaces in their
+    place, and is not run: it says why the batch is refused."""
 
     script: bytes
     places: Sequence[int] | None = None
     unit: str = "line"
+    changes: bytes | None = None
+    refusal: bytes = b""
+    value: bytes | None = None
 
 
 class Operation(NamedTuple):
@@ -52,11 +62,16 @@ def is_json_body(request: web.Request) -> bool:
 
 def rows_of_csv(body: bytes, has_header: bool, there: Tree) -> Batch:
     """The batch that puts rows of CSV. Columns under a header may be in any order."""
-    if not has_header:
-        return Batch(batch_of(body))
-    header, line, rest = _header_of(body)
-    places = _places(header, there.names, line)
-    if places != list(range(len(places))):
+    line, rest, places = 0, body, list(range(len(there.columns)))
+    if has_header:
+        header, line, rest = _header_of(body)
+        places = _places(header, there.names, line)
+    is_in_order = places == list(range(len(places)))
+    if _has_breaks(rest):
+        records = _records_with_breaks(rest, line + 1)
+        rows = [values if is_in_order else _reordered(values, places) for values in (fields(record) for _, record in records)]
+        return Form("put", there.columns, there).batch(rows, [number for number, _ in records])
+    if not is_in_order:
         rest = b"\n".join(_in_order(record, places) for record in rest.split(b"\n"))
     # A blank line for each line up to the header, so that lines keep their numbers.
     return Batch(batch_of(b"\n" * line + rest))
@@ -64,7 +79,7 @@ def rows_of_csv(body: bytes, has_header: bool, there: Tree) -> Batch:
 
 def rows_of_json(body: bytes, content_type: str, there: Tree) -> Batch:
     """The batch that puts rows of JSON: objects by the names of the columns, or lists in their order."""
-    return _batch_of_json(body, content_type, there.columns, lambda values: f"put {','.join(values)}\n")
+    return _batch_of_json(body, content_type, Form("put", there.columns, there))
 
 
 def batch_of(body: bytes) -> bytes:
@@ -73,7 +88,6 @@ def batch_of(body: bytes) -> bytes:
         lines = re.sub(rb"^(?=.)(?!\r$)", b"put ", body, flags=re.MULTILINE)
     else:
         lines = b"put " + body.removesuffix(b"\n").replace(b"\n", b"\nput ") if body else b""
-    _check_quotes(lines, body)
     return b"batch\n" + lines.removesuffix(b"\n") + b"\nend\n"
 
 
@@ -93,8 +107,9 @@ def upserts_of_csv(body: bytes, has_header: bool, there: Tree, operations: list[
     if has_header:
         header, line, body = _header_of(body)
         first, places = line + 1, _places(header, names, line)
-    parts, numbers, count = [], [], len(there.key)
-    for number, line_of_body in enumerate(body.split(b"\n"), first):
+    has_breaks = _has_breaks(body)
+    rows, numbers = [], []
+    for number, line_of_body in _records_with_breaks(body, first) if has_breaks else enumerate(body.split(b"\n"), first):
         record = line_of_body.removesuffix(b"\r")
         if not record:
             continue
@@ -102,31 +117,128 @@ def upserts_of_csv(body: bytes, has_header: bool, there: Tree, operations: list[
         if len(values) != len(names):
             counted = f"{len(values)} field{'s' if len(values) != 1 else ''}, and an upsert here has {len(names)} ({', '.join(names)})"
             raise Problem(422, f"{counted}: {visible(record)}", line=number)
-        key, arguments = ([_quoted(values[place]) for place in some] for some in (places[:count], places[count:]))
-        parts.append(b"ups %b\n" % b",".join([*key, *_operations(operations, arguments)]))
+        rows.append([values[place] for place in places])
         numbers.append(number)
-    script = b"".join(parts)
-    _check_quotes(script, body, numbers)
-    return Batch(b"batch\n%bend\n" % script, numbers)
+    form = _form_of_upserts(there, operations)
+    return form.batch(rows, numbers) if has_breaks else Batch(form.script(rows), numbers)
 
 
 def upserts_of_json(body: bytes, content_type: str, there: Tree, operations: list[Operation]) -> Batch:
     """The batch of upserts of JSON: objects with the columns of the key and those of the operations, or lists in the order of a line of CSV."""
-    by_name, count = {column.name: column for column in there.columns}, len(there.key)
-    if unknown := next((one.column for one in operations if one.column not in by_name), None):
-        raise Problem(422, f"'{unknown}' is no column: {', '.join(by_name)}")
-    columns = [*there.key, *(by_name[operation.column] for operation in operations)]
-
-    def line(values: list[str]) -> str:
-        arguments = [part.decode() for part in _operations(operations, [value.encode() for value in values[count:]])]
-        return f"ups {','.join([*values[:count], *arguments])}\n"
-
-    return _batch_of_json(body, content_type, columns, line)
+    if unknown := next((one.column for one in operations if one.column not in there.names), None):
+        raise Problem(422, f"'{unknown}' is no column: {', '.join(there.names)}")
+    return _batch_of_json(body, content_type, _form_of_upserts(there, operations))
 
 
-def _operations(operations: list[Operation], arguments: list[bytes]) -> list[bytes]:
-    """The fields of the operations of an upsert."""
-    return [part for one, argument in zip(operations, arguments) for part in (one.word.encode(), one.column.encode(), argument)]
+def _form_of_upserts(there: Tree, operations: list[Operation]) -> Form:
+    by_name = {column.name: column for column in there.columns}
+    # A column that is not there is refused with the upserts.
+    columns = [by_name.get(operation.column, TreeColumn(operation.column, "text", False)) for operation in operations]
+    return Form("ups", [*there.key, *columns], there, operations)
+
+
+# ---- deletes ----
+
+
+def delete_of(key: list[str], there: Tree) -> Batch:
+    """The batch that deletes the row of a key."""
+    form, fields_of_key = Form("del", there.key, there), [value.encode() for value in key]
+    return form.batch([fields_of_key], [1]) if any(map(_is_broken, fields_of_key)) else Batch(form.script([fields_of_key]))
+
+
+# ---- texts with line breaks ----
+
+
+class Form:
+    """What the messages of a batch have in common: the first word of their lines, the columns of their fields, and the operations of upserts, to which the last
+    fields belong."""
+
+    def __init__(self, word: str, columns: Sequence[TreeColumn], there: Tree, operations: Sequence[Operation] = ()) -> None:
+        self.word, self.columns, self.operations = word, columns, operations
+        self._key_length = len(columns) - len(operations)
+        # The operations of packed changes, or None if the library refuses them whatever their arguments are.
+        self._packed_operations = packed_operations_of(tuple((one.word, one.column) for one in operations), there)
+
+    def script(self, messages: Iterable[Sequence[bytes]]) -> bytes:
+        """The batch of messages, each of which is given by the values of its fields."""
+        return b"batch\n%bend\n" % b"".join(map(self._line, messages))
+
+    def _line(self, values: Sequence[bytes]) -> bytes:
+        quoted = list(map(_quoted, values))
+        arguments = zip(self.operations, quoted[self._key_length :])
+        written = quoted[: self._key_length] if self.operations else quoted
+        written += [part for one, argument in arguments for part in (one.word.encode(), one.column.encode(), argument)]
+        return b"%b %b\n" % (self.word.encode(), b",".join(written) or b'""')
+
+    def batch(self, messages: Sequence[Sequence[bytes]], places: Sequence[int], unit: str = "line") -> Batch:
+        """The batch of messages with texts that have line breaks."""
+        if not self.columns:
+            raise no_table()
+        script = self.script([value.translate(SPACES_OF_BREAKS) for value in values] for values in messages)
+        if self._packed_operations is None:
+            return Batch(script, places, unit)
+        if len(messages) > MOST_MESSAGES:
+            return Batch(script, places, unit, refusal=b"refused 10 TooMany\n")
+        # Of several faults a script is refused for the one with the lowest number.
+        if wrong := min(self._faults(messages), key=lambda fault: fault[:2], default=None):
+            number, item, value = wrong
+            return Batch(script, places, unit, refusal=refusal_reply(number, item), value=value)
+        return Batch(script, places, unit, HEADER.pack(MAGIC, len(messages)) + b"".join(map(self._packed, messages)))
+
+    def _faults(self, messages: Sequence[Sequence[bytes]]) -> Iterator[tuple[int, int, bytes | None]]:
+        """The refusals of messages that are wrong: their numbers, those of the messages, and the values at fault."""
+        kinds = [KINDS[column.kind.encode()] for column in self.columns]
+        for item, values in enumerate(messages, 1):
+            if len(values) != len(kinds):
+                yield BAD_LENGTH, item, None
+                continue
+            for value, kind in zip(values, kinds):
+                if kind.fault(value):
+                    yield BAD_FIELD, item, value
+                    break
+
+    def _packed(self, values: Sequence[bytes]) -> bytes:
+        """A message as a packed change."""
+        found = [VALUE_BYTES[column.kind](value_of_field(value.decode(), column)) for value, column in zip(values, self.columns)]
+        head, operations = bytes([WORDS[self.word]]), self._packed_operations
+        if self.word != "ups" or operations is None:
+            return head + b"".join(found)
+        count = self._key_length
+        arguments = [operations[2 * place : 2 * place + 2] + argument for place, argument in enumerate(found[count:])]
+        return b"".join([head, *found[:count], bytes([len(arguments)]), *arguments])
+
+
+SPACES_OF_BREAKS = bytes.maketrans(b"\n\r", b"  ")
+# The lines of a text in which each record has a line, and no quote looks broken.
+ONE_LINE_RECORDS = re.compile(rb'(?>[^"\n]*+\n|(?>%b)?+%b(?>,%b)*+\r?\n)*+' % (MARK, SOUND_FIELD, SOUND_FIELD))
+
+
+def _is_broken(value: bytes) -> bool:
+    return b"\n" in value or b"\r" in value
+
+
+def _has_breaks(body: bytes) -> bool:
+    """Whether a quoted field of CSV has a line break, or looks broken."""
+    if b'"' not in body:
+        return False
+    lines = body if body.endswith(b"\n") else body + b"\n"
+    if matched(ONE_LINE_RECORDS, lines).end() < len(lines):
+        return True
+    return b"\r" in body and any(b"\r" in found[1] for found in QUOTED_FIELD.finditer(body))
+
+
+def _records_with_breaks(body: bytes, number: int) -> list[tuple[int, bytes]]:
+    """The records of a text whose first line has this number, each with the line in which it begins."""
+    if broken := next(broken_quotes(body, number), None):
+        raise Problem(400, str(broken), line=broken.first)
+    found, at = [], 0
+    for record in RECORD.finditer(body):
+        number += body.count(b"\n", at, record.start())
+        at = record.start()
+        if body.startswith(b"\r", record.end()) and not body.startswith(b"\r\n", record.end()):
+            raise Problem(422, f"a carriage return is outside of quotes: {visible(record[0])}", line=number)
+        found.append((number, record[0].removeprefix(MARK)))
+    return found
 
 
 # ---- CSV ----
@@ -156,7 +268,11 @@ def _places(header: list[str], names: list[str], line: int) -> list[int]:
 def _in_order(record: bytes, places: list[int]) -> bytes:
     """A record with its fields in another order. One of another length stays, and is refused."""
     values = fields(record.removesuffix(b"\r"))
-    return b",".join([_quoted(values[place]) for place in places]) or b'""' if len(values) == len(places) else record
+    return b",".join(map(_quoted, _reordered(values, places))) or b'""' if len(values) == len(places) else record
+
+
+def _reordered(values: list[bytes], places: list[int]) -> list[bytes]:
+    return [values[place] for place in places] if len(values) == len(places) else values
 
 
 def _quoted(value: bytes) -> bytes:
@@ -164,22 +280,17 @@ def _quoted(value: bytes) -> bytes:
     return b'"' + value.replace(b'"', b'""') + b'"' if b'"' in value or b"," in value or value.startswith(MARK) else value
 
 
-def _check_quotes(lines: bytes, body: bytes, numbers: Sequence[int] | None = None) -> None:
-    if b'"' in body and (broken := next(broken_quotes_of_lines(lines, 1), None)):
-        line = broken.first if numbers is None else numbers[broken.first - 1]
-        raise Problem(400, f"{broken} A row is one line here: a text with a line break comes in by a load", line=line)
-
-
 # ---- JSON ----
 
 
-def _batch_of_json(body: bytes, content_type: str, columns: Sequence[TreeColumn], line_of: Callable[[list[str]], str]) -> Batch:
+def _batch_of_json(body: bytes, content_type: str, form: Form) -> Batch:
     rows, places, unit = _json_rows(body, content_type)
-    lines = [line_of(_values(row, columns, {unit: place})) for row, place in zip(rows, places)]
     try:
-        return Batch(f"batch\n{''.join(lines)}end\n".encode(), places, unit)
+        messages = [[value.encode() for value in _values(row, form.columns, {unit: place})] for row, place in zip(rows, places)]
     except UnicodeEncodeError:
         raise Problem(422, "a text has half of a surrogate pair, which UTF-8 does not have") from None
+    has_breaks = any(_is_broken(value) for values in messages for value in values)
+    return form.batch(messages, places, unit) if has_breaks else Batch(form.script(messages), places, unit)
 
 
 def _json_rows(body: bytes, content_type: str) -> tuple[list[Any], Sequence[int], str]:
@@ -201,7 +312,7 @@ def _parsed(text: bytes, line: int | None) -> Any:
 
 
 def _values(row: Any, columns: Sequence[TreeColumn], place: dict[str, Any]) -> list[str]:
-    """The fields of a row of JSON."""
+    """The values of the fields of a row of JSON."""
     names = [column.name for column in columns]
     if isinstance(row, dict):
         wrong = [f"'{name[:40]}' is no column here" for name in row if name not in names] + [f"'{name}' is missing" for name in names if name not in row]
@@ -216,9 +327,8 @@ def _values(row: Any, columns: Sequence[TreeColumn], place: dict[str, Any]) -> l
 
 
 def _field(value: Any, column: TreeColumn, place: dict[str, Any]) -> str:
-    """The field of a value of JSON."""
+    """The value of the field of a value of JSON."""
     kind, name = JSON_TYPES[column.kind]
-    reason = None
     if type(value) is not kind:
         advice = ""
         if value is None:
@@ -226,11 +336,8 @@ def _field(value: Any, column: TreeColumn, place: dict[str, Any]) -> str:
         elif type(value) is float and kind is int:
             advice = ": decimals are stored as ints of a fixed unit, as 1250 for 12.50"
         reason = f"{_shown(value)} is not {name}{advice}"
-    elif kind is str and ("\n" in value or "\r" in value):
-        reason = f"{_shown(value)} has a line break, and such a text comes in by a load"
-    if reason:
         raise Problem(422, f"column '{column.name}' ({column.kind}): {reason}", column=column.name, value=value, **place)
-    return '"' + str(value).replace('"', '""') + '"' if kind is str else str(value).lower()
+    return value if isinstance(value, str) else str(value).lower()
 
 
 def _shown(value: Any) -> str:

@@ -15,17 +15,18 @@ import signal
 import sys
 import time
 from collections import deque
-from collections.abc import Callable
+from collections.abc import Callable, Sequence
 from pathlib import Path
 from typing import Any, BinaryIO, NamedTuple
 
+from ..calls import Row
 from ..durable.table import FAULTS, ReplyDamaged, RequestReused, ScriptTooLong, open as open_table
 from ..errors import Refused, RowError
 from ..language import counted
-from ..packed import Usage
+from ..packed import Usage, change_count
 from ..replies import reply_end
 from ..rows import Value, printed_records, value_of_field
-from ..schema import UNKNOWN, Tree, Trees
+from ..schema import UNKNOWN, Tree, TreeColumn, Trees
 
 # The largest number of requests in a group, and the bytes of scripts that close one.
 MOST_GROUP, GROUP_BYTES = 256, 16 << 20
@@ -36,30 +37,46 @@ MOST_IMAGE_ITEMS = MOST_IMAGE_BYTES >> 4  # rows and messages of a tree whose im
 MOST_FAILURES, FAILURE_SECONDS = 5, 0.2
 START = "import sys; from betable.server.engine import main; sys.exit(main())"
 PR_SET_PDEATHSIG = 1
+# A read that is refused, also with a bound that no script has.
+REFUSALS = (Refused, RowError)
 # The first word of a line of a row or of a group, and that of the line after the last one.
 LAST_WORDS = {b"row ": b"rows", b"sum ": b"sums"}
 
 
 class Page(NamedTuple):
     """Rows of a tree: from a key to before another, and after the key of a row. Each is given by the fields of its values, or is None. The key of a row may be
-    given by its values too, as `Answer` has it."""
+    given by its values too, as `Answer` has it. With `group` they are the groups of that many columns, with the sums of that column, and with `is_row` the row
+    of the key at which they start."""
 
     tree: str
     start: list[str] | None
-    stop: list[str] | None
-    after: list[str] | tuple[Value, ...] | None
+    stop: list[str] | None = None
+    after: list[str] | tuple[Value, ...] | None = None
+    group: tuple[int, str] | None = None
+    is_row: bool = False
+
+    @property
+    def has_breaks(self) -> bool:
+        """Whether a text of a bound has a line break, so that no script reads it."""
+        return any("\n" in field or "\r" in field for field in (*(self.start or ()), *(self.stop or ())))
 
 
 class Work(NamedTuple):
     """A script to be run, or a checkpoint if there is none. A script with the id of a request is run exactly once. A script with `most_rows` is one `get`,
-    `scan` or `sums`: at most that many rows or groups of its reply are returned, and their columns. A script with `page` is the `scan` of that range, and the
-    page is read in its place unless it is refused. A script with `image_of` is the `image` of that tree."""
+    `scan` or `sums`: at most that many rows or groups of its reply are returned, and their columns. A script with `page` is the read of that range, and the
+    page is read in its place unless it is refused. A script with `image_of` is the `image` of that tree. A script with `changes` is an empty batch, and these
+    packed changes are applied in its place."""
 
     script: bytes | None
     request: str | None = None
     most_rows: int | None = None
     image_of: str | None = None
     page: Page | None = None
+    changes: bytes | None = None
+
+    @property
+    def size(self) -> int:
+        return len(self.script or b"") + len(self.changes or b"")
 
 
 class Answer(NamedTuple):
@@ -89,7 +106,7 @@ class Result(NamedTuple):
 
 
 class WrongKey(Exception):
-    """A page cannot begin after this key, as the tree has no such keys."""
+    """A page has no such bound, or cannot begin after this key, as the tree has no such keys."""
 
 
 class Lost(Exception):
@@ -163,7 +180,10 @@ class Worker:
         try:
             if work.page is not None and (answer := self._page(work.page, work.most_rows or ALL_ROWS)):
                 return answer
-            replies = table.replies(script) if work.request is None else table.once(work.request, script)
+            if work.changes is not None:
+                replies = self._applied(work.changes, work.request)
+            else:
+                replies = table.replies(script) if work.request is None else table.once(work.request, script)
         except (RequestReused, ReplyDamaged, ScriptTooLong, WrongKey) as fault:
             return fault  # nothing was run, and the group goes on
         if work.image_of is not None and len(replies) > MOST_IMAGE_BYTES:
@@ -172,6 +192,11 @@ class Worker:
             return Answer(replies, table.number)
         rows, is_cut = first_rows(replies, work.most_rows)
         return Answer(rows, table.number, is_cut, _columns(table.trees(), script))
+
+    def _applied(self, changes: bytes, request: str | None) -> bytes:
+        """The reply to a batch that is given by packed changes. It does not count what was sent to each index."""
+        done = b"batch %d\n" % change_count(changes)
+        return (self.table._apply_packed(changes) or done) if request is None else self.table._apply_once(request, changes, done)
 
     def _usage(self, tree: str) -> Usage | None:
         """How much a tree holds, if there is one of this name."""
@@ -183,25 +208,54 @@ class Worker:
         if there is UNKNOWN:
             return None
         try:
-            start, stop = _key_values(page.start, there), _key_values(page.stop, there)
-        except ValueError:
+            start, stop = (_key_values(fields, there, len(there.key) if page.is_row else 1) for fields in (page.start, page.stop))
+        except ValueError as fault:
+            if page.has_breaks:
+                raise WrongKey(str(fault)) from None
             return None
+        if page.is_row:
+            row = self.table.get(*(start or ()))
+            return Answer(_reply_of_get(row, there), self.table.number, columns=_named_columns(there.columns))
+        if page.group is not None:
+            return self._groups(page, start, stop, there, most)
         try:
             after = page.after if isinstance(page.after, tuple) else _key_values(page.after, there, len(there.key))
         except ValueError as fault:
             raise WrongKey(f"'after': {fault}") from None
         try:
             rows = self.table.scan(page.tree, start, stop, None if most == ALL_ROWS else most + 1, after)
-        except RowError as fault:
-            raise WrongKey(f"'after': {fault}") from None
-        except Refused:
+        except REFUSALS:
             return None
         is_cut = len(rows) > most
         rows = rows[:most]
         found = printed_records(rows, there.kinds)
         replies = "".join([f"row {line}\n" for line in found]) + f"rows {len(found)}\n"
         last = rows[-1][: len(there.key)] if rows else None
-        return Answer(replies.encode(), self.table.number, is_cut, [(column.name, column.kind) for column in there.columns], last=last)
+        return Answer(replies.encode(), self.table.number, is_cut, _named_columns(there.columns), last=last)
+
+    def _groups(self, page: Page, start: tuple[Value, ...] | None, stop: tuple[Value, ...] | None, there: Tree, most: int) -> Answer | None:
+        """At most that many groups of a range, written as the reply to the sums of them. None if the sums would be refused."""
+        assert page.group is not None
+        count, of = page.group
+        try:
+            groups = self.table.sums(page.tree, count, of, start, stop)
+        except REFUSALS:
+            return None
+        found = printed_records([group[2:] for group in groups[:most]], there.key_kinds[:count])
+        lines = [f"sum {int(group[0])} {int(group[1])} {line}\n" for group, line in zip(groups, found)]
+        replies = "".join(lines) + f"sums {len(lines)}\n"
+        return Answer(replies.encode(), self.table.number, len(groups) > most, _named_columns(there.key[:count]))
+
+
+def _named_columns(columns: Sequence[TreeColumn]) -> list[tuple[str, str]]:
+    return [(column.name, column.kind) for column in columns]
+
+
+def _reply_of_get(row: Row | None, there: Tree) -> bytes:
+    if row is None:
+        return b"none\n"
+    (line,) = printed_records([row], there.kinds)
+    return f"row {line}\n".encode()
 
 
 def _key_values(fields: list[str] | None, there: Tree, least: int = 1) -> tuple[Value, ...] | None:
@@ -217,8 +271,7 @@ def _columns(trees: Trees, script: bytes) -> list[tuple[str, str]]:
     """The names and kinds of the columns of the reply to a script of one command."""
     word, *words = script.decode().split("\n", 1)[0].split()
     tree = trees.tree("primary" if word == "get" else words[0])
-    columns = tree.key[: int(words[1])] if word == "sums" else tree.columns
-    return [(column.name, column.kind) for column in columns]
+    return _named_columns(tree.key[: int(words[1])] if word == "sums" else tree.columns)
 
 
 def first_rows(replies: bytes, most: int) -> tuple[bytes, bool]:
@@ -370,7 +423,7 @@ class Engine:
             if work.script is None and self._group:
                 break
             self._group.append(self._waiting.popleft())
-            size += len(work.script or b"")
+            size += work.size
             if work.script is None:
                 break
         if self._group:

@@ -17,6 +17,7 @@ from ..messages import record
 from .engine import Closed, Lost, Page, WrongKey
 
 REQUEST_ID = re.compile(r"[!-~]{1,200}")
+SPACES = {ord("\n"): " ", ord("\r"): " "}
 HOST = re.compile(r"(?:\[([^\[\]]*)\]|([^:\[\]]*))(?::\d*)?")
 # The statuses of refusals outside of /run, by their numbers; of the others it is 422.
 STATUSES = {3: 409, 8: 404, 11: 409, 18: 503}
@@ -100,23 +101,21 @@ def tree_of(request: web.Request) -> str:
     return checked_name(request.match_info["tree"])
 
 
-def record_of(name: str, values: list[str]) -> str:
-    try:
-        return record(values)
-    except ValueError as fault:
-        raise Problem(400, f"'{name}': {fault}") from None
+def record_of(values: list[str]) -> str:
+    """The record of values. No line has a line break, so one in a text is a space here: such values are read by a `Page`."""
+    return record([value.translate(SPACES) for value in values])
 
 
-def key_of(query: dict[str, list[str]]) -> str:
-    """The record of the key that is given."""
+def key_of(query: dict[str, list[str]]) -> list[str]:
+    """The values of the key that is given."""
     if "key" not in query:
         raise Problem(400, "a key has a parameter 'key' for each of its columns")
-    return record_of("key", query["key"])
+    return query["key"]
 
 
 def bounds_of(query: dict[str, list[str]]) -> str:
     """The lines of a block that bound a range: a parameter has a value for each column."""
-    return "".join(f"{word} {record_of(word, query[word])}\n" for word in ("from", "to") if word in query)
+    return "".join(f"{word} {record_of(query[word])}\n" for word in ("from", "to") if word in query)
 
 
 def flag_of(query: dict[str, list[str]], name: str) -> bool:

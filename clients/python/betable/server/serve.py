@@ -34,14 +34,14 @@ from .answers import (
     start_event, too_large, trees_of,
 )  # fmt: skip
 from .bodies import (
-    JSON, JSON_LINES, Batch, header_hint, is_json_body, operations_of, rows_of_csv, rows_of_json, upserts_of_csv, upserts_of_json,
+    JSON, JSON_LINES, Batch, delete_of, header_hint, is_json_body, no_table, operations_of, rows_of_csv, rows_of_json, upserts_of_csv, upserts_of_json,
 )  # fmt: skip
 from .connections import FILES_BESIDE, Connections, client_of, raised_limit_of_files
 from .engine import ALL_ROWS, Answer, Closed, Engine, Lost, Page, Result, Work, WrongKey
 from .notices import Notices, RequestLog
 from .requests import (
     Problem, bounds_of, changing_word, checked_name, flag_of, host_name, is_json, is_loopback, key_of, number_of, page_of, pairs_of, problem_of, query_of,
-    request_id, tree_of,
+    record_of, request_id, tree_of,
 )  # fmt: skip
 
 Handler = Callable[[web.Request], Awaitable[web.StreamResponse]]
@@ -51,6 +51,7 @@ FAILED_CHANGE_SECONDS = 60  # how long /healthz tells that a change has failed, 
 EVENT_SECONDS = 15  # seconds after which a reader of events gets a comment, so that proxies keep the connection
 ENDING_SECONDS = 1  # seconds after which a server that is ending gives up a body whose next bytes do not arrive
 LEAST_TOKEN_BYTES = 16
+EMPTY_BATCH = b"batch\nend\n"  # stands for packed changes
 BODY_TYPES = ("text/", "application/octet-stream", "application/x-www-form-urlencoded")
 SECONDS = (0.0003, 0.001, 0.003, 0.01, 0.03, 0.1, 0.3, 1, 3, 10, 30)
 COMMON_HEADERS = {"Cache-Control": "no-store", "X-Content-Type-Options": "nosniff"}
@@ -346,9 +347,9 @@ class Service:
             body, trees = await self.body(request, JSON + JSON_LINES), self.engine.trees
             there = trees.tree()
             if needs_table and not trees:
-                raise Problem(409, "there is no table yet: POST /run takes its 'table' command")
+                raise no_table()
             batch = await in_thread_if_large(len(body), batch_of_body, body, form, there, *more)
-            answer = await self.engine.run(Work(batch.script, request_id(request)))
+            answer = await self.answer_to_batch(request, batch)
         if answer.replies.startswith(b"refused "):
             self.metrics.refused.inc()
             problem = await asyncio.to_thread(refusal_of_batch, batch, answer.replies, trees)
@@ -357,15 +358,23 @@ class Service:
             raise problem
         return await self.replies(request, batch.script, answer, trees)
 
+    async def answer_to_batch(self, request: web.Request, batch: Batch) -> Answer:
+        """The answer to a batch, which may be a refusal."""
+        if batch.refusal:
+            return Answer(batch.refusal, self.engine.number)
+        script = batch.script if batch.changes is None else EMPTY_BATCH
+        return await self.engine.run(Work(script, request_id(request), changes=batch.changes))
+
     async def delete_row(self, request: web.Request) -> web.StreamResponse:
         self.expect_writable()
-        script, trees = f"batch\ndel {key_of(query_of(request, 'key'))}\nend\n".encode(), self.engine.trees
+        key, trees = key_of(query_of(request, "key")), self.engine.trees
+        batch = delete_of(key, trees.tree())
         with self.place():
-            answer = await self.engine.run(Work(script, request_id(request)))
+            answer = await self.answer_to_batch(request, batch)
         if answer.replies.startswith(b"refused "):
             self.metrics.refused.inc()
-            raise refusal(next(commands(script)), answer.replies, trees, [])
-        return await self.replies(request, script, answer, trees)
+            raise refusal(next(commands(batch.script)), answer.replies, trees, [])
+        return await self.replies(request, batch.script, answer, trees)
 
     async def post_checkpoint(self, request: web.Request) -> web.StreamResponse:
         self.expect_writable()
@@ -399,7 +408,8 @@ class Service:
 
     async def get_row(self, request: web.Request) -> web.StreamResponse:
         query = query_of(request, "key", "format", "header")
-        return await self.rows(request, f"get {key_of(query)}\n", query)
+        key = key_of(query)
+        return await self.rows(request, f"get {record_of(key)}\n", query, Page("primary", key, is_row=True))
 
     async def get_rows(self, request: web.Request) -> web.StreamResponse:
         query, tree = query_of(request, "from", "to", "after", "limit", "format", "header"), tree_of(request)
@@ -409,14 +419,18 @@ class Service:
         query = query_of(request, "columns", "of", "from", "to", "limit", "format", "header")
         if "of" not in query:
             raise Problem(400, "'of' names the column whose sum is asked for")
-        head = f"sums {tree_of(request)} {number_of(query, 'columns', 1)} {checked_name(query['of'][0])}\n"
-        return await self.rows(request, f"{head}{bounds_of(query)}go\n", query)
+        tree, columns, of = tree_of(request), number_of(query, "columns", 1), checked_name(query["of"][0])
+        page = page_of(tree, query)._replace(group=(columns, of))
+        return await self.rows(request, f"sums {tree} {columns} {of}\n{bounds_of(query)}go\n", query, page)
 
-    async def rows(self, request: web.Request, text: str, query: dict[str, list[str]], page: Page | None = None) -> web.StreamResponse:
-        """The rows of a `get`, of a `scan` or a page of it, or of `sums`, as CSV or as JSON. Without a limit the rows of a scan are read a page at a time."""
+    async def rows(self, request: web.Request, text: str, query: dict[str, list[str]], page: Page) -> web.StreamResponse:
+        """The rows of a `get`, of a `scan` or a page of it, or of `sums`, as CSV or as JSON. Without a limit the rows of a scan are read a page at a time. A
+        `get` and `sums` are run as scripts, unless a text of a bound has a line break."""
         script, as_json, has_header = text.encode(), is_json(request, query.get("format", [""])[0]), flag_of(query, "header")
-        is_in_pages = page is not None and "limit" not in query
-        work = Work(script, None, PAGE_ROWS if is_in_pages else number_of(query, "limit", ALL_ROWS), page=page)
+        is_scan = script.startswith(b"scan ")
+        is_in_pages = is_scan and "limit" not in query
+        most = PAGE_ROWS if is_in_pages else number_of(query, "limit", ALL_ROWS)
+        work = Work(script, None, most, page=page if is_scan or page.has_breaks else None)
         with self.place():
             answer = await self.engine.run(work)
         self.hold(request, len(answer.replies))
