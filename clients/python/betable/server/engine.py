@@ -62,10 +62,10 @@ class Page(NamedTuple):
 
 
 class Work(NamedTuple):
-    """A script to be run, or a checkpoint if there is none. A script with the id of a request is run exactly once. A script with `most_rows` is one `get`,
-    `scan` or `sums`: at most that many rows or groups of its reply are returned, and their columns. A script with `page` is the read of that range, and the
-    page is read in its place unless it is refused. A script with `image_of` is the `image` of that tree. A script with `changes` is an empty batch, and these
-    packed changes are applied in its place."""
+    """A script to be run. If there is none, a backup to be written to a path, or else a checkpoint. A script with the id of a request is run exactly once. A
+    script with `most_rows` is one `get`, `scan` or `sums`: at most that many rows or groups of its reply are returned, and their columns. A script with `page`
+    is the read of that range, and the page is read in its place unless it is refused. A script with `image_of` is the `image` of that tree. A script with
+    `changes` is an empty batch, and these packed changes are applied in its place."""
 
     script: bytes | None
     request: str | None = None
@@ -73,6 +73,7 @@ class Work(NamedTuple):
     image_of: str | None = None
     page: Page | None = None
     changes: bytes | None = None
+    backup: str | None = None
 
     @property
     def size(self) -> int:
@@ -160,8 +161,7 @@ class Worker:
         answers: list[Answer | Exception] = []
         try:
             if [work.script for work in group] == [None]:
-                self.table.checkpoint()
-                answers = [Answer(b"", self.table.number)]
+                answers = [self._answer_alone(group[0])]
             else:
                 with self.table.group():
                     answers = [self._answer(work) for work in group]
@@ -172,6 +172,17 @@ class Worker:
                 return Result([one.answers[0] for one in alone], sum(one.run_seconds for one in alone), sum(one.commit_seconds for one in alone))
             answers = [fault]
         return Result(answers, end - begin, time.perf_counter() - end)
+
+    def _answer_alone(self, work: Work) -> Answer | Exception:
+        """The answer to a backup or to a checkpoint."""
+        if work.backup is None:
+            self.table.checkpoint()
+        else:
+            try:
+                self.table.backup(work.backup)
+            except OSError as fault:
+                return fault
+        return Answer(b"", self.table.number)
 
     def _answer(self, work: Work) -> Answer | Exception:
         table, script = self.table, work.script or b""
@@ -379,11 +390,9 @@ class Engine:
         return await future
 
     async def _start(self) -> None:
-        # The process finds the package in the same folder as this one.
-        folders = [str(Path(__file__).resolve().parents[2]), os.environ.get("PYTHONPATH", "")]
         process = await asyncio.create_subprocess_exec(
             sys.executable, "-P", "-c", START, self.path, str(os.getpid()), stdin=asyncio.subprocess.PIPE, stdout=asyncio.subprocess.PIPE,
-            limit=1 << 20, env={**os.environ, "PYTHONPATH": os.pathsep.join(filter(None, folders))},
+            limit=1 << 20, env=package_environment(),
         )  # fmt: skip
         assert process.stdin is not None and process.stdout is not None
         self._process, self._stdin, self._stdout = process, process.stdin, process.stdout
@@ -413,7 +422,7 @@ class Engine:
         return found
 
     def _send_group(self) -> None:
-        """Sends the works that wait, as far as they make a group. A checkpoint is one by itself."""
+        """Sends the works that wait, as far as they make a group. A checkpoint and a backup are one by themselves."""
         size = 0
         while self._waiting and len(self._group) < MOST_GROUP and size < GROUP_BYTES:
             work, future = self._waiting[0]
@@ -452,6 +461,12 @@ class Engine:
         for future, fault in faults:
             if not future.done():
                 future.set_exception(fault)
+
+
+def package_environment() -> dict[str, str]:
+    """The environment of a process that finds the package in the same folder as this one."""
+    folders = [str(Path(__file__).resolve().parents[2]), os.environ.get("PYTHONPATH", "")]
+    return {**os.environ, "PYTHONPATH": os.pathsep.join(filter(None, folders))}
 
 
 def _ending(status: int) -> str:

@@ -11,6 +11,7 @@ import asyncio
 import hmac
 import json
 import logging
+import os
 import signal
 import sys
 import time
@@ -33,6 +34,7 @@ from .answers import (
     CsvRows, CsvRowsWithHeader, JsonRows, RowsAnswer, content_policy, event_of, first_reason, json_replies, picture_of, refusal_of_batch, refused_count,
     start_event, too_large, trees_of,
 )  # fmt: skip
+from .backups import Backups, checked_name as checked_backup_name
 from .bodies import (
     JSON, JSON_LINES, Batch, delete_of, header_hint, is_json_body, no_table, operations_of, rows_of_csv, rows_of_json, upserts_of_csv, upserts_of_json,
 )  # fmt: skip
@@ -81,6 +83,7 @@ class Metrics:
         self.group = Histogram("betable_group_scripts", "Scripts that were run as a group", buckets=(1, 2, 4, 8, 16, 32, 64, 128, 256), registry=registry)
         self.run_seconds = Histogram("betable_run_seconds", "A group in the engine", buckets=SECONDS, registry=registry)
         self.commit_seconds = Histogram("betable_commit_seconds", "A commit", buckets=SECONDS, registry=registry)
+        self.failed_backups = Counter("betable_failed_backups", "Backups that were not written", registry=registry)
         self.refused_connections = Counter("betable_refused_connections", "Connections that got 503, as each was in use", registry=registry)
         for name, help_text, value in (
             ("betable_kept_scripts", "The number of the last script that is kept", lambda: engine.number),
@@ -88,6 +91,8 @@ class Metrics:
             ("betable_request_bytes", "Bytes of the replies that are stored with an Idempotency-Key", lambda: engine.request_bytes),
             ("betable_checkpoint_time", "When the last checkpoint was written, in seconds since 1970, or 0 if none was since the start",
              lambda: service.checkpoint_time),
+            ("betable_backup_time", "When the last backup was written, in seconds since 1970, or 0 if none was since the start", lambda: service.backups.time),
+            ("betable_backup_seconds", "From the request for the last backup to its end", lambda: service.backups.seconds),
             ("betable_waiting_requests", "Requests that wait for the engine, or for the rest of their bodies", lambda: service.waiting),
             ("betable_queued_scripts", "Scripts that the engine has not answered", lambda: engine.waiting),
             ("betable_held_bytes", "Bytes of bodies and replies in memory", lambda: service.held),
@@ -121,7 +126,7 @@ class Service:
 
     def __init__(
         self, path: str, limits: Limits = Limits(), token: bytes | None = None, is_read_only: bool = False, log: Path | None = None,
-        slow_seconds: float | None = None,
+        slow_seconds: float | None = None, backup_folder: Path | None = None,
     ) -> None:  # fmt: skip
         self.notices = Notices()
         self.engine = Engine(path, self.take, self.notices.tell)
@@ -130,6 +135,7 @@ class Service:
         # When a change failed because memory or disk ran out, if none has succeeded since, and why.
         self.failed_change: tuple[float, str] | None = None
         self.checkpoint_time = 0.0
+        self.backups = Backups(backup_folder, path)
         self.waiting, self.held, self.is_ending = 0, 0, False
         self.watchers: set[asyncio.Queue[str | None]] = set()
         self.metrics = Metrics(self.engine, self)
@@ -157,6 +163,7 @@ class Service:
             web.get("/tree/{tree}.svg", self.get_picture),
             web.get("/events", self.get_events, allow_head=False),
             web.post("/checkpoint", self.post_checkpoint),
+            web.post("/backup", self.post_backup),
         ])  # fmt: skip
         application.on_shutdown.append(self.end_events)
         return application
@@ -383,6 +390,20 @@ class Service:
         self.checkpoint_time = time.time()
         return json_response({"number": answer.number, "log_bytes": self.engine.log_bytes})
 
+    async def post_backup(self, request: web.Request) -> web.StreamResponse:
+        query = query_of(request, "name", "check")
+        name = checked_backup_name(query["name"][0]) if "name" in query else None
+        is_checked = "check" not in query or flag_of(query, "check")
+        try:
+            with self.place():
+                backup = await self.backups.write(self.engine, name, is_checked)
+        except Problem as problem:
+            if problem.status >= 500:
+                self.metrics.failed_backups.inc()
+                self.notices.tell(str(problem))
+            raise
+        return json_response(backup._asdict())
+
     def expect_writable(self) -> None:
         if self.is_read_only:
             raise Problem(403, "this server is read-only")
@@ -566,6 +587,7 @@ def add_words(parser: argparse.ArgumentParser) -> None:
     parser.add_argument("--port", metavar="N", type=number_from(0, 65_535), default=8470, help="the port (%(default)s); with 0 one that is free")
     parser.add_argument("--token", metavar="FILE", type=Path, help=f"a file whose first line, of at least {LEAST_TOKEN_BYTES} bytes, each request has to have")
     parser.add_argument("--read-only", action="store_true", help="refuses what would change the table")
+    parser.add_argument("--backup-folder", metavar="DIR", type=Path, help="the folder into which POST /backup writes; without it there are no backups")
     number, seconds = number_from(1), number_from(0.001, 86_400, float)
     parser.add_argument("--most-body", metavar="BYTES", type=number, default=limits.body, help="the most bytes of a body (%(default)s)")
     parser.add_argument("--most-waiting", metavar="N", type=number, default=limits.waiting, help="the most requests that wait (%(default)s)")
@@ -606,8 +628,11 @@ def run(words: argparse.Namespace) -> int:
     limits = Limits(words.most_body, words.most_waiting, words.most_held, words.client_seconds, connections)
     if limits.held < limits.body:
         return fail(f"--most-held is at least --most-body, which is {limits.body:,}", 2)
+    folder = words.backup_folder and words.backup_folder.resolve()
+    if folder and not (folder.is_dir() and os.access(folder, os.W_OK | os.X_OK)):
+        return fail(f"{words.backup_folder}: no folder that backups can be written into", 2)
     try:
-        service = Service(words.path, limits, token, words.read_only, words.access_log, words.slow_seconds)
+        service = Service(words.path, limits, token, words.read_only, words.access_log, words.slow_seconds, folder)
     except OSError as fault:
         return fail(f"{words.access_log}: {fault.strerror}", 2)
     logging.getLogger().addHandler(service.notices)
