@@ -97,14 +97,15 @@ class LineBreaks(unittest.TestCase):
         """The same field, with a space in place of the break, is refused alike; the line is that in which the record begins."""
         rows, upserts = "/rows", "/upserts?set=note&add=qty"
         wrong = [
-            (rows, 'Oslo,x,1,"{}",true,00', "value"), (rows, 'Oslo,"{}",1,y,true,00', "value"), (rows, 'Oslo,1,1,"{}",yes,00', "value"),
-            (rows, 'Oslo,1,1,"{}",true,0', "value"), (rows, 'Oslo,1,1,"{}",true', ""), (rows, '"{}"', ""), (rows, f'Oslo,1,1,"{{}}{"z" * 255}",true,00', "value"),
-            (rows, f'Oslo,{2**63},1,"{{}}",true,00', "value"), (upserts, 'Oslo,x,"{}",1', "value"), (upserts, 'Oslo,1,"{}",x', "value"),
-            (upserts, 'Oslo,1,"{}"', None), ("/upserts?set=city", 'Oslo,1,"{}"', "value"), ("/upserts?add=note", '"{}",1,2', "value"),
-            ("/upserts?set=none", 'Oslo,1,"{}"', "value"), ("/upserts?set=note" + "&set=note" * 16, 'Oslo,1,"{}"' + ",x" * 16, ""),
+            (rows, 'Oslo,x,1,"{}",true,00'), (rows, 'Oslo,"{}",1,y,true,00'), (rows, 'Oslo,1,1,"{}",yes,00'),
+            (rows, 'Oslo,1,1,"{}",true,0'), (rows, 'Oslo,1,1,"{}",true'), (rows, '"{}"'),
+            (rows, f'Oslo,1,1,"{{}}{"z" * 255}",true,00'),
+            (rows, f'Oslo,{2**63},1,"{{}}",true,00'), (upserts, 'Oslo,x,"{}",1'), (upserts, 'Oslo,1,"{}",x'),
+            (upserts, 'Oslo,1,"{}"'), ("/upserts?set=city", 'Oslo,1,"{}"'), ("/upserts?add=note", '"{}",1,2'),
+            ("/upserts?set=none", 'Oslo,1,"{}"'), ("/upserts?set=note" + "&set=note" * 16, 'Oslo,1,"{}"' + ",x" * 16),
         ]  # fmt: skip
         with server(script=TABLE) as found:
-            for path, record, differs in wrong:
+            for path, record in wrong:
                 good = '"Ø\nx",1,1,n,false,00\n' if path == rows else None
                 with_break, with_space = (self.send(found, "POST", path, (good or "") + record.format(text) + "\n") for text in ("\n", " "))
                 line = 3 if good else 1
@@ -117,7 +118,8 @@ class LineBreaks(unittest.TestCase):
             # The refusal with the lowest number of a batch, as in a script.
             status, said = self.send(found, "POST", rows, '"a\nb",1\nOslo,x,1,y,true,00\n')
             self.assertEqual((status, said["number"], said["item"], said["line"]), (422, 6, 2, 3))
-            status, said = self.send(found, "POST", rows, json.dumps([["a\nb", 1, 1, "x", True, "00"], ["a\nb", 1, 1, "x" * 256, True, "00"]]), "application/json")
+            two = [["a\nb", 1, 1, "x", True, "00"], ["a\nb", 1, 1, "x" * 256, True, "00"]]
+            status, said = self.send(found, "POST", rows, json.dumps(two), "application/json")
             self.assertEqual((status, said["row"], said["column"]), (422, 2, "note"))
             for body, line, part in (
                 ('Oslo,1,1,"a\nb,true,00\n', 1, "the quoted field that begins in line 1 is not closed, and goes on to line 2"),

@@ -20,9 +20,10 @@ from pathlib import Path
 from typing import Any, BinaryIO, NamedTuple
 
 from ..calls import Row
-from ..durable.table import FAULTS, ReplyDamaged, RequestReused, ScriptTooLong, open as open_table
+from ..durable.table import FAULTS, Durable, ReplyDamaged, RequestReused, ScriptTooLong, open as open_table
 from ..errors import Refused, RowError
 from ..language import counted
+from ..messages import delete
 from ..packed import Usage, change_count
 from ..replies import reply_end
 from ..rows import Value, printed_records, value_of_field
@@ -64,8 +65,8 @@ class Page(NamedTuple):
 class Work(NamedTuple):
     """A script to be run. If there is none, a backup to be written to a path, or else a checkpoint. A script with the id of a request is run exactly once. A
     script with `most_rows` is one `get`, `scan` or `sums`: at most that many rows or groups of its reply are returned, and their columns. A script with `page`
-    is the read of that range, and the page is read in its place unless it is refused. A script with `image_of` is the `image` of that tree. A script with
-    `changes` is an empty batch, and these packed changes are applied in its place."""
+    is the read of that range, and the page is read in its place unless it is refused; if it `deletes`, the rows of the page are removed. A script with
+    `image_of` is the `image` of that tree. A script with `changes` is an empty batch, and these packed changes are applied in its place."""
 
     script: bytes | None
     request: str | None = None
@@ -73,6 +74,7 @@ class Work(NamedTuple):
     image_of: str | None = None
     page: Page | None = None
     changes: bytes | None = None
+    deletes: bool = False
     backup: str | None = None
 
     @property
@@ -189,7 +191,7 @@ class Worker:
         if work.image_of is not None and (usage := self._usage(work.image_of)) and usage.rows + usage.messages > MOST_IMAGE_ITEMS:
             return Answer(b"", table.number, usage=usage)
         try:
-            if work.page is not None and (answer := self._page(work.page, work.most_rows or ALL_ROWS)):
+            if work.page is not None and (answer := self._page(work.page, work.most_rows or ALL_ROWS, work.deletes)):
                 return answer
             if work.changes is not None:
                 replies = self._applied(work.changes, work.request)
@@ -213,8 +215,9 @@ class Worker:
         """How much a tree holds, if there is one of this name."""
         return None if self.table.trees().tree(tree) is UNKNOWN else self.table.usage(tree)
 
-    def _page(self, page: Page, most: int) -> Answer | None:
-        """At most that many rows of a page, written as the reply to a scan of them. None if the scan would be refused."""
+    def _page(self, page: Page, most: int, deletes: bool) -> Answer | None:
+        """At most that many rows of a page, written as the reply to a scan of them, or the reply to the batch that deletes them. None if the scan would be
+        refused."""
         there = self.table.trees().tree(page.tree)
         if there is UNKNOWN:
             return None
@@ -239,6 +242,9 @@ class Worker:
             return None
         is_cut = len(rows) > most
         rows = rows[:most]
+        if deletes:
+            last = rows[-1][: len(there.key)] if rows else None
+            return Answer(b"batch %d\n" % delete_rows(self.table, rows, there), self.table.number, is_cut, last=last)
         found = printed_records(rows, there.kinds)
         replies = "".join([f"row {line}\n" for line in found]) + f"rows {len(found)}\n"
         last = rows[-1][: len(there.key)] if rows else None
@@ -256,6 +262,15 @@ class Worker:
         lines = [f"sum {int(group[0])} {int(group[1])} {line}\n" for group, line in zip(groups, found)]
         replies = "".join(lines) + f"sums {len(lines)}\n"
         return Answer(replies.encode(), self.table.number, len(groups) > most, _named_columns(there.key[:count]))
+
+
+def delete_rows(table: Durable, rows: list[Row], there: Tree) -> int:
+    """Deletes rows that were read of a tree, and returns their number. The key of a tree ends with that of the table."""
+    key, end = table.trees().tree().key, len(there.key)
+    start = end - len(key)
+    if rows:
+        table.batch([delete(*row[start:end]) for row in rows])
+    return len(rows)
 
 
 def _named_columns(columns: Sequence[TreeColumn]) -> list[tuple[str, str]]:

@@ -49,6 +49,7 @@ from .requests import (
 Handler = Callable[[web.Request], Awaitable[web.StreamResponse]]
 MOST_EVENTS, MOST_WATCHERS = 256, 64  # that wait for a reader; readers
 PAGE_ROWS = 10_000  # of a page of all rows of a range
+DELETED_ROWS = 5_000  # that a batch removes of a range
 FAILED_CHANGE_SECONDS = 60  # how long /healthz tells that a change has failed, so that whoever heeds it tries again
 EVENT_SECONDS = 15  # seconds after which a reader of events gets a comment, so that proxies keep the connection
 ENDING_SECONDS = 1  # seconds after which a server that is ending gives up a body whose next bytes do not arrive
@@ -158,6 +159,7 @@ class Service:
             web.get("/row", self.get_row, allow_head=False),
             web.delete("/row", self.delete_row),
             web.get("/rows/{tree}", self.get_rows, allow_head=False),
+            web.delete("/rows/{tree}", self.delete_rows),
             web.get("/sums/{tree}", self.get_sums, allow_head=False),
             web.get("/trees", self.get_trees),
             web.get("/tree/{tree}.svg", self.get_picture),
@@ -173,7 +175,7 @@ class Service:
     async def answer(self, request: web.Request, handler: Handler) -> web.StreamResponse:
         """The answer to a request: that of its handler, or a problem as JSON."""
         resource, client = request.match_info.route.resource, client_of(request)
-        begin, request["held"] = time.perf_counter(), 0
+        begin, request["held"], request["done"] = time.perf_counter(), 0, {}
         self.connections.begin_request(client)
         try:
             if request.path not in ("/", "/healthz"):
@@ -185,7 +187,9 @@ class Service:
         except Problem as problem:
             response = response_of(problem)
         except (Refused, Lost, Closed, WrongKey, *FAULTS) as fault:
-            response = response_of(problem_of(fault))
+            found = problem_of(fault)
+            found.fields |= request["done"]
+            response = response_of(found)
             if response.status == 507 and request.method != "GET":
                 self.failed_change = time.monotonic(), str(fault)
         except web.RequestPayloadError:
@@ -297,7 +301,7 @@ class Service:
             if isinstance(answer, Answer) and answer.number > before:
                 before = answer.number
                 if self.watchers and work.script is not None:
-                    self.tell(event_of(work.script, answer))
+                    self.tell(event_of(EMPTY_BATCH if work.deletes else work.script, answer))
 
     def tell(self, event: str) -> None:
         for watcher in list(self.watchers):
@@ -382,6 +386,35 @@ class Service:
             self.metrics.refused.inc()
             raise refusal(next(commands(batch.script)), answer.replies, trees, [])
         return await self.replies(request, batch.script, answer, trees)
+
+    async def delete_rows(self, request: web.Request) -> web.StreamResponse:
+        """Removes the rows of a range, some at a time. Other requests run in between."""
+        self.expect_writable()
+        query, tree = query_of(request, "from", "to", "all"), tree_of(request)
+        if ("from" in query or "to" in query) == flag_of(query, "all"):
+            raise Problem(400, "'from' or 'to', or both, bound the rows that are removed; to remove all rows write all=1 in their place")
+        if request_id(request) is not None:
+            raise Problem(400, "a range is removed by many batches, which have no Idempotency-Key: send the request again without it, and it goes on")
+        script, done = f"scan {tree}\n{bounds_of(query)}go\n".encode(), request["done"]
+        work, done["deleted"] = Work(script, None, DELETED_ROWS, page=page_of(tree, query), deletes=True), 0
+        with self.place():
+            while True:
+                try:
+                    answer = await self.engine.run(work)
+                except Lost:
+                    reason = f"the engine's process ended: up to {DELETED_ROWS:,} more rows were removed. Send the request again, and it goes on"
+                    raise Problem(503, reason, {"Retry-After": "1"}, **done) from None
+                if answer.replies.startswith(b"refused "):
+                    raise refusal(next(commands(script)), answer.replies, self.engine.trees, [])
+                done["deleted"] += int(answer.replies.split()[1])
+                if not answer.is_cut:
+                    return json_response({**done, "number": answer.number})
+                if self.is_ending:
+                    raise Problem(503, "the server is ending: send the request again, and it goes on", {"Retry-After": "1"}, **done)
+                if request.transport is None or request.transport.is_closing():
+                    raise ConnectionResetError
+                assert work.page is not None
+                work = work._replace(page=work.page._replace(after=answer.last))
 
     async def post_checkpoint(self, request: web.Request) -> web.StreamResponse:
         self.expect_writable()
