@@ -27,10 +27,13 @@ OF_PRIMARY = "The table itself is 'primary', which is not built or dropped."
 
 # Mistakes of a command, each with what is said below its line. A number after @ is that of a line after the head line.
 MISTAKES = [
-    ("table 4 4 4 1 id:int price:float", "'price:float': a kind is int, text, flag or bytes", FORM["table"]),
+    ("table 4 4 4 1 id:int price:float", "'price:float': a kind is int, text, flag or bytes: write int, for decimals in a fixed unit, as cents", FORM["table"]),
     ("table 4 4 4 1 ID:int", "'ID' is no name: names are in small letters, as 'id'", FORM["table"]),
     ("table 4 4 4 1 id:int, price:int", "'id:int,': columns are divided by spaces alone", FORM["table"]),
-    ("table id:int price:int", "'id:int' is no fanout: F, C, L and K come before the columns", FORM["table"]),
+    (
+        "table id:int price:int",
+        "'id:int' is no fanout: F, C, L and K come before the columns: write table 16 1024 256 1 id:int price:int", FORM["table"],
+    ),
     ("table 4 4 4 1", "no column follows the number of key columns", FORM["table"]),
     ("table 4 4", "the leaf is missing", FORM["table"]),
     ("table cities 4 4 4 1 id:int",

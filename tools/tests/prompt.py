@@ -115,6 +115,28 @@ class CommandsOfThePrompt(TestCase):
         self.assertEqual(printed(self, ".help tree\n"), ".tree [TREE]\n  draws a tree: primary, or an index\n")
         self.assertEqual(prompt(".help bach\n"), (1, "", "error: 'bach' is not a command: did you mean 'batch'?\n"))
 
+    def test_help_of_a_table_has_one_that_can_be_copied(self):
+        text = printed(self, ".help table\n")
+        for part in ("table 16 1024 256 1 id:int city:text qty:int", "F: the most children", "K: how many of the columns are the key", "int, text, flag or bytes"):
+            self.assertIn(part, text)
+
+    def test_help_knows_the_lines_of_blocks(self):
+        for word, part in (("put", "put 3,Oslo,12"), ("del", "del 3"), ("ups", "ups 3,add,qty,-5,set,city,Oslo"), ("from", "from Oslo,3"), ("to", "to P")):
+            lines = printed(self, f".help {word}\n").splitlines()
+            self.assertEqual(lines[0], f"{word} record")
+            self.assertIn(part, lines[1])
+        text = printed(self, f"{TABLE}batch\nput 3,Alta,12\nups 3,add,qty,-5,set,city,Oslo\nend\nscan primary\ngo\n")
+        self.assertIn(" 3  Oslo    7\n", text)
+
+    def test_a_table_without_its_numbers_is_told_with_them(self):
+        self.assertIn("write table 16 1024 256 1 id:int name:text\n", prompt("table id:int name:text\n")[1])
+        self.assertEqual(printed(self, "table 16 1024 256 1 id:int name:text\n"), "table 2\n")
+
+    def test_kinds_of_other_programs_lead_to_the_right_ones(self):
+        for kind, part in (("float", "write int, for decimals in a fixed unit, as cents"), ("VARCHAR", "write text"), ("boolean", "write flag")):
+            self.assertIn(f"a kind is int, text, flag or bytes: {part}\n", prompt(f"table 16 1024 256 1 id:int qty:{kind}\n")[1])
+        self.assertIn("a kind is int, text, flag or bytes\n", prompt("table 16 1024 256 1 id:int qty:colour\n")[1])
+
     def test_the_schema_and_the_indexes_are_those_that_were_made(self):
         index = 'index c on city,qty include id where city = "x, y"\n'
         text = printed(self, f"{TABLE}.indexes\n{index}index d on qty\nbuild d 1\n.schema\n.indexes\ndrop c\n.indexes\n")
@@ -467,18 +489,29 @@ class ATerminal(TestCase):
         with tempfile.TemporaryDirectory() as folder, typed(folder=folder) as keys:
             (Path(folder) / "cities.csv").write_text((TOP / "examples/cities.csv").read_text())
             for line, shown in (
-                ("tab\t 4 3 2 1 id:i\t city:te\t qty:int\n", "table 4 3 2 1 id:int city:text qty:int\ntable 3"),
-                (".imp\t ci\t\n", ".import cities.csv\n12 rows loaded"),
-                ("ind\t by_city o\t ci\t inc\t q\t\n", "index by_city on city include qty\nindex by_city"),
-                ("bui\t by\t 99\n", "build by_city 99\nbuild by_city 12 complete"),
-                ("ge\t 1\n", "get 1\nid  city"),
+                ("tab\t4 3 2 1 id:i\t city:te\t qty:int\n", "table 4 3 2 1 id:int city:text qty:int\ntable 3"),
+                (".imp\tci\t\n", ".import cities.csv\n12 rows loaded"),
+                ("ind\tby_city o\t ci\t inc\t q\t\n", "index by_city on city include qty\nindex by_city"),
+                ("bui\tby\t 99\n", "build by_city 99\nbuild by_city 12 complete"),
+                ("ge\t1\n", "get 1\nid  city"),
             ):
                 self.assertIn(shown, keys.type(line))
             self.assertIn("sums by_city 1 qty\n", keys.type("sums b\t 1 q\t\n", "(go)> "))
-            self.assertIn("from Alta\n", keys.type("f\t Alta\n", "(go)> "))
-            self.assertIn("to B\n", keys.type("t\t B\n", "(go)> "))
+            self.assertIn("from Alta\n", keys.type("f\tAlta\n", "(go)> "))
+            self.assertIn("to B\n", keys.type("t\tB\n", "(go)> "))
+            # What closes a block is a whole line.
             self.assertIn("1 group", keys.type("g\t\n"))
             self.assertIn("drain  drop", keys.type("dr\t\t", "drop"))
+
+    def test_single_quotes_are_warned_of(self):
+        with typed() as keys:
+            keys.type(TABLE)
+            keys.type("batch\n", "  (end)> ")
+            keys.type("put 1,'O',3\n", "  (end)> ")
+            self.assertIn("warning: 'O' in line 2 has single quotes, which are letters of the text", keys.type("end\n"))
+            keys.type("batch\n", "  (end)> ")
+            keys.type("put 1,O'Neill,3\n", "  (end)> ")
+            self.assertNotIn("warning", keys.type("end\n"))
 
     def test_lines_come_back_from_the_history(self):
         with tempfile.TemporaryDirectory() as folder:

@@ -19,7 +19,7 @@ from .batches import Batch, Columns, Messages, Rows, UpsertRows, without_breaks
 from .csv_input import BLOCK, Part, WrongRecords, has_line_breaks, parts, rows_of_records, several_are_wrong, wrong_records, wrong_records_of_load
 from .errors import OutOfMemory, Refused, RowTypeError, RowValueError, WrongRecord
 from .faults import MEANINGS, Fault, faults_of_refusal
-from .forms import name_fault
+from .forms import OTHER_KINDS, name_fault
 from .language import Command
 from .messages import Message, Shape, columns_of_shape, delete, record, shape_of, shape_of_columns, upsert
 from .packed import MOST_ROWS, Usage
@@ -653,14 +653,6 @@ def _columns_given(columns: Any) -> list[tuple[Any, Any]]:
 
 
 EXAMPLE_OF_COLUMNS = "'id:int city:text'"
-# Kinds of other programs, and what to write for them.
-OTHER_KINDS = {
-    **dict.fromkeys(("integer", "bigint", "int64", "int32", "long", "timestamp", "datetime"), "write int, for times as seconds"),
-    **dict.fromkeys(("float", "float64", "double", "real", "decimal", "numeric"), "write int, for decimals in a fixed unit, as cents"),
-    **dict.fromkeys(("str", "string", "varchar", "char", "date", "json"), "write text"),
-    **dict.fromkeys(("bool", "boolean"), "write flag"),
-    **dict.fromkeys(("blob", "binary", "uuid"), "write bytes"),
-}
 
 
 def checked_kind(kind: Any) -> str:

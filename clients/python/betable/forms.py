@@ -115,7 +115,8 @@ def table_word_faults(words: list[bytes]) -> list[str]:
     found, columns = [], words[len(SIZES) :]
     for word, (name, form) in zip(words, SIZES.items()):
         if b":" in word:
-            found.append(f"'{visible(word, 40)}' is no {name}: F, C, L and K come before the columns")
+            instead = f": write table 16 1024 256 1 {visible(b' '.join(words), 200)}" if word is words[0] else ""
+            found.append(f"'{visible(word, 40)}' is no {name}: F, C, L and K come before the columns{instead}")
             columns = words[words.index(word) :]
             break
         if name == "fanout" and NAME.fullmatch(word):
@@ -127,6 +128,16 @@ def table_word_faults(words: list[bytes]) -> list[str]:
         return [f"the {list(SIZES)[len(words)]} is missing"]
     found += [reason for word in columns if (reason := column_fault(word))]
     return found if columns else [*found, "no column follows the number of key columns"]
+
+
+# Kinds of other programs, and what to write for them.
+OTHER_KINDS = {
+    **dict.fromkeys(("integer", "bigint", "int64", "int32", "long", "timestamp", "datetime"), "write int, for times as seconds"),
+    **dict.fromkeys(("float", "float64", "double", "real", "decimal", "numeric"), "write int, for decimals in a fixed unit, as cents"),
+    **dict.fromkeys(("str", "string", "varchar", "char", "date", "json"), "write text"),
+    **dict.fromkeys(("bool", "boolean"), "write flag"),
+    **dict.fromkeys(("blob", "binary", "uuid"), "write bytes"),
+}
 
 
 def column_fault(word: bytes) -> str | None:
@@ -141,7 +152,10 @@ def column_fault(word: bytes) -> str | None:
         return reason if name else f"{text} has no name before the colon"
     if not kind:
         return f"{text}: the kind follows the colon without a space, as '{visible(name, 40)}:int'; a kind is {any_of(KINDS)}"
-    return None if kind in KINDS else f"{text}: a kind is {any_of(KINDS)}"
+    if kind in KINDS:
+        return None
+    instead = OTHER_KINDS.get(kind.decode(errors="replace").lower())
+    return f"{text}: a kind is {any_of(KINDS)}" + (f": {instead}" if instead else "")
 
 
 # ---- index ----

@@ -74,6 +74,8 @@ class Terminal:
             self._found = [word for word in self._words(before) if word.startswith(text)]
             if not text and not before:
                 self._found = [word for word in self._found if not word.startswith(".")]
+            if not before and len(self._found) == 1:
+                self._found = [with_space(self._found[0])]
         return self._found[place] if place < len(self._found) else None
 
     def next(self, prompt: str) -> bytes | None:
@@ -89,6 +91,14 @@ class Terminal:
 
 
 # ---- completion ----
+
+# The words that are a whole line.
+WHOLE_LINES = {form.encode() for form in FORMS.values() if " " not in form} | set(CLOSING.values())
+
+
+def with_space(word: str) -> str:
+    """The first word of a line, with a space if more words follow it."""
+    return word if word.encode() in WHOLE_LINES else f"{word} "
 
 
 def _texts(names: Iterable[bytes]) -> list[str]:

@@ -19,11 +19,14 @@ from types import FrameType
 from typing import NamedTuple
 
 from .. import durable
+from ..advice import warnings
 from ..calls import Calls
 from ..errors import OutOfMemory
 from ..faults import MEANINGS, WITH_ADVICE, Fault, MessageFaults, bound_faults
 from ..forms import head_faults
-from ..language import BLOCK_WORDS, CLOSING, FORMS, MOST_SCRIPT_BYTES, Command, Definitions, Line, any_of, commands, counted, index_of, visible
+from ..language import (
+    BLOCK_WORDS, CLOSING, FORMS, KINDS, MOST_SCRIPT_BYTES, OPERATIONS, Command, Definitions, Line, any_of, commands, counted, index_of, visible,
+)  # fmt: skip
 from ..refusals import Refusal
 from ..replies import ROW_WORDS, answered
 from ..schema import Tree, Trees, trees_after
@@ -47,6 +50,24 @@ MEANT = {
     **dict.fromkeys((".image", ".draw"), ".tree"),
     "explain": ".explain", "\\timing": ".timer",
 }  # fmt: skip
+
+
+# What `.help` says of a command beside its form, and of the lines of a block.
+MORE_HELP = {
+    b"table": [
+        "as table 16 1024 256 1 id:int city:text qty:int, whose numbers are good ones for most tables",
+        "F: the most children of a node; C: messages of a buffer; L: rows of a leaf; K: how many of the columns are the key",
+        f"a kind is {any_of(KINDS)}",
+    ],
+    b"put": ["in a batch: puts a row, with the values of all columns, as put 3,Oslo,12. It takes the place of the row with its key"],
+    b"del": ["in a batch: removes the row of a key, as del 3"],
+    b"ups": [
+        "in a batch: changes columns of the row of a key, which may be a new one, as ups 3,add,qty,-5,set,city,Oslo",
+        f"after the key come an operation ({any_of(OPERATIONS)}), a column and a value, as often as you like",
+    ],
+    b"from": ["in a scan or sums: the first values of a key, as from Oslo,3: the range begins with them"],
+    b"to": ["in a scan or sums: the first values of a key, as to P: the range ends before them"],
+}
 
 
 class PromptFault(Exception):
@@ -187,6 +208,8 @@ class Shell:
                 self.typed.take(command)
                 if not is_interrupted():
                     self.show(command, reply, trees, f" ({seconds:.3f} s)" if self.has_times else "")
+                    for warning in warnings(command, trees, True) if self.lines.is_terminal else ():
+                        print(f"  warning: {warning}")
             trees = trees_after(trees, command, reply)
         if fault:
             self.fail(fault)
@@ -268,8 +291,10 @@ class Shell:
                 print(f"{f'{name} {command.form}':{width}}  {command.help}")
             print(f"The commands of the language: {any_of(FORMS).replace(' or ', ' and ')}.")
             print("The prompt of a block shows the line that closes it; Ctrl-C gives it up. docs/SCRIPT.md has the language, and docs/HOW_TO.md recipes.")
-        elif (encoded := word.encode()) in FORMS:
-            print(f"{FORMS[encoded]}")
+        elif (encoded := word.encode()) in FORMS or encoded in MORE_HELP:
+            print(FORMS.get(encoded) or f"{word} record")
+            for line in MORE_HELP.get(encoded, ()):
+                print(f"  {line}")
             if encoded in BLOCK_WORDS:
                 print(f"  lines that begin with {any_of(BLOCK_WORDS[encoded])}, and then '{CLOSING[encoded].decode()}'")
             elif encoded in CLOSING:
@@ -277,7 +302,7 @@ class Shell:
         elif (name := "." + word.removeprefix(".")) in DOT_COMMANDS:
             print(f"{name} {DOT_COMMANDS[name].form}".rstrip() + f"\n  {DOT_COMMANDS[name].help}")
         else:
-            near = get_close_matches(word, [one.decode() for one in FORMS] + list(DOT_COMMANDS), 1)
+            near = get_close_matches(word, [one.decode() for one in [*FORMS, *MORE_HELP]] + list(DOT_COMMANDS), 1)
             raise PromptFault(f"'{word}' is not a command" + (f": did you mean '{near[0]}'?" if near else "; .help lists them"))
 
     def explain(self) -> None:
