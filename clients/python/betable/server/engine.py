@@ -20,7 +20,7 @@ from pathlib import Path
 from typing import Any, BinaryIO, NamedTuple
 
 from ..calls import Row
-from ..durable.table import FAULTS, Durable, ReplyDamaged, RequestReused, ScriptTooLong, open as open_table
+from ..durable.table import CHECKPOINT_BYTES, FAULTS, Durable, ReplyDamaged, RequestReused, ScriptTooLong, open as open_table
 from ..errors import Refused, RowError
 from ..language import counted
 from ..messages import delete
@@ -97,7 +97,8 @@ class Answer(NamedTuple):
 
 class Result(NamedTuple):
     """The results of works: for each its answer or its fault, the time of its scripts and that of its commit. `number` is that of the last script that
-    is kept, `log_bytes` are those of the log, `request_bytes` those of the stored replies, and `trees` are those of the table if they have changed."""
+    is kept, `log_bytes` are those of the log, `request_bytes` those of the stored replies, and `trees` are those of the table if they have changed. If a
+    checkpoint was written, `checkpoint_seconds` is how long the last one took. `checkpoint_failed` says whether none can be written by itself."""
 
     answers: list[Answer | Exception]
     run_seconds: float = 0
@@ -106,6 +107,8 @@ class Result(NamedTuple):
     log_bytes: int = 0
     request_bytes: int = 0
     trees: Trees | None = None
+    checkpoint_seconds: float | None = None
+    checkpoint_failed: bool = False
 
 
 class WrongKey(Exception):
@@ -127,7 +130,7 @@ def main() -> int:
     """Runs groups of works until the server closes its pipe. Signals to end are the server's, which then replies to what waits."""
     for number in (signal.SIGINT, signal.SIGTERM):
         signal.signal(number, signal.SIG_IGN)
-    path, parent = sys.argv[1:]
+    path, parent, checkpoint_bytes = sys.argv[1:]
     ctypes.CDLL(None).prctl(PR_SET_PDEATHSIG, signal.SIGKILL)
     if os.getppid() != int(parent):
         return 1
@@ -135,7 +138,7 @@ def main() -> int:
     works, results = os.fdopen(os.dup(0), "rb"), os.fdopen(os.dup(1), "wb")
     os.dup2(2, 1)
     try:
-        worker = Worker(path)
+        worker = Worker(path, int(checkpoint_bytes))
     except Exception as fault:
         _send(results, fault)
         return 1
@@ -143,10 +146,16 @@ def main() -> int:
         known: Trees | None = None
         group: list[Work] | None = []
         while group is not None:
+            count = table.checkpoint_count
             result = worker.run_group(group)
             before, known = known, table.trees()
-            trees = known if known != before else None
-            _send(results, result._replace(number=table.number, log_bytes=table.log_bytes, request_bytes=table.request_bytes, trees=trees))
+            result = result._replace(number=table.number, log_bytes=table.log_bytes, request_bytes=table.request_bytes)
+            if known != before:
+                result = result._replace(trees=known)
+            if table.checkpoint_count != count and table.checkpoint_seconds is not None:
+                commit_seconds = max(0, result.commit_seconds - table.checkpoint_seconds)
+                result = result._replace(checkpoint_seconds=table.checkpoint_seconds, commit_seconds=commit_seconds)
+            _send(results, result._replace(checkpoint_failed=table.checkpoint_fault is not None))
             group = _received(works)
     return 0
 
@@ -154,8 +163,8 @@ def main() -> int:
 class Worker:
     """The durable table of a server."""
 
-    def __init__(self, path: str) -> None:
-        self.table = open_table(path)
+    def __init__(self, path: str, checkpoint_bytes: int = CHECKPOINT_BYTES) -> None:
+        self.table = open_table(path, checkpoint_bytes=checkpoint_bytes or None)
 
     def run_group(self, group: list[Work]) -> Result:
         """Runs works and keeps what they changed by one commit. If one of them fails, nothing of the group is kept, and each is run by itself."""
@@ -333,14 +342,14 @@ class Engine:
     """The engine's process, as its server sees it. `trees` are the table's, `number` that of the last script that is kept, `starts` how often it was started.
 
     `on_result` is called with the works and the result of each group, before their answers are given, and `on_notice` with a line when the process has ended,
-    and when another one has taken its place.
+    and when another one has taken its place. By itself the process writes a checkpoint once the log has `checkpoint_bytes`, or never with 0.
     """
 
     def __init__(
         self, path: str | os.PathLike[str], on_result: Callable[[list[Work], Result], None] = lambda group, result: None,
-        on_notice: Callable[[str], None] = lambda line: None,
+        on_notice: Callable[[str], None] = lambda line: None, checkpoint_bytes: int = CHECKPOINT_BYTES,
     ) -> None:  # fmt: skip
-        self.path, self.on_result, self.on_notice = os.fspath(path), on_result, on_notice
+        self.path, self.on_result, self.on_notice, self.checkpoint_bytes = os.fspath(path), on_result, on_notice, checkpoint_bytes
         self.trees, self.number, self.log_bytes, self.request_bytes, self.starts = Trees(), 0, 0, 0, 0
         self.is_open = False
         self._waiting: deque[tuple[Work, asyncio.Future[Answer]]] = deque()
@@ -406,8 +415,8 @@ class Engine:
 
     async def _start(self) -> None:
         process = await asyncio.create_subprocess_exec(
-            sys.executable, "-P", "-c", START, self.path, str(os.getpid()), stdin=asyncio.subprocess.PIPE, stdout=asyncio.subprocess.PIPE,
-            limit=1 << 20, env=package_environment(),
+            sys.executable, "-P", "-c", START, self.path, str(os.getpid()), str(self.checkpoint_bytes), stdin=asyncio.subprocess.PIPE,
+            stdout=asyncio.subprocess.PIPE, limit=1 << 20, env=package_environment(),
         )  # fmt: skip
         assert process.stdin is not None and process.stdout is not None
         self._process, self._stdin, self._stdout = process, process.stdin, process.stdout

@@ -24,7 +24,7 @@ from aiohttp import web
 from prometheus_client import CollectorRegistry, Counter, Gauge, Histogram, ProcessCollector, generate_latest
 
 from ..calls import refusal
-from ..durable.table import FAULTS
+from ..durable.table import CHECKPOINT_BYTES, FAULTS, LARGEST_CHECKPOINT_BYTES
 from ..errors import Refused
 from ..language import MOST_SCRIPT_BYTES, commands
 from ..messages import OPERATIONS
@@ -54,6 +54,7 @@ FAILED_CHANGE_SECONDS = 60  # how long /healthz tells that a change has failed, 
 EVENT_SECONDS = 15  # seconds after which a reader of events gets a comment, so that proxies keep the connection
 ENDING_SECONDS = 1  # seconds after which a server that is ending gives up a body whose next bytes do not arrive
 LEAST_TOKEN_BYTES = 16
+CAUSES = ("size", "request")  # of a checkpoint
 EMPTY_BATCH = b"batch\nend\n"  # stands for packed changes
 BODY_TYPES = ("text/", "application/octet-stream", "application/x-www-form-urlencoded")
 SECONDS = (0.0003, 0.001, 0.003, 0.01, 0.03, 0.1, 0.3, 1, 3, 10, 30)
@@ -85,6 +86,12 @@ class Metrics:
         self.run_seconds = Histogram("betable_run_seconds", "A group in the engine", buckets=SECONDS, registry=registry)
         self.commit_seconds = Histogram("betable_commit_seconds", "A commit", buckets=SECONDS, registry=registry)
         self.failed_backups = Counter("betable_failed_backups", "Backups that were not written", registry=registry)
+        self.checkpoint_seconds = Histogram(
+            "betable_checkpoint_seconds", "A checkpoint, by itself as the log was long (size), or by POST /checkpoint (request)", ["cause"], buckets=SECONDS,
+            registry=registry,
+        )  # fmt: skip
+        for cause in CAUSES:
+            self.checkpoint_seconds.labels(cause)
         self.refused_connections = Counter("betable_refused_connections", "Connections that got 503, as each was in use", registry=registry)
         for name, help_text, value in (
             ("betable_kept_scripts", "The number of the last script that is kept", lambda: engine.number),
@@ -92,6 +99,7 @@ class Metrics:
             ("betable_request_bytes", "Bytes of the replies that are stored with an Idempotency-Key", lambda: engine.request_bytes),
             ("betable_checkpoint_time", "When the last checkpoint was written, in seconds since 1970, or 0 if none was since the start",
              lambda: service.checkpoint_time),
+            ("betable_checkpoint_failed", "1 if the last checkpoint that was due by the size of the log was not written", lambda: service.checkpoint_failed),
             ("betable_backup_time", "When the last backup was written, in seconds since 1970, or 0 if none was since the start", lambda: service.backups.time),
             ("betable_backup_seconds", "From the request for the last backup to its end", lambda: service.backups.seconds),
             ("betable_waiting_requests", "Requests that wait for the engine, or for the rest of their bodies", lambda: service.waiting),
@@ -120,6 +128,8 @@ class Metrics:
         if result.number != before:
             self.commits.inc()
             self.commit_seconds.observe(result.commit_seconds)
+        if result.checkpoint_seconds is not None:
+            self.checkpoint_seconds.labels(CAUSES[group[0].script is None]).observe(result.checkpoint_seconds)
 
 
 class Service:
@@ -127,15 +137,15 @@ class Service:
 
     def __init__(
         self, path: str, limits: Limits = Limits(), token: bytes | None = None, is_read_only: bool = False, log: Path | None = None,
-        slow_seconds: float | None = None, backup_folder: Path | None = None,
+        slow_seconds: float | None = None, backup_folder: Path | None = None, checkpoint_bytes: int = CHECKPOINT_BYTES,
     ) -> None:  # fmt: skip
         self.notices = Notices()
-        self.engine = Engine(path, self.take, self.notices.tell)
+        self.engine = Engine(path, self.take, self.notices.tell, checkpoint_bytes)
         self.limits, self.token, self.is_read_only = limits, token, is_read_only
         self.log = RequestLog(log, slow_seconds, self.notices.tell)
         # When a change failed because memory or disk ran out, if none has succeeded since, and why.
         self.failed_change: tuple[float, str] | None = None
-        self.checkpoint_time = 0.0
+        self.checkpoint_time, self.checkpoint_failed = 0.0, False
         self.backups = Backups(backup_folder, path)
         self.waiting, self.held, self.is_ending = 0, 0, False
         self.watchers: set[asyncio.Queue[str | None]] = set()
@@ -292,6 +302,9 @@ class Service:
     def take(self, group: list[Work], result: Result) -> None:
         """Takes the results of a group of scripts: measures it, and reports to the readers of events which scripts were kept."""
         before = self.engine.number
+        self.checkpoint_failed = result.checkpoint_failed
+        if result.checkpoint_seconds is not None:
+            self.checkpoint_time = time.time()
         if not group:
             return self.tell(start_event(result.number))
         if result.number > before:
@@ -420,7 +433,6 @@ class Service:
         self.expect_writable()
         with self.place():
             answer = await self.engine.run(Work(None))
-        self.checkpoint_time = time.time()
         return json_response({"number": answer.number, "log_bytes": self.engine.log_bytes})
 
     async def post_backup(self, request: web.Request) -> web.StreamResponse:
@@ -622,6 +634,9 @@ def add_words(parser: argparse.ArgumentParser) -> None:
     parser.add_argument("--read-only", action="store_true", help="refuses what would change the table")
     parser.add_argument("--backup-folder", metavar="DIR", type=Path, help="the folder into which POST /backup writes; without it there are no backups")
     number, seconds = number_from(1), number_from(0.001, 86_400, float)
+    of_log = "a checkpoint is written once the log is longer, and longer than the last checkpoint; 0: only by POST /checkpoint (%(default)s)"
+    most = number_from(0, LARGEST_CHECKPOINT_BYTES)
+    parser.add_argument("--checkpoint-bytes", metavar="N", type=most, default=CHECKPOINT_BYTES, help=of_log)
     parser.add_argument("--most-body", metavar="BYTES", type=number, default=limits.body, help="the most bytes of a body (%(default)s)")
     parser.add_argument("--most-waiting", metavar="N", type=number, default=limits.waiting, help="the most requests that wait (%(default)s)")
     parser.add_argument("--most-held", metavar="BYTES", type=number, default=limits.held, help="the most bytes of bodies and replies in memory (%(default)s)")
@@ -665,7 +680,7 @@ def run(words: argparse.Namespace) -> int:
     if folder and not (folder.is_dir() and os.access(folder, os.W_OK | os.X_OK)):
         return fail(f"{words.backup_folder}: no folder that backups can be written into", 2)
     try:
-        service = Service(words.path, limits, token, words.read_only, words.access_log, words.slow_seconds, folder)
+        service = Service(words.path, limits, token, words.read_only, words.access_log, words.slow_seconds, folder, words.checkpoint_bytes)
     except OSError as fault:
         return fail(f"{words.access_log}: {fault.strerror}", 2)
     logging.getLogger().addHandler(service.notices)
