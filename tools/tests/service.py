@@ -1102,8 +1102,8 @@ class CommitsCrashesAndEnds(TestCase):
 
     def test_endpoints_and_statuses_of_the_document_are_those_of_the_server(self):
         package = TOP / "clients/python/betable/server"
-        code = "".join((package / name).read_text(encoding="utf-8") for name in ("serve.py", "requests.py", "answers.py", "bodies.py"))
-        text = (TOP / "docs/SERVICE.md").read_text(encoding="utf-8")
+        code = "".join((package / name).read_text(encoding="utf-8") for name in ("serve.py", "requests.py", "answers.py", "bodies.py", "backups.py"))
+        text, of_operators = ((TOP / "docs" / name).read_text(encoding="utf-8") for name in ("SERVICE.md", "OPERATING.md"))
         routes = {(method.upper(), path.replace("{tree}", "TREE")) for method, path in re.findall(r'web\.(get|post|delete)\("([^"]+)"', code)}
         self.assertEqual({tuple(found) for found in re.findall(r"^\| `(GET|POST|DELETE) ([^`?]+)", text, re.MULTILINE)}, routes)
         statuses = {
@@ -1116,4 +1116,4 @@ class CommitsCrashesAndEnds(TestCase):
         }
         self.assertEqual({status for line in re.findall(r"^\| (\d{3}(?:, \d{3})*) \|", text, re.MULTILINE) for status in line.split(", ")}, statuses)
         options = set(re.findall(r'add_argument\("(--[a-z-]+)"', code))
-        self.assertEqual(set(re.findall(r"`(--[a-z-]+)", text)) - {"--help"}, options - {"--port"})
+        self.assertEqual(set(re.findall(r"`(--[a-z-]+)", text + of_operators)) - {"--help"}, options - {"--port"})

@@ -6,12 +6,14 @@ import sys
 from .durable import backups, copies
 from .shell import prompt
 
+SERVE = "Serves a durable table by HTTP. docs/SERVICE.md has its endpoints, and docs/OPERATING.md what whoever runs it has to know."
+
 
 def main() -> int:
     parser = argparse.ArgumentParser(prog="python3 -m betable", description="A table engine for heavy ingest.")
     commands = parser.add_subparsers(dest="command", required=True)
     prompt.add_words(commands.add_parser("shell", help="a prompt over a table", description=prompt.DESCRIPTION))
-    words = commands.add_parser("serve", help="a durable table by HTTP", description="Serves a durable table by HTTP. docs/SERVICE.md has its endpoints.")
+    words = commands.add_parser("serve", help="a durable table by HTTP", description=SERVE)
     backups.add_words(commands.add_parser("restore", help="a backup in the place of a durable table", description=backups.DESCRIPTION))
     copies.add_words(commands.add_parser("copy", help="a durable table in a new file, with other columns", description=copies.DESCRIPTION))
     if sys.argv[1:2] != ["serve"]:

@@ -631,7 +631,7 @@ def add_words(parser: argparse.ArgumentParser) -> None:
     parser.add_argument("--host", default="127.0.0.1", help="the address that is listened on (%(default)s); any other than a loopback one needs --token")
     parser.add_argument("--port", metavar="N", type=number_from(0, 65_535), default=8470, help="the port (%(default)s); with 0 one that is free")
     parser.add_argument("--token", metavar="FILE", type=Path, help=f"a file whose first line, of at least {LEAST_TOKEN_BYTES} bytes, each request has to have")
-    parser.add_argument("--read-only", action="store_true", help="refuses what would change the table")
+    parser.add_argument("--read-only", action="store_true", help="refuses what would change the table; backups are written all the same")
     parser.add_argument("--backup-folder", metavar="DIR", type=Path, help="the folder into which POST /backup writes; without it there are no backups")
     number, seconds = number_from(1), number_from(0.001, 86_400, float)
     of_log = "a checkpoint is written once the log is longer, and longer than the last checkpoint; 0: only by POST /checkpoint (%(default)s)"
