@@ -23,7 +23,7 @@ from itertools import chain, combinations
 from pathlib import Path
 from typing import Any, NamedTuple
 
-from history import FORMAT_1, PROBE, Backup, Once, Step, expected
+from history import CHECKPOINT_BYTES, FORMAT_1, PROBE, Backup, Once, Step, expected
 
 from betable import Session
 from betable.durable import table as durable
@@ -130,7 +130,7 @@ def answered_steps(trace: list[Operation]) -> int:
 
 
 def table_of(folder: str, *, sync: bool = True, make: Callable[[], Any] = Session) -> Any:
-    return durable.open(f"{folder}/table", sync=sync, make=make)
+    return durable.open(f"{folder}/table", sync=sync, checkpoint_bytes=CHECKPOINT_BYTES, make=make)
 
 
 def go(folder: str, steps: list[Step], *, start: int = 0, syncs: tuple[bool, bool] = (True, True)) -> None:

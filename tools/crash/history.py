@@ -15,7 +15,10 @@ from typing import Any
 
 from betable import Session
 
-PROBE = "".join(f"image {name}\nscan {name}\ngo\n" for name in ("primary", "q", "c", "b"))
+IMAGE = "image {}\n"
+# How long a log is for a checkpoint by itself. Then images depend on when it was written, and rows alone are compared.
+CHECKPOINT_BYTES = int(os.environ.get("BETABLE_CHECKPOINT_BYTES", 0)) or None
+PROBE = "".join(f"{'' if CHECKPOINT_BYTES else IMAGE.format(name)}scan {name}\ngo\n" for name in ("primary", "q", "c", "b"))
 
 # What made a table's file before there was format 2.
 FORMAT_1 = """
