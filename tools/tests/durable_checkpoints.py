@@ -152,10 +152,12 @@ class ByThemselves(TestCase):
                 fill(table, 30)
             with durable().open(path / "t", checkpoint_bytes=500) as table:
                 table.replies("get 1\n")
-                table.get(1), table.scan(), table.once("a", "get 1\n")
+                table.get(1), table.scan()
                 with table.group():
                     table.replies("scan primary\ngo\n")
+                self.assertEqual(table.checkpoint_count, 0)
                 # A stored reply is a commit.
+                table.once("a", "get 1\n")
                 self.assertEqual(table.checkpoint_count, 1)
             with durable().open(path / "t", checkpoint_bytes=500) as table:
                 self.assertEqual(table.log_bytes, 0)
