@@ -13,8 +13,8 @@ other and begins with another one:
     redis      redis-server, if it is installed: a hash for a row, in one MULTI for a batch, written before the clock runs; appendonly, appendfsync always
 
 Printed are rows a second by the clock, and the ratios to SQLite in the same round, the middle ones of all rounds. Then the time to open a table of many rows,
-from its log and from a checkpoint, beside SQLite's to open a file of the same rows and read each of them once. Then the processor time of single reads of a
-durable table, of a session with the same rows, and of SQLite. The files are in a folder that is made in FOLDER, or where temporary files are. The library is
+from its log and from a checkpoint, beside SQLite's to open a file of the same rows and read each of them once, and how long a put takes that writes a checkpoint.
+Then the processor time of single reads of a durable table, of a session with the same rows, and of SQLite. The files are in a folder that is made in FOLDER, or where temporary files are. The library is
 that of BETABLE_LIBRARY, or of out/ of this repository.
 """
 
@@ -199,15 +199,28 @@ def size_of(path: str) -> str:
     return f"{sum(os.path.getsize(path + end) for end in ('', '-wal') if os.path.exists(path + end)) / 1e6:.0f} MB"
 
 
+def seconds_with_checkpoint(path: str) -> float:
+    """How long a put takes that makes the log longer than the checkpoint."""
+    with durable.open(path, checkpoint_bytes=1) as table:
+        size, count = os.path.getsize(path), table.checkpoint_count
+        while True:
+            rows = [(number, "Oslo", 1) for number in range(10_000)]
+            begin = time.perf_counter()
+            table.put(rows)
+            if table.checkpoint_count > count:
+                return time.perf_counter() - begin
+            if table.log_bytes > 2 * size:
+                sys.exit("durable: no checkpoint was written")
+
+
 def starts(folder: str, count: int, rounds: int) -> None:
     rows, found, notes = rows_of(count), {}, {}
-    for size, index in ((100, ""), (LARGE_BATCH, ""), (LARGE_BATCH, INDEX)):
+    for size, index in ((1, ""), (100, ""), (LARGE_BATCH, ""), (LARGE_BATCH, INDEX)):
         path, name = f"{folder}/table", f"replay of batches of {size:,}{', with an index' if index else ''}"
-        with durable.open(path, sync=False) as table:
+        with durable.open(path, sync=False, checkpoint_bytes=None) as table:
             table.run(HEAD + index)
             with table.group():
-                for batch in parts(rows, size):
-                    table.replies(script_of(batch))
+                table.put(rows, most=size)
             images = table.replies("rebuild primary\nimage primary\n")
         found[name], notes[name] = [opened(path) for _ in range(rounds)], size_of(path)
         with durable.open(path) as table:
@@ -215,8 +228,9 @@ def starts(folder: str, count: int, rounds: int) -> None:
             table.checkpoint()
             name = f"checkpoint{', with an index' if index else ''}"
             found[f"{name}, written"] = [time.perf_counter() - begin]
-            if table.replies("rebuild primary\nimage primary\n") != images:
+            if table.replies("image primary\n") != images:
                 sys.exit("durable: the table is another one after a checkpoint")
+        found[f"{name}, by a put"] = [seconds_with_checkpoint(path)]
         found[f"{name}, opened"], notes[f"{name}, opened"] = [opened(path) for _ in range(rounds)], size_of(path)
         os.remove(path)
     seconds_of_sqlite(folder, rows, LARGE_BATCH)

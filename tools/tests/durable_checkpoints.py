@@ -228,7 +228,8 @@ class ByThemselves(TestCase):
                 self.assertEqual(table.put([(number, "x" * 50, number)]), 1)
                 number += 1
             self.assertEqual((type(table.checkpoint_fault), len(told)), (durable().InDoubt, 1))
-            expect_fault(self, ValueError, lambda: table.get(1), "closed, since", "open the table again")
+            for call in (lambda: table.get(1), lambda: table.put([(5, "", 1)])):
+                expect_fault(self, durable().InDoubt, call, "was closed", "open it again")
             with durable().open(path / "t") as table:
                 self.assertEqual(len(table.scan()), number)
 

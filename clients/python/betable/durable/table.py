@@ -856,8 +856,10 @@ class Durable(Reads):
 
     def _check(self) -> None:
         self._check_process()
+        if self._is_closed and isinstance(self._checkpoint_fault, InDoubt):
+            raise InDoubt(f"{self.path}: the table was closed, since it is not known whether a checkpoint was written: open it again") from self._checkpoint_fault
         if self._is_closed:
-            raise ValueError("the table is closed" + (f", since {self._checkpoint_fault}" if isinstance(self._checkpoint_fault, InDoubt) else ""))
+            raise ValueError("the table is closed")
 
     def _check_process(self) -> None:
         if self._is_forked:
