@@ -435,6 +435,7 @@ class Replays(TestCase):
             if not hasattr(session, "_replay"):
                 self.skipTest("the extension is not built")
             session.run(TABLE)
+            session.trees()  # tells the extension the columns
             good = session._pack_rows([(1, "a", 2)])
             row = (5, good, zlib.crc32(good), 1)
             for wrong in [(), (5, good, zlib.crc32(good)), [*row], (5, bytearray(good), zlib.crc32(good), 1), (6, *row[1:]), (2**70, *row[1:]), (*row[:3], 0),

@@ -80,9 +80,9 @@ class Copies(TestCase):
                 self.assertEqual((new.scan(), names(new)), (table.scan(), ["day", "qty", "city", "is_ok", "blob", "note"]))
                 for name in ("by_qty", "by_raw", "spaces"):
                     self.assertEqual(new.scan(name), table.scan(name))
-                self.assertEqual(new.trees()[1:], [
-                    ("by_qty", ("city", "qty"), ("blob",), ("is_ok", "=", True), True), ("by_raw", ("blob",), (), ("city", ">=", 3), True),
-                    ("spaces", ("qty",), (), ("qty", "=", "x, y"), True),
+                self.assertEqual([line.text for line in new.definitions.values()][1:], [
+                    b"index by_qty on city,qty include blob where is_ok = true", b"index by_raw  on blob where city >= 3",
+                    b'index spaces on qty where qty = "x, y"',
                 ])  # fmt: skip
 
     def test_columns_are_dropped(self):
@@ -148,7 +148,7 @@ class Copies(TestCase):
             a_table(path / "t")
             (path / "new.part").write_bytes(b"of a killed copy")
             (path / "new.part-wal").write_bytes(b"of a killed copy")
-            for name in ("puts_of_rows", "sync_path", "parts_by"):
+            for name in ("puts_of_rows", "sync_path", "parts_of"):
                 real = getattr(module, name)
 
                 def failing(*given):

@@ -17,14 +17,11 @@ from ..calls import checked_kind, checked_name
 from ..errors import Refused, RowError
 from ..language import INDEX, PRIMARY, Definitions, Line, index_of, matched
 from ..packed import puts_of_rows
-from ..rows import Value, plain_value, value_of_field
+from ..rows import EXACT_TYPES, Value, plain_value, value_of_field
 from ..schema import TreeColumn
 from ..session import Session
 from .checkpoints import PART_ROWS, parts_of
 from .table import Corrupt, Durable, IndexBuilding, InUse, NewerFormat, NotATable, RolledBack, open as open_table, sync_path
-
-# What a new column has in all rows unless you say it, by its kind.
-DEFAULTS: dict[str, Value] = {"int": 0, "text": "", "flag": False, "bytes": b""}
 
 
 class Plan(NamedTuple):
@@ -126,7 +123,13 @@ def _added(name: str, given: Any) -> tuple[TreeColumn, Value]:
     column = TreeColumn(checked_name(name, "a column"), checked_kind(kind), False)
     if len(values) > 1:
         raise ValueError(f"column '{name}': a new column has a kind, or a kind and a value")
-    return column, plain_value(values[0], column) if values else DEFAULTS[kind]
+    return column, plain_value(values[0], column) if values else _default(kind)
+
+
+def _default(kind: str) -> Value:
+    """What a new column of a kind has in all rows unless you say it: 0, False, or nothing."""
+    value: Value = EXACT_TYPES[kind]()
+    return value
 
 
 def _renamed(line: bytes, rename: Mapping[str, str]) -> bytes:
@@ -146,7 +149,7 @@ def _write(part: str, source: Durable, plan: Plan) -> int:
 
     def puts(trial: Session) -> Iterator[bytes]:
         nonlocal count
-        rows, kinds = source.iterate(page=PART_ROWS), [column.kind for column in plan.columns]
+        rows, kinds = source.iterate(page=PART_ROWS), trial.trees().tree().kinds
         while page := list(islice(rows, PART_ROWS)):
             count += len(page)
             changed = [tuple([row[place] for place in plan.places]) + plan.added for row in page]
@@ -156,7 +159,7 @@ def _write(part: str, source: Durable, plan: Plan) -> int:
         # What the library refuses, such as too many columns or a text that is too long, is refused by its reason.
         trial.run(b"\n".join([*(line.text for line in plan.definitions.values()), b""]))
         if plan.added:
-            trial.put([(*[DEFAULTS[column.kind] for column in plan.columns[: len(plan.places)]], *plan.added)])
+            trial.put([(*[_default(column.kind) for column in plan.columns[: len(plan.places)]], *plan.added)])
         target._store_copy(source, parts_of(plan.definitions, puts(trial)))
     return count
 
