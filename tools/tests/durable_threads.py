@@ -130,6 +130,24 @@ class Threads(TestCase):
                     other.join(SECONDS)
                     self.assertEqual(done, [number])
 
+    def test_a_get_waits_while_trees_are_rebuilt(self):
+        """No group is open then."""
+        with folder() as path, table_with_lock(path / "t") as table:
+            table.run(TABLE + ADD)
+            done = []
+            other = threading.Thread(target=lambda: done.append(table.get(1)), daemon=True)
+            real = table._session.replies
+
+            def rebuild(script):
+                start_and_wait(other, table, done)
+                self.assertEqual((script, done, table._is_in_group), (b"rebuild primary\n", [], False))
+                return real(script)
+
+            table._session.replies = rebuild
+            table.checkpoint()
+            other.join(SECONDS)
+            self.assertEqual(done, [(1, "", 1)])
+
     def test_an_iterator_goes_from_thread_to_thread(self):
         with folder() as path, durable().open(path / "t") as table:
             table.run(TABLE)
