@@ -11,6 +11,7 @@ import sys
 import tempfile
 import threading
 import time
+import zlib
 from array import array
 from pathlib import Path
 from unittest import SkipTest, TestCase
@@ -208,12 +209,17 @@ class PythonExtension(TestCase):
         """Blocks of memory of Python, after calls that are done and calls that raise."""
         client, session = betable(), filled()
         columns = {name: list(values) for name, values in zip(("id", "city", "ok", "raw", "qty"), zip(*ROWS))} | {"id": array("q", range(len(ROWS)))}
+        changes = session._pack_rows(ROWS)
+        entries = [(number, changes, zlib.crc32(changes), 1) for number in (1, 2)]
         calls = [
             *reads(session), lambda: session.put(ROWS), lambda: session.put(columns), lambda: session.batch([client.upsert(1, add={"qty": 0}), client.delete(99), client.put(*ROWS[2])]),
             lambda: session.put([ROWS[0], (1, "\ud800", True, b"", 1)]), lambda: session.get("x"), lambda: session.get(2**70), lambda: session.scan("nothing"),
             lambda: session.sums("by_city", 1, "nothing"), lambda: session.put(columns | {"qty": [None] * len(ROWS)}), lambda: session.batch([client.upsert(1, add={"city": 1})]),
             lambda: client.Session().table("id:int"), lambda: session.upsert_columns({"id": columns["id"]}, add={"qty": 0}, set={"ok": True}),
             lambda: session.upsert_columns({"id": columns["id"]}, add={"qty": columns["city"]}), lambda: session.delete_columns({"id": 99}),
+            lambda: session._puts_after(None, 3), lambda: session._puts_after((10**6,), 3), lambda: session._puts_after(("x",), 3), lambda: session._puts_after(1),
+            lambda: session._replay(iter(entries), 1, 9, zlib.crc32), lambda: session._replay(iter(entries), 2, 9, zlib.crc32), lambda: session._replay(iter(entries)),
+            lambda: session._replay(iter([*entries[:1], (2, b"", 0, 1)]), 1, 9, zlib.crc32), lambda: session._replay(iter(entries), 1, 9, None),
         ]  # fmt: skip
         for call in calls:
             for count in (20, 1_000):
