@@ -12,7 +12,6 @@ import sqlite3
 import subprocess
 import sys
 import tempfile
-import threading
 import zlib
 from contextlib import contextmanager
 from hashlib import sha256

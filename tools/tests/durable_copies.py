@@ -1,14 +1,13 @@
 """Tests of copies of durable tables with other columns."""
 
 import os
-import sqlite3
 import subprocess
 import sys
 from unittest import TestCase
 
 from .clients import betable, library
 from .common import fault_of, SECONDS, TOP
-from .durable import ADD, TABLE, changed, durable, expect_fault, failing_session, files_of, folder, probe
+from .durable import ADD, TABLE, durable, expect_fault, files_of, folder, probe
 
 COLUMNS = "day:int city:text qty:int ok:flag raw:bytes note:text"
 ROWS = [(number % 7, f"c{number}\n.\n" if number % 5 == 0 else f'c{number},"x"', number, number % 2 == 0, b"%d" % number, "n" * (number % 3)) for number in range(60)]

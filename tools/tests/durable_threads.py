@@ -7,7 +7,7 @@ import time
 from contextlib import contextmanager
 from unittest import TestCase
 
-from .clients import betable, library
+from .clients import library
 from .common import SECONDS, fault_of
 from .durable import ADD, INDEXED, TABLE, durable, expect_fault, folder, probe
 

@@ -368,7 +368,6 @@ class Durable(Reads):
         self._stored_bytes = self._checked_bytes(parts, checksum)
         if self._stored_bytes > LONG_TEXT:
             _tell(f"betable: {self.path}: loading a checkpoint of {self._stored_bytes >> 20} MiB")
-        # A cursor that is left open would keep the file locked.
         with closing(self._db.execute(parts)) as rows:
             for script, is_packed in scripts_of(rows, session):
                 replies, places = (applied(session, script), None) if is_packed else _ran(session, script)
@@ -387,13 +386,15 @@ class Durable(Reads):
 
     def _checked_bytes(self, parts: str, checksum: int | None) -> int:
         """The size of the checkpoint, whose bytes are those that were written."""
-        size, found = 0, 0
-        for part, _ in self._db.execute(parts):
-            # A changed byte may make a value one of another type.
-            if not isinstance(part, bytes):
-                checksum = None
-                break
-            size, found = size + len(part), zlib.crc32(part, found)
+        size = found = 0
+        # A cursor that is left open would keep the file locked.
+        with closing(self._db.execute(parts)) as rows:
+            for part, _ in rows:
+                # A changed byte may make a value one of another type.
+                if not isinstance(part, bytes):
+                    checksum = None
+                    break
+                size, found = size + len(part), zlib.crc32(part, found)
         if not isinstance(self._number, int) or found != checksum:
             raise Corrupt(self.path, 0, "its bytes are not those that were written, so restore a backup")
         return size
@@ -753,6 +754,10 @@ class Durable(Reads):
             if (trees := self._session.trees()) and not trees.building:
                 self._write_checkpoint()
         except Exception as fault:
+            # The frames of a traceback would keep the table when it is dropped.
+            for one in (fault, fault.__cause__, fault.__context__):
+                if one is not None:
+                    one.__traceback__ = None
             self._checkpoint_fault = fault
             self._set_most_log_bytes()
             notices.warning("%s: no checkpoint was written, and the log has %s bytes: %s", self.path, f"{self._log_bytes:,}", fault)
