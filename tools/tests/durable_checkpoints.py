@@ -233,6 +233,22 @@ class ByThemselves(TestCase):
             with durable().open(path / "t") as table:
                 self.assertEqual(len(table.scan()), number)
 
+    def test_an_interrupt_while_trees_are_rebuilt_loses_nothing(self):
+        """The table is made again from the checkpoint, whose trees are rebuilt."""
+        with folder() as path, durable().open(path / "t") as table, betable().Session() as plain:
+            for one in (table, plain):
+                one.run(TABLE)
+                fill(one, 30)
+
+            def interrupted(script):
+                raise KeyboardInterrupt
+
+            table._session.replies = interrupted
+            with self.assertRaises(KeyboardInterrupt):
+                table.checkpoint()
+            rebuild_all(plain)
+            self.assertEqual((probe(table), table.log_bytes, table.number), (probe(plain), 0, 31))
+
     def test_memory_that_runs_out_while_trees_are_rebuilt_loses_nothing(self):
         client = betable()
 

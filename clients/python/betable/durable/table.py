@@ -710,16 +710,17 @@ class Durable(Reads):
     def _write_checkpoint(self) -> None:
         begin = time.monotonic()
         session = self._ready()
-        with self._transaction(), self._all_or_nothing():
-            size = self._store(parts_of(self._definitions, puts_of(session)), self._number)
-        self._log_bytes, self._stored_bytes = 0, size
-        self._set_most_log_bytes()
         try:
+            with self._transaction(), self._all_or_nothing():
+                size = self._store(parts_of(self._definitions, puts_of(session)), self._number)
+            self._log_bytes, self._stored_bytes = 0, size
+            self._set_most_log_bytes()
             session.replies(b"".join(b"rebuild %b\n" % name for name in self._definitions))
         except BaseException as fault:
-            # The next call makes it again from the checkpoint.
-            self._drop()
-            if not isinstance(fault, MemoryError):
+            # The next call makes it again from the checkpoint. An interrupt may come directly after the commit.
+            if self._is_committed or not isinstance(fault, Exception):
+                self._drop()
+            if not self._is_committed or not isinstance(fault, MemoryError):
                 raise
         self._checkpoint_count, self._checkpoint_fault = self._checkpoint_count + 1, None
         self._checkpoint_time, self._checkpoint_seconds = time.time(), time.monotonic() - begin
