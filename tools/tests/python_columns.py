@@ -4,7 +4,6 @@ and pandas are skipped if these are not installed."""
 import random
 import tempfile
 from array import array
-from importlib import import_module
 from pathlib import Path
 from unittest import TestCase
 

@@ -16,7 +16,7 @@ import csv
 import operator
 import re
 from array import array
-from collections.abc import Callable, Iterable, Iterator, Mapping, Sequence, Set
+from collections.abc import Callable, Iterator, Mapping, Sequence, Set
 from typing import Any, TypeAlias, TypeVar
 
 from .errors import RowTypeError, RowValueError

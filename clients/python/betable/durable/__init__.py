@@ -27,8 +27,8 @@ of them whole. Reads go to the session in memory, and take as long as its own.
 | `IndexBuilding` | why no checkpoint is written |
 | `InUse`, `NotATable`, `NewerFormat`, `Corrupt` | why a file is not opened |
 
-docs/DURABLE.md says what is promised, and what each exception means. `table.py` has the table, `checkpoints.py` says what a checkpoint is, `wal.py` finds damage
-that SQLite would pass over, `backups.py` has `restore`, `copies.py` has `copy`, and `file_lock.py` the lock of a file.
+docs/DURABLE.md says what is promised, and what each exception means. `table.py` has the table, `checkpoints.py` says what a checkpoint is, `wal.py` finds
+damage that SQLite would pass over, `backups.py` has `restore`, `copies.py` has `copy`, and `file_lock.py` the lock of a file.
 """
 
 from .backups import restore

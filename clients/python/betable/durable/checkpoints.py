@@ -1,5 +1,5 @@
-"""The parts of a checkpoint: a script that makes the table, the puts of its rows in the order of their keys, and a script that makes the indexes and rebuilds all
-trees. So the table that they make is that of a `rebuild` of each tree, byte for byte. Neither writing nor reading needs all rows at once.
+"""The parts of a checkpoint: a script that makes the table, the puts of its rows in the order of their keys, and a script that makes the indexes and rebuilds
+all trees. So the table that they make is that of a `rebuild` of each tree, byte for byte. Neither writing nor reading needs all rows at once.
 
 Rows are packed changes, since a script cannot have all texts: a line that is a point alone ends a load. Checkpoints of before format 4 are one script with a
 load, which is divided among the parts."""
@@ -49,8 +49,8 @@ def puts_of(runner: Runner) -> Iterator[bytes]:
 
 
 def scripts_of(parts: Iterable[Part], runner: Runner) -> Iterator[Part]:
-    """The scripts and the packed changes of the parts of a checkpoint, each of which is run before the next one is asked for. A layer over sessions takes the rows
-    by one load, as far as that can have their texts."""
+    """The scripts and the packed changes of the parts of a checkpoint, each of which is run before the next one is asked for. A layer over sessions takes the
+    rows by one load, as far as that can have their texts."""
     for is_packed, some in groupby(parts, key=operator.itemgetter(1)):
         if not is_packed:
             yield b"".join([script for script, _ in some]), False

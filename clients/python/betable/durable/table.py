@@ -10,8 +10,8 @@ then answered. If any of that fails, the session is dropped and the next call ma
 many commands it has. A batch of values is kept as the packed changes that the session has applied, and counts as a script.
 
 Each script is kept with a checksum of itself and its replies, which is compared when it runs again; packed changes have no replies. A checkpoint puts the
-definitions and the rows in place of the log, and rebuilds every tree, as opening it does. So a table opened from it has the same images, byte for byte. Once the
-log is long, the call that has added to it writes a checkpoint after its commit.
+definitions and the rows in place of the log, and rebuilds every tree, as opening it does. So a table opened from it has the same images, byte for byte. Once
+the log is long, the call that has added to it writes a checkpoint after its commit.
 
 Any thread may use the table. Each call, and each group, has the lock of the table.
 """
@@ -81,8 +81,8 @@ SCHEMA = f"""
     INSERT INTO about VALUES({ENGINE}, 0, 0, {FIRST_GENERATION}, NULL);
     PRAGMA application_id={APPLICATION_ID};
 """
-# From each format to the next one. The requests of format 1 have no checksums, the logs of formats 1 and 2 no packed changes, and the checkpoints of formats 1 to
-# 3 neither.
+# From each format to the next one. The requests of format 1 have no checksums, the logs of formats 1 and 2 no packed changes, and the checkpoints of formats
+# 1 to 3 neither.
 UPGRADES = {
     0: SCHEMA,
     1: f"""
@@ -187,7 +187,7 @@ def open(
     """The durable table of a file, which is created if it does not exist.
 
     Without `sync` a power loss may lose the last scripts, but no crash of the process does. `most_requests` is how many request ids of `once` are kept.
-    A checkpoint is written after the commit with which the log has more than `checkpoint_bytes`, and more than the last checkpoint: with None it is left to you.
+    A checkpoint is written after the commit with which the log has more than `checkpoint_bytes`, and more than the last checkpoint: None leaves it to you.
     `make` returns what runs the scripts, which has no table yet: a session by default.
     """
     _check_number("most_requests", most_requests, LARGEST_MOST_REQUESTS)
@@ -400,8 +400,8 @@ class Durable(Reads):
         return size
 
     def _replay_some(self, session: Runner, log: sqlite3.Cursor, engine: int) -> bool:
-        """Replays the next entries of the log: as many that are packed changes as the extension takes, or up to one that it leaves to this. Whether there was any.
-        Each is applied by itself, since trees depend on batches."""
+        """Replays the next entries of the log: as many that are packed changes as the extension takes, or up to one that it leaves to this. Whether there was
+        any. Each is applied by itself, since trees depend on batches."""
         count, size, entry = 0, 0, None
         if isinstance(session, Session) and hasattr(session, "_replay"):
             count, size, entry = session._replay(log, self._number + 1, MOST_ENTRIES, zlib.crc32)
@@ -579,8 +579,8 @@ class Durable(Reads):
 
     @contextmanager
     def group(self) -> Iterator[None]:
-        """What is run in this context is kept together at its end, by one sync, and is to be answered only then. An exception rolls all of it back. The calls of
-        other threads wait until it ends."""
+        """What is run in this context is kept together at its end, by one sync, and is to be answered only then. An exception rolls all of it back. The calls
+        of other threads wait until it ends."""
         with self._lock:
             self._check()
             if self._is_in_group:
@@ -764,7 +764,7 @@ class Durable(Reads):
             notices.warning("%s: no checkpoint was written, and the log has %s bytes: %s", self.path, f"{self._log_bytes:,}", fault)
 
     def backup(self, path: str | os.PathLike[str]) -> None:
-        """Copies the table as it is to a new file, which is whole as soon as it is there. Other calls wait while the file is read, and not while it is synced."""
+        """Copies the table as it is to a new file, which is whole as soon as it is there. Other calls wait while the file is read, not while it is synced."""
         path = os.path.abspath(os.fsdecode(path))
         part = f"{path}.part"
         for name in (path, f"{path}-wal"):
