@@ -5,6 +5,7 @@
 It starts the server, takes scripts, keys and rights from it, and shows how replicas notice."""
 
 import os
+import re
 import signal
 import socket
 import subprocess
@@ -121,7 +122,8 @@ def changed_script(test, server):
             entries = client.xrange("{changed}:log")
             client.delete("{changed}:log")
             for name, values in entries:
-                client.xadd("{changed}:log", {key: value.replace(b"put 1,a", b"put 1,x") for key, value in values.items()}, name)
+                # The text of the row, in packed bytes or in a script.
+                client.xadd("{changed}:log", {key: re.sub(rb"(\x01|put 1,)a", rb"\1x", value) for key, value in values.items()}, name)
         else:
             rows_of(server, "UPDATE changed_log SET script = 'batch\nput 1,x,1\nend\n' WHERE position = 2")
         unusable(test, "script 2 is missing, or was changed", lambda: opened(server, "changed"))
