@@ -339,7 +339,7 @@ class LogsOfPackedChanges(Folder):
             table.run("table 4 6 3 1 id:int city:text\n")
             table.replies("batch\nput 1,a\nend\n")
         db = sqlite3.connect(self.path, isolation_level=None)
-        db.executescript("ALTER TABLE log DROP COLUMN is_packed; PRAGMA user_version=2;")
+        db.executescript("ALTER TABLE log DROP COLUMN is_packed; ALTER TABLE checkpoint DROP COLUMN is_packed; PRAGMA user_version=2;")
         db.close()
 
     def test_a_file_of_format_2_is_brought_up_to_date(self):

@@ -319,6 +319,7 @@ class PythonClient(TestCase):
             "count": lambda s: s.count(text),
             "delete": lambda s: s.delete(text),
             "delete_columns": lambda s: s.delete_columns({text: [1]}),
+            "delete_range": lambda s: s.delete_range(text),
             "get": lambda s: s.get(text),
             "index": lambda s: s.index("by_ok", on="ok", where=("city", "=", text)),
             "is_lost": None,
