@@ -248,11 +248,15 @@ class Log:
     def keep(self, checkpoint):
         if self.chain_at(checkpoint.position) != checkpoint.chain:
             return False
-        self.kept = checkpoint
+        if self.kept is None or self.kept.position < checkpoint.position:
+            self.kept = checkpoint
         return True
 
+    def checkpoint_bytes(self):
+        return len(self.kept.text) if self.kept else 0
+
     def trim(self):
-        self.trimmed = self.kept.position
+        self.trimmed = self.kept.position if self.kept else 0
 
     def close(self):
         pass

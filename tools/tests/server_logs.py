@@ -16,7 +16,7 @@ from types import SimpleNamespace
 from unittest import TestCase
 
 from .common import SECONDS, imported, type_of_fault
-from .layers import TABLE, betable, raised
+from .layers import INDEX, TABLE, betable, raised
 
 
 def opened(server, name, **options):
@@ -115,7 +115,7 @@ def other_engine(test, server):
 def changed_script(test, server):
     with opened(server, "changed") as one:
         one.run(TABLE)
-        one.put([(1, "a", 1)])
+        one.replies("batch\nput 1,a,1\nend\n")
         one.put([(2, "b", 1)])
         if server.url.startswith("redis"):
             client = redis_of(server)
@@ -130,6 +130,35 @@ def changed_script(test, server):
         one.checkpoint()
         with opened(server, "changed") as new:
             test.assertEqual((new.scan(), one.scan()), ([(1, "a", 1), (2, "b", 1)],) * 2)
+
+
+def checkpoints_by_themselves(test, server):
+    """Three replicas keep the log short on the server, and reply as a session that runs all its scripts."""
+    images = "image primary\nimage c\n"
+    with opened(server, "short", checkpoint_bytes=2_000) as one, opened(server, "short", checkpoint_bytes=2_000) as two, betable().Session() as session:
+        with opened(server, "short", checkpoint_bytes=2_000) as three:
+            one.run(TABLE + INDEX)
+            session.run(TABLE + INDEX)
+            positions = []
+            for number in range(200):
+                replica = (one, two, three)[number % 3]
+                script = f"batch\nput {number % 20},x,{number}\nups 1,add,qty,1\nend\nget 1\n"
+                # A checkpoint is written after its script.
+                before = sum(each.checkpoint_count for each in (one, two, three))
+                test.assertEqual(replica.replies(script), session.replies(script))
+                if sum(each.checkpoint_count for each in (one, two, three)) > before:
+                    session.replies("rebuild primary\nrebuild c\n")
+                    positions.append(replica.position)
+                    test.assertEqual((one._log.checkpoint_bytes(), one._log.checkpoint().position), (len(one._log.checkpoint().text), replica.position))
+            test.assertEqual([each.checkpoint_fault for each in (one, two, three)], [None] * 3)
+            test.assertGreater(len(positions), 1)
+            kept = redis_of(server).xlen("{short}:log") if server.url.startswith("redis") else rows_of(
+                server, "SELECT count(*) FROM short_log WHERE script IS NOT NULL"
+            )[0][0]  # fmt: skip
+            # The scripts since the checkpoint before the last one, and this one itself.
+            test.assertEqual(kept, one.catch_up() - positions[-2] + 1)
+            with opened(server, "short") as new:
+                test.assertEqual([each.replies(images) for each in (one, two, three, new)], [session.replies(images)] * 4)
 
 
 def redis_format(test, server):
@@ -246,7 +275,7 @@ def postgresql_rights(test, server):
     unusable(test, 'relation "rights_log" does not exist', lambda: opened(server, "rights"))
 
 
-OF_ALL = [lost_scripts, trimmed_scripts, other_engine, changed_script]
+OF_ALL = [lost_scripts, trimmed_scripts, checkpoints_by_themselves, other_engine, changed_script]
 CHECKS = {
     "redis": [*OF_ALL, redis_format, redis_keys, redis_settings, stopped_redis, silent_server],
     "postgresql": [*OF_ALL, postgresql_format, postgresql_names, postgresql_rights, silent_server],

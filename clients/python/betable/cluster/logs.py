@@ -103,6 +103,9 @@ class Log(Protocol):
     def checkpoint(self) -> Checkpoint | None:
         """The last checkpoint."""
 
+    def checkpoint_bytes(self) -> int:
+        """The size of the last checkpoint, or 0 if there is none."""
+
     def keep(self, checkpoint: Checkpoint) -> bool:
         """Keeps a checkpoint, unless there is one of the same position or a later one. False, and it is not kept, if the log has another chain there."""
 
@@ -293,6 +296,9 @@ class RedisLog:
             before = about
         return None
 
+    def checkpoint_bytes(self) -> int:
+        return int(self._reached(lambda: self._client.hget(self._last, "bytes")) or 0)
+
     def keep(self, checkpoint: Checkpoint) -> bool:
         list_of_parts, parts = f"{self._prefix}checkpoint:{uuid.uuid4().hex}", parts_of(checkpoint.text)
         for part in parts:
@@ -441,6 +447,9 @@ class PostgresLog:
     def checkpoint(self) -> Checkpoint | None:
         found = self._rows(self.CHECKPOINT)
         return Checkpoint(found[0][0], bytes(found[0][1]), b"".join(bytes(part) for _, _, part in found)) if found else None
+
+    def checkpoint_bytes(self) -> int:
+        return int(self._rows("SELECT coalesce(sum(octet_length(bytes)), 0) FROM NAME_checkpoint")[0][0])
 
     def keep(self, checkpoint: Checkpoint) -> bool:
         position, chain, text = checkpoint

@@ -11,6 +11,9 @@ is sent. Scripts that only read are run on the replica alone.
 A replica has its table in memory, and begins with the last checkpoint of the log and the scripts after it. If running a script fails, it begins again with the
 next call.
 
+Once the log is long, the call that has added to it writes a checkpoint. Before that, the replica appends an empty script: the replica whose script comes first
+writes the checkpoint, and others that were about to do so leave it to that one. If it fails to, another one writes it when the log has grown by as much again.
+
 The log and the replica each have a hash of all scripts up to a position, the chain. The two are compared before the replica runs anything, and before the log
 appends anything. So a replica that has run scripts which the log has lost stops, and the log and the other replicas go on.
 """
@@ -18,6 +21,7 @@ appends anything. So a replica that has run scripts which the log has lost stops
 from __future__ import annotations
 
 import json
+import logging
 import time
 import uuid
 import zlib
@@ -28,8 +32,18 @@ from typing import Any, Literal, NamedTuple, TypeVar
 
 from ..batches import Batch
 from ..calls import as_script
-from ..durable.checkpoints import Part, parts_of, puts_of, scripts_of
-from ..durable.table import CHANGING_LINE, DEFINED, ENGINE, REFUSED, IndexBuilding, RequestReused, applied
+from ..durable.checkpoints import AutomaticCheckpoints, Part, parts_of, puts_of, scripts_of
+from ..durable.table import (
+    CHANGING_LINE,
+    CHECKPOINT_BYTES,
+    DEFINED,
+    ENGINE,
+    REFUSED,
+    IndexBuilding,
+    RequestReused,
+    applied,
+    check_checkpoint_bytes,
+)
 from ..language import Definitions, commands
 from ..packed import MAGIC
 from ..reads import Reads, Runner, reader_of
@@ -42,7 +56,11 @@ T = TypeVar("T")
 # The number of last requests that a replica knows, the same for all replicas of a log, and the largest size of their replies.
 MOST_OUTCOMES, MOST_REPLY_LETTERS = 1_000, 1 << 24
 FIRST_PAUSE, LONGEST_PAUSE = 0.02, 1.0
+# What the request ids of checkpoints begin with. A script of another caller with such an id would only make replicas write their checkpoints later.
+CHECKPOINT_ID = "betable checkpoint "
 OTHER_PAST = "it and those before it are not those that this replica has run"
+
+notices = logging.getLogger("betable.cluster")
 
 
 class Unanswered(Exception):
@@ -114,22 +132,33 @@ class Outcomes:
             self.found[earlier] = of._replace(replies=None)
 
 
-class Replicas(Reads):
+class Replicas(AutomaticCheckpoints, Reads):
     """A replica of a table, which the log of a name has. It is used by the thread that opened it alone.
 
     With the reads `latest`, a script that only reads sees every script that was answered before, by any replica. With `local` it sees what this replica has run
-    so far, and needs no server. `patience` is for how many seconds a call goes on trying to reach the server. `make` gives what runs the scripts, which has
-    no table yet: a session unless said otherwise.
+    so far, and needs no server. `patience` is for how many seconds a call goes on trying to reach the server. A checkpoint is written after the script with
+    which the log has more than `checkpoint_bytes`, and more than the last checkpoint: None leaves it to you. `make` gives what runs the scripts, which has no
+    table yet: a session unless said otherwise.
     """
 
     def __init__(
-        self, url: str | Log, name: str = "betable", *, reads: Literal["latest", "local"] = "latest", patience: float = 30, make: Callable[[], Runner] = Session
+        self,
+        url: str | Log,
+        name: str = "betable",
+        *,
+        reads: Literal["latest", "local"] = "latest",
+        patience: float = 30,
+        checkpoint_bytes: int | None = CHECKPOINT_BYTES,
+        make: Callable[[], Runner] = Session,
     ) -> None:
+        check_checkpoint_bytes(checkpoint_bytes)
+        super().__init__(checkpoint_bytes, notices)
         if reads not in ("latest", "local"):
             raise ValueError(f"reads are 'latest' or 'local', and not {reads!r}")
         self._are_reads_local, self._patience, self._make, self._name = reads == "local", patience, make, name
         self._runner: Runner | None = None
         self._definitions, self._position, self._chain, self._outcomes = Definitions(), 0, b"", Outcomes()
+        self._begun_checkpoints = 0  # requests of checkpoints that were run
         self._divergence: Diverged | None = None
         self._is_closed = False
         self._log: Log = url if not isinstance(url, str) else log_of(url, name, patience)
@@ -200,6 +229,8 @@ class Replicas(Reads):
         replies = outcome and outcome.given()
         if replies is None:
             raise ReplyForgotten(request_id)
+        if self._is_checkpoint_due:
+            self._try_without_patience()
         return replies
 
     def _packed(self, batch: Batch, there: Tree, taken: int) -> bytes | None:
@@ -250,7 +281,7 @@ class Replicas(Reads):
         self.catch_up()
         while True:
             trees = self._trees()
-            position = self._run_by_log(uuid.uuid4().hex, b"".join(b"rebuild %b\n" % name for name in trees.by_name))
+            position = self._run_by_log(_checkpoint_id(), b"".join(b"rebuild %b\n" % name for name in trees.by_name))
             # Another replica may have changed the indexes before it, or have written a checkpoint after it that this one has begun with.
             if trees == self._trees() and self._position == position:
                 break
@@ -259,7 +290,34 @@ class Replicas(Reads):
         text = b"\n".join([json.dumps(about).encode(), b"".join([part for part, _ in parts])])
         if not self._reached(lambda: self._log.keep(Checkpoint(self._position, self._chain, text))):
             raise self._diverged(self._position, OTHER_PAST)
+        self._stored_bytes = len(text)
+        self._set_most_log_bytes()
+        self._checkpoint_count, self._checkpoint_fault = self._checkpoint_count + 1, None
         return self._position
+
+    def _try_without_patience(self) -> None:
+        """Writes a checkpoint that is due, without a second call of a server that cannot be reached: the caller is waiting, and has its reply."""
+        patience, self._patience = self._patience, 0
+        try:
+            self._try_checkpoint(self._name, self._write_checkpoint_before_others)
+        finally:
+            self._patience = patience
+
+    def _write_checkpoint_before_others(self) -> None:
+        """Writes a checkpoint, unless another replica does, or has written a large one. The log keeps the scripts after the checkpoint before it, so that
+        replicas which are not far behind run them, and do not begin again."""
+        trees = self._kept(lambda runner: runner.trees())
+        if not trees or trees.building:
+            return
+        self._stored_bytes = self._reached(self._log.checkpoint_bytes)
+        self._most_log_bytes = max(self._most_log_bytes, self._stored_bytes)
+        if not self._is_checkpoint_due:
+            return
+        begun = self._begun_checkpoints
+        self._run_by_log(_checkpoint_id(), b"")
+        if self._begun_checkpoints == begun + 1:
+            self.trim()
+            self.checkpoint()
 
     def trim(self) -> None:
         """Removes the scripts before the last checkpoint from the log. A replica that has not run them begins with the checkpoint again."""
@@ -326,6 +384,9 @@ class Replicas(Reads):
         """Begins with a checkpoint, or without one."""
         self._drop()
         self._definitions, self._position, self._chain, self._outcomes = Definitions(), 0, b"", Outcomes()
+        self._log_bytes, self._stored_bytes = 0, len(checkpoint.text) if checkpoint else 0
+        if self._checkpoint_fault is None:
+            self._set_most_log_bytes()
         self._runner = self._make()
         if checkpoint:
             try:
@@ -390,6 +451,10 @@ class Replicas(Reads):
             if entry.request_id not in self._outcomes.found:
                 self._outcomes.add(entry.request_id, self._outcome(entry.script))
             self._position, self._chain = entry.position, entry.chain
+            self._log_bytes += len(entry.script)
+            if entry.request_id.startswith(CHECKPOINT_ID):
+                self._begun_checkpoints, self._log_bytes = self._begun_checkpoints + 1, 0
+                self._set_most_log_bytes()
         except BaseException:
             # It is not known whether the script was run.
             self._drop()
@@ -414,6 +479,10 @@ def _divided(text: bytes, sizes: Iterable[tuple[int, bool]]) -> Iterator[Part]:
     for size, is_packed in sizes:
         yield text[at : at + size], is_packed
         at += size
+
+
+def _checkpoint_id() -> str:
+    return f"{CHECKPOINT_ID}{uuid.uuid4().hex}"
 
 
 def _script_of(entry: bytes) -> bytes:

@@ -1,13 +1,14 @@
-"""The parts of a checkpoint: a script that makes the table, the puts of its rows in the order of their keys, and a script that makes the indexes and rebuilds
-all trees. So the table that they make is that of a `rebuild` of each tree, byte for byte. Neither writing nor reading needs all rows at once.
+"""When a table writes a checkpoint by itself, and the parts of one: a script that makes the table, the puts of its rows in the order of their keys, and a script
+that makes the indexes and rebuilds all trees. So the table that they make is that of a `rebuild` of each tree, byte for byte. Neither writing nor reading needs all rows at once.
 
 Rows are packed changes, since a script cannot have all texts: a line that is a point alone ends a load. Checkpoints of before format 4 are one script with a
 load, which is divided among the parts."""
 
 from __future__ import annotations
 
+import logging
 import operator
-from collections.abc import Iterable, Iterator
+from collections.abc import Callable, Iterable, Iterator
 from itertools import groupby
 
 from ..batches import rows_of_changes
@@ -22,6 +23,49 @@ from ..session import ScriptSession
 PART_ROWS = 16_384
 # A part, and whether it is packed changes.
 Part = tuple[bytes, bool]
+
+
+class AutomaticCheckpoints:
+    """The checkpoints that a table writes by itself: once its log has more than `checkpoint_bytes`, and more than the last checkpoint, so that checkpoints are
+    no larger than all logs. With None it writes none."""
+
+    def __init__(self, checkpoint_bytes: int | None, notices: logging.Logger) -> None:
+        # A checkpoint is due when the log has more bytes than the last of these.
+        self._checkpoint_bytes, self._log_bytes, self._stored_bytes, self._most_log_bytes = checkpoint_bytes, 0, 0, 0
+        self._checkpoint_count = 0
+        self._checkpoint_fault: Exception | None = None
+        self._notices = notices
+
+    @property
+    def checkpoint_count(self) -> int:
+        """How many checkpoints were written since the table was opened."""
+        return self._checkpoint_count
+
+    @property
+    def checkpoint_fault(self) -> Exception | None:
+        """Why the last checkpoint that was to be written by itself was not, or None if one was written since."""
+        return self._checkpoint_fault
+
+    @property
+    def _is_checkpoint_due(self) -> bool:
+        return self._checkpoint_bytes is not None and self._log_bytes > self._most_log_bytes
+
+    def _set_most_log_bytes(self) -> None:
+        self._most_log_bytes = self._log_bytes + max(self._checkpoint_bytes or 0, self._stored_bytes)
+
+    def _try_checkpoint(self, name: str, write: Callable[[], None]) -> None:
+        """Writes a checkpoint that is due. If that fails, nothing is lost, and it is tried again when the log has grown by as much again."""
+        size = self._log_bytes
+        try:
+            write()
+        except Exception as fault:
+            # The frames of a traceback would keep the table when it is dropped.
+            for one in (fault, fault.__cause__, fault.__context__):
+                if one is not None:
+                    one.__traceback__ = None
+            self._checkpoint_fault = fault
+            self._set_most_log_bytes()
+            self._notices.warning("%s: no checkpoint was written, and the log has %s bytes: %s", name, f"{size:,}", fault)
 
 
 def parts_of(definitions: Definitions, puts: Iterable[bytes]) -> Iterator[Part]:

@@ -42,7 +42,7 @@ from ..reads import Reads, Runner as Runner, reader_of
 from ..replies import Place, Reply, answered
 from ..schema import Tree
 from ..session import ScriptSession, Session
-from .checkpoints import Part, parts_of, puts_of, scripts_of
+from .checkpoints import AutomaticCheckpoints, Part, parts_of, puts_of, scripts_of
 from .file_lock import lock
 from .wal import FIRST_GENERATION, FOREIGN, SYNCED, UNSYNCED, fault_of_log, mark_of, new_mark, renew_mark
 
@@ -191,9 +191,13 @@ def open(
     `make` returns what runs the scripts, which has no table yet: a session by default.
     """
     _check_number("most_requests", most_requests, LARGEST_MOST_REQUESTS)
-    if checkpoint_bytes is not None:
-        _check_number("checkpoint_bytes", checkpoint_bytes, LARGEST_CHECKPOINT_BYTES)
+    check_checkpoint_bytes(checkpoint_bytes)
     return Durable(path, sync=sync, most_requests=most_requests, checkpoint_bytes=checkpoint_bytes, make=make)
+
+
+def check_checkpoint_bytes(number: int | None) -> None:
+    if number is not None:
+        _check_number("checkpoint_bytes", number, LARGEST_CHECKPOINT_BYTES)
 
 
 def _check_number(name: str, number: Any, most: int) -> None:
@@ -203,12 +207,13 @@ def _check_number(name: str, number: Any, most: int) -> None:
         raise ValueError(f"{name} is between 1 and {most:,}, and not {number:,}")
 
 
-class Durable(Reads):
+class Durable(AutomaticCheckpoints, Reads):
     """A durable table. Any thread of the process that opened it may use it: a call waits until those of other threads, and their groups, have ended."""
 
     def __init__(
         self, path: str | os.PathLike[str], *, sync: bool, most_requests: int, checkpoint_bytes: int | None, make: Callable[[], Runner]
     ) -> None:
+        super().__init__(checkpoint_bytes, notices)
         self.path, self._sync, self._most_requests, self._make = os.path.abspath(os.fsdecode(path)), sync, most_requests, make
         self._lock = threading.RLock()
         self._process, self._is_forked = os.getpid(), False
@@ -220,10 +225,8 @@ class Durable(Reads):
         self._is_settled = self._is_marked = False
         self._log_pages = 0
         self._request_bytes: int | None = None  # of the stored replies, once they are counted
-        # By itself a checkpoint is written when the log has more bytes than the last of these.
-        self._checkpoint_bytes, self._stored_bytes, self._most_log_bytes = checkpoint_bytes, 0, 0
-        self._checkpoint_count, self._checkpoint_time, self._checkpoint_seconds = 0, None, None
-        self._checkpoint_fault: Exception | None = None
+        self._checkpoint_time: float | None = None
+        self._checkpoint_seconds: float | None = None
         self._definitions = Definitions()
         self._file = self._locked()
         try:
@@ -743,25 +746,13 @@ class Durable(Reads):
             for request in source._db.execute("SELECT number, id, script, replies, checksum FROM requests ORDER BY number"):
                 self._write("INSERT INTO requests VALUES(?, ?, ?, ?, ?)", *request)
 
-    def _set_most_log_bytes(self) -> None:
-        """How long the log is to be before a checkpoint is written by itself: longer than the last one, so that checkpoints are no larger than all logs."""
-        self._most_log_bytes = self._log_bytes + max(self._checkpoint_bytes or 0, self._stored_bytes)
-
     def _checkpoint_if_due(self) -> None:
-        """Writes a checkpoint if the log is long. If that fails, nothing is lost, and it is tried again when the log has grown by as much again."""
-        if self._checkpoint_bytes is None or self._log_bytes <= self._most_log_bytes or self._session is None:
-            return
-        try:
-            if (trees := self._session.trees()) and not trees.building:
-                self._write_checkpoint()
-        except Exception as fault:
-            # The frames of a traceback would keep the table when it is dropped.
-            for one in (fault, fault.__cause__, fault.__context__):
-                if one is not None:
-                    one.__traceback__ = None
-            self._checkpoint_fault = fault
-            self._set_most_log_bytes()
-            notices.warning("%s: no checkpoint was written, and the log has %s bytes: %s", self.path, f"{self._log_bytes:,}", fault)
+        if self._is_checkpoint_due and self._session is not None:
+            self._try_checkpoint(self.path, self._write_checkpoint_of_complete_trees)
+
+    def _write_checkpoint_of_complete_trees(self) -> None:
+        if (trees := self._ready().trees()) and not trees.building:
+            self._write_checkpoint()
 
     def backup(self, path: str | os.PathLike[str]) -> None:
         """Copies the table as it is to a new file, which is whole as soon as it is there. Other calls wait while the file is read, not while it is synced."""
@@ -830,11 +821,6 @@ class Durable(Reads):
             return self._log_bytes
 
     @property
-    def checkpoint_count(self) -> int:
-        """How many checkpoints were written since the table was opened."""
-        return self._checkpoint_count
-
-    @property
     def checkpoint_time(self) -> float | None:
         """When the last of them ended, in seconds as of `time.time`, or None."""
         return self._checkpoint_time
@@ -843,11 +829,6 @@ class Durable(Reads):
     def checkpoint_seconds(self) -> float | None:
         """How long the last of them took, during which other calls waited, or None."""
         return self._checkpoint_seconds
-
-    @property
-    def checkpoint_fault(self) -> Exception | None:
-        """Why the last checkpoint that was to be written by itself was not, or None if one was written since."""
-        return self._checkpoint_fault
 
     def close(self) -> None:
         """Closes the file. A table that is closed stays so, and a group that is open is rolled back. A call that was interrupted can be made again."""
