@@ -17,7 +17,7 @@ machine has, and a table among them has the calls on rows and columns.
 
 | Name | What it is |
 |---|---|
-| `Replicas(url, name=.., reads=.., patience=.., make=..)` | a replica, with `once`, `catch_up`, `checkpoint`, `trim`, `position` |
+| `Replicas(url, name=.., reads=.., patience=.., checkpoint_bytes=.., make=..)` | a replica, with `once`, `catch_up`, `checkpoint`, `trim`, `position` |
 | `Unanswered`, `ReplyForgotten`, `Diverged` | why a call of a replica has no reply |
 | `Unreachable`, `UnusableLog` | why its log cannot be used |
 | `Sharded(shards, bounds)` | a table among shards, whose ranges end at the bounds |
