@@ -136,6 +136,11 @@ betable_status betable_get(betable_session *session, const unsigned char *key, s
  * next page begins with 2 and the first bytes of the last row. DONE, OUT_OF_MEMORY, NOT_OPEN or REFUSED. */
 betable_status betable_page(betable_session *session, const unsigned char *page, size_t length, betable_fault *fault) BETABLE_NOT_NULL;
 
+/* Replies with the last rows of a range of a tree, in descending order of its key, at most as many as the number in the header. The request is that of
+   betable_page. The next page has the same lower bound; its upper one is 1, the number of the tree's key columns in one byte, and the first bytes of the last
+   row of the reply: the place directly before that row. DONE, OUT_OF_MEMORY, NOT_OPEN or REFUSED. */
+betable_status betable_last_page(betable_session *session, const unsigned char *page, size_t length, betable_fault *fault) BETABLE_NOT_NULL;
+
 /* Replies with the groups of the rows of a range of a tree, in order, with the sum of an int column. The rows are grouped by the first columns of the tree's key,
    as many as the number in the header. After the header are the name of the tree and that of the summed column, as texts, and the bounds of a page. The reply
    is the letters BTV, the version, and of each group: the values of its columns, the number of its rows in eight bytes, and the sum in sixteen bytes (two's

@@ -64,6 +64,24 @@ def built_between_batches() -> Lines:
     yield from ["sums by_city 1 qty", "go", "sums by_qty 1 id", "from 30", "to 60", "go"]
 
 
+def batches_in_ranges() -> Lines:
+    """Batches of so many lines that they are read into ranges of keys: of few keys, whose messages are in one range, and of many. One batch is refused, for a
+    line of its last piece that comes after others with higher refusals."""
+    dice = random.Random(4)
+
+    def messages(keys: int) -> list[str]:
+        drawn = [f"{dice.choice(['a', 'b,c', ''])},{dice.randrange(-keys, keys)}".replace("b,c", '"b,c"') for _ in range(16_500)]
+        changes = (lambda key: f"put {key},{dice.randrange(9)}", lambda key: f"ups {key},add,n,1", lambda key: f"del {key}")
+        return [dice.choices(changes, (6, 3, 1))[0](key) for key in drawn]
+
+    yield from ["table 16 256 128 2 t:text id:int n:int", "index by_n on n", "build by_n 1"]
+    few, many = messages(9), messages(1 << 50)
+    refused = [*many[:40], "put a,1", *many[41:9_000], "del a", *many[9_001:16_400], "ups a,x,add,n,1", *many[16_401:]]
+    for lines in (few, refused, many):
+        yield from ["batch", *lines, "end", "sums by_n 1 id", "go"]
+    yield from ["image primary", "image by_n"]
+
+
 def dressed(dice: random.Random, kind: str) -> str:
     """A random value of a kind, in one of the forms that a field may have."""
     if kind == "flag":
@@ -104,7 +122,7 @@ def random_compound_keys() -> Lines:
 
 # Those whose batches crates/test_cuts flushes in pieces: their trees are cut into jobs at several depths.
 FOR_CUTS: list[Callable[[], Lines]] = [flush_through_seven_levels, random_texts, random_compound_keys]
-ALL: list[Callable[[], Lines]] = [deep_tree_of_upserts, load_of_many_records, six_levels, built_between_batches, *FOR_CUTS]
+ALL: list[Callable[[], Lines]] = [deep_tree_of_upserts, load_of_many_records, six_levels, built_between_batches, batches_in_ranges, *FOR_CUTS]
 
 
 def script_of(lines: Callable[[], Lines]) -> bytes:

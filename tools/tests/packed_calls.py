@@ -19,7 +19,7 @@ from betable import language
 
 DONE, NOT_OPEN, REFUSED = 0, 3, 5
 SYNTAX, NO_TABLE, BAD_FIELD, BAD_LENGTH, NO_SUCH_TREE, BUILDING, NO_SUCH_COLUMN, NOT_INT = 1, 3, 6, 7, 8, 11, 15, 16
-CALLS = ("betable_apply", "betable_get", "betable_page", "betable_sums", "betable_columns", "betable_usage", "betable_trees")
+CALLS = ("betable_apply", "betable_get", "betable_page", "betable_last_page", "betable_sums", "betable_columns", "betable_usage", "betable_trees")
 UNWRITTEN = (99, 98, 97)
 PUT, DEL, UPS = range(3)
 WORDS = ("set", "add", "max", "min")
@@ -416,6 +416,8 @@ class BesideScripts(TestCase):
                         with self.subTest(tree=tree, limit=limit):
                             reply = raw.reply("betable_page", page(limit, tree, *(from_values(*values) for values in bounds)))
                             self.assertEqual(rows_of(self, reply, raw.kinds(tree))[0], wanted[:limit], bounds)
+                            reply = raw.reply("betable_last_page", page(limit, tree, *(from_values(*values) for values in bounds)))
+                            self.assertEqual(rows_of(self, reply, raw.kinds(tree))[0], wanted[::-1][:limit], bounds)
                             found = session.scan(tree, *(values or None for values in bounds), limit)
                             self.assertEqual(found, wanted[:limit], bounds)
                     self.assertEqual(session.scan(tree, *(values or None for values in bounds)), wanted)
@@ -507,6 +509,31 @@ class BesideScripts(TestCase):
                         lower = b"\2" + reply[places[-1] : end]
                     self.assertEqual((found, pages), (wanted, len(wanted) // limit + 1))
                     self.assertEqual(list(raw.session.iterate(tree, page=limit)), wanted)
+
+    def test_a_last_page_before_a_row_repeats_and_loses_no_row(self):
+        """Of trees of some hundred leaves, with messages in their buffers, in rows and in indexes. The upper bound is 1, the number of key columns and the first
+        bytes of the last row, which a program has without decoding it."""
+        dice = random.Random(3)
+        raw = Raw(SCHEMA)
+        for _ in range(40):
+            raw.apply(*(put(dice.randrange(-999, 999), *random_row(dice)[1:]) for _ in range(20)))
+            raw.apply(*(delete(dice.randrange(-999, 999)) for _ in range(20)))
+        for tree in ("primary", "by_city", "large"):
+            kinds, keys = raw.kinds(tree), len(raw.session.trees().tree(tree).key)
+            wanted = raw.session.run(f"scan {tree}\ngo\n")[0].rows[::-1]
+            self.assertGreater(len(wanted), 150)
+            for limit in (1, 2, 7, 100, len(wanted) - 1, len(wanted), len(wanted) + 1):
+                with self.subTest(tree=tree, limit=limit):
+                    found, upper, pages = [], b"\0", 0
+                    while True:
+                        reply = raw.reply("betable_last_page", page(limit, tree, upper=upper))
+                        rows, places = rows_of(self, reply, kinds)
+                        found, pages = found + rows, pages + 1
+                        if len(rows) < limit:
+                            break
+                        end = places[-1] + len(values_bytes(rows[-1][:keys]))
+                        upper = bytes([1, keys]) + reply[places[-1] : end]
+                    self.assertEqual((found, pages), (wanted, len(wanted) // limit + 1))
 
     @both_ways
     def test_keys_that_begin_alike_are_in_one_page_each(self):
@@ -706,6 +733,7 @@ MALFORMED = [
     ("betable_trees", header(0) + b"\0", (BAD_FIELD, 1, 0)),
     ("betable_trees", header(1) + value_bytes("primary"), (BAD_FIELD, 1, 0)),
 ]
+MALFORMED += [("betable_last_page", given, fault) for name, given, fault in MALFORMED if name == "betable_page"]
 
 
 class OtherBytes(TestCase):
@@ -775,7 +803,7 @@ class OtherBytes(TestCase):
         # The same for a page of an index, and for sums of it.
         bounds = [(b"\1\2", (BAD_FIELD, 1, 0)), (value_bytes("a"), (BAD_FIELD, 1, 1)), (value_bytes(7), (BAD_FIELD, 1, 2))]
         bounds += [(b"\2", (BAD_FIELD, 2, 0)), (value_bytes("z"), (BAD_FIELD, 2, 1)), (value_bytes(9), (BAD_FIELD, 2, 2))]
-        for name, names in (("betable_page", ["by_city"]), ("betable_sums", ["by_city", "qty"])):
+        for name, names in (("betable_page", ["by_city"]), ("betable_last_page", ["by_city"]), ("betable_sums", ["by_city", "qty"])):
             parts = [(header(2), (SYNTAX, 0, 0)), *((value_bytes(each), (BAD_FIELD, 0, 0)) for each in names), *bounds]
             whole, at = b"".join(part for part, _ in parts), 0
             for part, fault in parts:
@@ -844,7 +872,8 @@ def applied(rows, found):
 
 
 # The calls whose replies follow from the rows.
-READS = ("betable_get", "betable_page", "betable_sums", "betable_columns")
+PAGES = ("betable_page", "betable_last_page")
+READS = ("betable_get", *PAGES, "betable_sums", "betable_columns")
 
 # Of the trees of SCHEMA: the kinds of a row, the number of its key columns, the columns by name, and the rows, of those of the table.
 TREES = {
@@ -903,10 +932,12 @@ def found_by(name, given, rows):
     if read.take(4, (SYNTAX, 0, 0)) != b"BTV\x01":
         raise Fault(SYNTAX, 0, 0)
     number = struct.unpack("<I", read.take(4, (SYNTAX, 0, 0)))[0]
-    if name in ("betable_page", "betable_sums"):
-        names = [read.value("text", (BAD_FIELD, 0, 0)) for _ in range(1 if name == "betable_page" else 2)]
+    if name in (*PAGES, "betable_sums"):
+        names = [read.value("text", (BAD_FIELD, 0, 0)) for _ in range(1 if name in PAGES else 2)]
         found = rows_between(read, tree_of(names[0]), rows)
-        return found[:number] if name == "betable_page" else grouped(found, number, place_to_sum(*names, number))
+        if name in PAGES:
+            return (found if name == "betable_page" else found[::-1])[:number]
+        return grouped(found, number, place_to_sum(*names, number))
     if number != 1:
         raise Fault(SYNTAX, 0, 0)
     wanted = read.value("int", (BAD_FIELD, 1, 1)) if name == "betable_get" else read.value("text", (BAD_FIELD, 0, 0))
@@ -940,7 +971,7 @@ def read_reply(test, name, given, reply):
     if name == "betable_get":
         return rows_of(test, reply, TREES["primary"][0])[0]
     kinds, keys, names, _ = TREES[given[9 : 9 + given[8]].decode()]
-    if name == "betable_page":
+    if name in PAGES:
         return rows_of(test, reply, kinds)[0]
     if name == "betable_sums":
         return groups_of(test, reply, kinds[: struct.unpack("<I", given[4:8])[0]])
@@ -959,7 +990,7 @@ def random_request(dice, name):
     row = random_row(dice)
     keys = {"by_city": (row[1], row[0]), "large": (row[4], row[0])}.get(tree, row[:1])
     bounds = [dice.choice([b"\0", from_values(*keys[: dice.randrange(1, len(keys) + 1)]), after_row(*keys)]) for _ in range(2)]
-    if name == "betable_page":
+    if name in PAGES:
         return page(dice.choice([0, 1, 2, 5, 2**32 - 1]), tree, *bounds)
     return sums(dice.randrange(4), tree, dice.choice(["qty", "qty", "qty", "id", "city", "ok", "nothing", ""]), *bounds)
 

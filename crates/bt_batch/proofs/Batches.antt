@@ -1,7 +1,7 @@
 -- The refusals and the messages of concatenated lists of lines.
-use Rattle.std.proofs.Common.{ℕ, zero, suc, List, [], ◌∷◌, ◌++◌, ◌+◌, ◌<◌, ◌≡◌, true, false, drop, length, get_or, refl, sym, ap, ◌∙◌, arith, Option, Some, None, unwrap_or, if◌then◌else◌}
+use Rattle.std.proofs.Common.{ℕ, List, [], ◌∷◌, ◌++◌, ◌+◌, ◌<◌, ◌≡◌, true, false, drop, length, get_or, take, refl, sym, ap, ◌∙◌, arith, Option, Some, None, unwrap_or, if◌then◌else◌}
 use Rattle.std.proofs.lemmas.Bool.Decides.{nat_tests}
-use Rattle.std.proofs.lemmas.List.{drop_more}
+use Rattle.std.proofs.lemmas.List.{drop_more, length-take-le, take_more}
 use Rattle.std.proofs.lemmas.Option.{none-some}
 use Rattle.bt_batch.specs.Batches.{read_batch, read_message}
 use Rattle.bt_value.specs.Refusals.{is_lower, lowest, lowest_from, lower}
@@ -73,3 +73,12 @@ read_next schema before place lines d within =
     let next : item + 1 ≡ before + (place + 1) + 1 = omega arith in
     ap (read_batch schema item) (drop_more lines place d within)
     ∙ ap (λ i. read_message schema item (get_or lines place d) ∷ read_batch schema i (drop (place + 1) lines)) next
+
+-- the lines before the next place are those before this one, and the one there
+pub read_taken : (schema : Schema) (before place : ℕ) (lines : List Item) (d : Item) → place < length lines →
+    read_batch schema (before + 1) (take (place + 1) lines) ≡ read_batch schema (before + 1) (take place lines) ++ read_message schema (before + place + 1) (get_or lines place d) ∷ []
+read_taken schema before place lines d within =
+    let item : before + 1 + length (take place lines) ≡ before + place + 1 = omega (arith, within, length-take-le place lines (omega (arith, within))) in
+    ap (read_batch schema (before + 1)) (take_more lines place d within)
+    ∙ read_batch-append schema (before + 1) (take place lines) (get_or lines place d ∷ [])
+    ∙ ap (λ i. read_batch schema (before + 1) (take place lines) ++ read_message schema i (get_or lines place d) ∷ []) item

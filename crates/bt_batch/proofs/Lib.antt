@@ -4,5 +4,6 @@ pub mod GroupRanges
 pub mod MergedLists
 pub mod offered
 pub mod PieceReadings
+pub mod RangeLists
 pub mod Ranges
 pub mod SortedPieces

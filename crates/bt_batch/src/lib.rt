@@ -7,6 +7,10 @@
 //! [`merged_groups`], which does this for several batches in one round. [`read_packet_alone`] works without threads: the whole batch is one piece.
 //! [`sorted_messages`] sorts messages that are made in another way.
 //!
+//! A batch of at least 16,384 lines is read into ranges of keys at once, with and without threads. Pivots are chosen from a sample of its lines, each message
+//! goes to the list of its range, and each range is sorted by itself. So a sort has some 8,192 messages, which the caches of a processor hold, and no packets
+//! are merged.
+//!
 //! The result doesn't depend on the division into pieces or on the workers. It is the messages sorted by key, those of one key in the order of
 //! their lines, or else the lowest refusal that applies. The refusal of a line has the number of the line in the batch. `TooMany` is the refusal
 //! of more than [`MOST_MESSAGES`] lines.
@@ -30,6 +34,7 @@
 
 mod batch_packet;
 mod changes;
+mod key_ranges;
 mod line_messages;
 mod merging;
 mod sorting;

@@ -16,8 +16,8 @@ use std::alloc::{AllocError, Global};
 /// The largest number of messages in a batch.
 pub const MOST_MESSAGES: usize = 65_536;
 
-// The message that a line encodes, or its refusal as this item.
-fn read_message(
+/// The message that a line encodes, or its refusal as this item.
+pub(crate) fn read_message(
     alloc: Global,
     reader: &mut RecordReader,
     schema: &Schema,

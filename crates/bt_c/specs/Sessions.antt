@@ -5,14 +5,14 @@ use Rattle.bt_value.specs.Refusals.{number_of}
 use Rattle.bt_value.specs.declared.refusal.Refusal.TheVariants.{NoTable}
 use Rattle.bt_table.specs.Calls.{StaysOrIsLost}
 use Rattle.bt_table.specs.Tables.{Intact, Lost, TableState}
-use Rattle.bt_packed.specs.Calls.{applied, columns_reply, get_reply, on_ok, page_reply, sums_reply, trees_reply, usage_reply}
+use Rattle.bt_packed.specs.Calls.{applied, columns_reply, get_reply, last_page_reply, on_ok, page_reply, sums_reply, trees_reply, usage_reply}
 use Rattle.bt_packed.specs.Layout.{fault_at}
 use Rattle.bt_packed.specs.declared.fault.Fault.{Fault}
 use Rattle.bt_shell.specs.Steps.{State}
 use Rattle.bt_c.specs.declared.fault.FaultInC.{FaultInC}
 use Rattle.bt_c.specs.declared.handle.Handle.{Handle}
 use Rattle.bt_c.specs.declared.session.Question.{Question}
-use Rattle.bt_c.specs.declared.session.Question.TheVariants.{Columns, Page, Row, Sums, Trees, Usage}
+use Rattle.bt_c.specs.declared.session.Question.TheVariants.{Columns, LastPage, Page, Row, Sums, Trees, Usage}
 use Rattle.bt_c.specs.declared.session.Session.{Session}
 use Rattle.bt_c.specs.declared.status.Status.{Status}
 use Rattle.bt_c.specs.declared.status.Status.TheVariants.{AlreadyOpen, Done, NotOpen, OutOfMemory, Refused, ReplyCut}
@@ -55,6 +55,7 @@ applied_to (Some table) bytes = on_ok Some (applied table bytes)
 abbrev pub answer_of : Question → TableState → List ℕ → Result (List ℕ) Fault
 answer_of Row = get_reply
 answer_of Page = page_reply
+answer_of LastPage = last_page_reply
 answer_of Sums = sums_reply
 answer_of Columns = columns_reply
 answer_of Usage = usage_reply

@@ -20,7 +20,7 @@ ghost use Rattle.bt_shell.specs.Runs.{AreOneRun, EndsBetweenCommands, after_comm
 ghost use Rattle.bt_shell.specs.Steps.{State};
 ghost use Rattle.bt_table.specs.Standing.{IsConsistent, IsSound};
 ghost use Rattle.bt_table.specs.Tables.{Lost};
-ghost use Rattle.bt_packed.specs.Calls.{columns_reply, get_reply, page_reply, sums_reply, trees_reply, usage_reply};
+ghost use Rattle.bt_packed.specs.Calls.{columns_reply, get_reply, last_page_reply, page_reply, sums_reply, trees_reply, usage_reply};
 ghost use Rattle.bt_c.specs.Replies.{checked_marks, marks_of, reply_at};
 ghost use Rattle.bt_c.specs.Sessions.{IsAnswered, IsFault, IsUnmarked, StaysOpen, StaysOrIsLostIn, answer_of, applied_to, code_of, fault_of, is_lost, reply_from, session_of};
 ghost use Rattle.bt_c.specs.declared.status.Status.TheVariants as status;
@@ -249,6 +249,19 @@ pub extern "C" fn betable_page(
     ensures answered { IsAnswered page_reply page.now handle.old handle.new fault.new result }
 {
     answered(alloc, handle, Question::Page, page, fault)
+}
+
+/// Replies with the packed rows of the last page of a range of a tree, in descending order of their keys, as [`betable_get`] does.
+#[unsafe(no_mangle)]
+pub extern "C" fn betable_last_page(
+    alloc: Global,
+    handle: &mut Handle,
+    page: &[u8],
+    fault: &mut FaultInC,
+) -> u32
+    ensures answered { IsAnswered last_page_reply page.now handle.old handle.new fault.new result }
+{
+    answered(alloc, handle, Question::LastPage, page, fault)
 }
 
 /// Replies with the packed groups of a range, as [`betable_get`] does.

@@ -10,8 +10,8 @@ ghost use Rattle.bt_c.specs.Sessions.{StaysOrIsLostIn, answer_of, applied_to, is
 
 use crate::reply::{ReplyMark, ReplyMarks};
 use bt_packed::{
-    Fault, ReplyRoom, apply_packed, columns_packed, get_packed, page_packed, sums_packed,
-    trees_packed, usage_packed,
+    Fault, ReplyRoom, apply_packed, columns_packed, get_packed, last_page_packed, page_packed,
+    sums_packed, trees_packed, usage_packed,
 };
 use bt_script::{Counted, RunFault};
 use bt_shell::{Context, check_commands, run_commands};
@@ -66,6 +66,8 @@ pub enum Question {
     Row,
     /// Which rows are on a page?
     Page,
+    /// Which rows are on a page from the end?
+    LastPage,
     /// Which sums have the groups of a range?
     Sums,
     /// Which columns have the rows of a tree?
@@ -90,6 +92,7 @@ fn answer(
     match question {
         Question::Row => get_packed(alloc, table, bytes, room),
         Question::Page => page_packed(alloc, table, bytes, room),
+        Question::LastPage => last_page_packed(alloc, table, bytes, room),
         Question::Sums => sums_packed(alloc, table, bytes, room),
         Question::Columns => columns_packed(alloc, table, bytes, room),
         Question::Usage => usage_packed(alloc, table, bytes, room),

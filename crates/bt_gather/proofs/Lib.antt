@@ -1,8 +1,13 @@
 pub mod CutJobs
+pub mod DealtTrees
 pub mod Eithers
+pub mod EvenParts
 pub mod Filled
 pub mod FilledInOrder
 pub mod HolePlaces
+pub mod LeafParts
+pub mod LedPieces
+pub mod NewRows
 pub mod NoMisfit
 pub mod Opening
 pub mod PieceShares

@@ -13,10 +13,10 @@ use Rattle.bt_plan.specs.Pieces.{Holed, Pieces, Place}
 use Rattle.bt_plan.specs.Views.{node_place}
 use Rattle.bt_gather.specs.declared.flush_work.ShapedJob.{ShapedJob}
 use Rattle.bt_gather.specs.declared.round_tree.RoundTree.{RoundTree}
-use Rattle.bt_gather.specs.declared.round_tree.RoundTree.TheVariants.{Whole, Cut}
+use Rattle.bt_gather.specs.declared.round_tree.RoundTree.TheVariants.{Whole, Cut, Dealt}
 use Rattle.bt_gather.specs.Views.{pieces_of}
 use Rattle.bt_gather.specs.inside.RoundJobs.{IsRunnable, all_pieces, piece_of}
-use Rattle.bt_gather.specs.inside.RoundTrees.{AreFilledBy, AreJobsOf, AreJobsOfAll, IsCutFilledBy, IsEmptyWithRoom, IsFilledBy, job_count, tree_with, trees_with}
+use Rattle.bt_gather.specs.inside.RoundTrees.{AreFilledBy, AreJobsOf, AreJobsOfAll, IsCutFilledBy, IsDealtFilledBy, IsEmptyWithRoom, IsFilledBy, job_count, tree_with, trees_with}
 
 -- ---- lists
 
@@ -37,7 +37,7 @@ one_more n xs x rest e = let more = taken-suc n xs x rest e in (ap (λ k. take k
 module _ {V D : Type 0} where
   -- ---- the share of one tree
 
-  take-pieces : (n : ℕ) (items : List (code_place.Place × Siblings V (Message V D))) → pieces_of (take n items) ≡ take n (pieces_of items)
+  pub take-pieces : (n : ℕ) (items : List (code_place.Place × Siblings V (Message V D))) → pieces_of (take n items) ≡ take n (pieces_of items)
   take-pieces n items = sym (take-map (λ p. (node_place p.0, p.1)) n items)
 
   drop-pieces : (n : ℕ) (items : List (code_place.Place × Siblings V (Message V D))) → pieces_of (drop n items) ≡ drop n (pieces_of items)
@@ -47,6 +47,7 @@ module _ {V D : Type 0} where
     count-is : (t : RoundTree V D) (ps : Pieces V (Message V D)) → IsFilledBy weigh t ps → length ps ≡ job_count t
     count-is (Whole tree) ps e = ap length e
     count-is (Cut holed jobs room) ps e = e.count
+    count-is (Dealt shape starts room) ps e = e.1.count
 
     few-enough : (t : RoundTree V D) (ps : Pieces V (Message V D)) → IsFilledBy weigh t (take (job_count t) ps) → job_count t ≤ length ps
     few-enough t ps e = omega (arith, count-is t _ e, length-take (job_count t) ps)
@@ -74,6 +75,23 @@ module _ {V D : Type 0} where
 
         pub own-tree : tree_with (Cut holed jobs room) (pieces_of own) ≡ tree_with t (take (job_count t) (pieces_of items))
         own-tree = ap (tree_with (Cut holed jobs room)) own-pieces ∙ sym (ap (λ t. tree_with t (take (job_count t) (pieces_of items))) is)
+
+    -- the pieces that a tree that was dealt takes
+    module _ (t : RoundTree V D) (shape : Shape) (starts : Vec Key Global) (room : Vec (code_place.Place × Siblings V (Message V D)) Global) (is : t ≡ Dealt shape starts room)
+        (items : List (code_place.Place × Siblings V (Message V D))) where
+      pub dealt-fill : IsFilledBy weigh t (take (job_count t) (pieces_of items)) →
+          IsEmptyWithRoom room (length starts.items) × IsDealtFilledBy weigh shape starts.items (take (length starts.items) (pieces_of items))
+      dealt-fill = subst (λ t. IsFilledBy weigh t (take (job_count t) (pieces_of items))) is
+
+      pub dealt-tree : tree_with (Dealt shape starts room) (take (length starts.items) (pieces_of items)) ≡ tree_with t (take (job_count t) (pieces_of items))
+      dealt-tree = sym (ap (λ t. tree_with t (take (job_count t) (pieces_of items))) is)
+
+    -- there are as many pieces as it takes
+    pub dealt-enough : (shape : Shape) (starts : List Key) (items : List (code_place.Place × Siblings V (Message V D))) →
+        IsDealtFilledBy weigh shape starts (take (length starts) (pieces_of items)) → length starts ≤ length items
+    dealt-enough shape starts items fill =
+        let by_node_place : code_place.Place × Siblings V (Message V D) → Place × Siblings V (Message V D) = λ p. (node_place p.0, p.1) in
+        omega (arith, fill.count, length-take (length starts) (pieces_of items), length-map items by_node_place)
 
   -- one tree is put together, and the others are left
   module _ (t : RoundTree V D) (rest rest' : List (RoundTree V D)) (one : rest ≡ t ∷ rest') (items items' : List (code_place.Place × Siblings V (Message V D)))
@@ -122,7 +140,7 @@ module _ {V D : Type 0} where
           ∙ ap (λ ys. tree_with x (take (job_count x) ps) ∷ ys) (trees-more ts (drop (job_count x) ps) all.1)
 
   module _ (meaning : Meaning V (Message V D)) where
-    pieces-append : (js more : List (ShapedJob V D)) → all_pieces meaning (js ++ more) ≡ all_pieces meaning js ++ all_pieces meaning more
+    pub pieces-append : (js more : List (ShapedJob V D)) → all_pieces meaning (js ++ more) ≡ all_pieces meaning js ++ all_pieces meaning more
     pieces-append [] more = refl
     pieces-append (j ∷ js) more = ap (λ ps. (node_place j.job.place, (piece_of meaning j).1) ∷ ps) (pieces-append js more)
 

@@ -7,7 +7,8 @@
 //! ```
 //!
 //! `bt_plan` cuts a tree. A worker runs each job with [`run_job`]. [`fill`] puts the pieces into the holes of the tree, one at each hole.
-//! [`sink`] and [`drain`] do all three steps.
+//! [`sink`] and [`drain`] do all three steps. [`sink`] does not cut a tree without rows whose packet puts new rows: it deals the packet, and jobs
+//! make the leaves.
 //!
 //! The crate bt_portions reads a tree with a crew. Its calls are also exported here.
 //!
@@ -30,6 +31,7 @@ mod flush_work;
 mod hole_places;
 mod library_calls;
 mod misfit;
+mod new_leaves;
 mod round;
 mod round_tree;
 

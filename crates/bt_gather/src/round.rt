@@ -17,10 +17,23 @@ use std::alloc::{AllocError, Global};
 use std::sync::Wait;
 use std::thread::Threads;
 
+/// The most jobs, for each worker, that make the leaves of one tree.
+const JOBS_PER_WORKER: usize = 4;
+
+// The most jobs that make the leaves of one of these trees. It is one if the trees themselves are about as many jobs as there are
+// workers, since the caller would look at all messages first.
+fn parts_of<G>(crew: &Crew<G>, trees: usize) -> usize {
+    if crew.workers / 2 < trees {
+        return 1;
+    }
+    crew.workers * JOBS_PER_WORKER
+}
+
 /// Flushes a packet into each tree, in one round. If a packet has fewer messages than the crew's grain, the caller sinks it. The
-/// other trees are cut at the crew's depth, and their flushes are the jobs of one run, tree by tree, those of the rows first. There
-/// is at most one worker for each job, and at most one for every four grains of messages to the trees that are cut. With one worker,
-/// the caller works alone. After an `Err` every worker has ended, and the trees are dropped.
+/// other trees are cut at the crew's depth, and their flushes are the jobs of one run, tree by tree, those of the rows first. If a
+/// tree has no rows and its packet puts new ones, several workers make its leaves instead. There is at most one worker for each job,
+/// and at most one for every four grains of messages to the trees with jobs. With one worker, the caller works alone. After an `Err`
+/// every worker has ended, and the trees are dropped.
 pub fn sink<
     R: Merge + Send + Sync,
     E: Merge + Send + Sync,
@@ -43,8 +56,9 @@ where
     ensures hold { IfOk result (λ trees. AllHoldAfter (effect_of R.terms.merged) rows.items trees.0.items × AllHoldAfter (effect_of E.terms.merged) entries.items trees.1.items) }
 {
     let count = rows.len();
-    let rows = round_trees(alloc, 0, rows, crew.cut, crew.grain)?;
-    let entries = round_trees(alloc, count, entries, crew.cut, crew.grain)?;
+    let parts = parts_of(crew, count + entries.len());
+    let rows = round_trees(alloc, 0, rows, crew.cut, crew.grain, parts)?;
+    let entries = round_trees(alloc, count, entries, crew.cut, crew.grain, parts)?;
     let messages = rows.messages.saturating_add(entries.messages);
     let crew = crew.with_at_most(most_workers(crew, messages));
     let work = FlushWork::<R, E>::new();

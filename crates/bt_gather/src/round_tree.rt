@@ -1,4 +1,4 @@
-//! The trees of a round. Each is sunk at once or cut into jobs. A tree that was cut is put together from the results of its jobs.
+//! The trees of a round. Each is sunk at once, cut into jobs, or made of leaves by jobs. A tree with jobs is put together from their results.
 ghost use Rattle.std.specs.Prelude.{◌≡◌, ◌≤◌, ◌<◌, ◌+◌, ◌++◌, [], IfOk, OnOk, drop, length, map, take, vec_capacity, vec_len};
 ghost use Rattle.std.specs.List.{All};
 ghost use Rattle.std.specs.Vec.Iter.{into_iter_items};
@@ -6,19 +6,22 @@ ghost use Rattle.std.specs.declared.option.Option.TheVariants.{None};
 ghost use Rattle.bt_message.specs.Meanings.{meaning_of};
 ghost use Rattle.bt_message.specs.Weights.{weigh_of};
 ghost use Rattle.bt_form.specs.Fits.{HasShape};
-ghost use Rattle.bt_form.specs.Flushes.{crown, flush_in};
+ghost use Rattle.bt_form.specs.Flushes.{crown, flush_in, pivot_first};
 ghost use Rattle.bt_plan.specs.Pieces.{filled};
 ghost use Rattle.bt_gather.specs.Laws.{IsFillable};
 ghost use Rattle.bt_gather.specs.Misfits.{misfit};
 ghost use Rattle.bt_gather.specs.Rounds.{all_sunk, sunk_tree};
 ghost use Rattle.bt_gather.specs.Views.{pieces_of};
+ghost use Rattle.bt_gather.specs.inside.NewLeaves.{led_pieces};
 ghost use Rattle.bt_gather.specs.inside.RoundJobs.{shaped};
-ghost use Rattle.bt_gather.specs.inside.RoundTrees.{AreFilledBy, AreJobsOf, AreJobsOfAll, IsEmptyWithRoom, IsFilledBy, job_count, tree_with, trees_with};
+ghost use Rattle.bt_gather.specs.inside.RoundTrees.{AreFilledBy, AreJobsOf, AreJobsOfAll, IsDealtFilledBy, IsEmptyWithRoom, IsFilledBy, job_count, tree_with, trees_with};
 
 use crate::filling::fill_at;
 use crate::flush_work::ShapedJob;
 use crate::hole_places::hole_places;
+use crate::new_leaves::{are_new_rows, deal_packet, is_bare, leaves_of_parts};
 use bt_gang::DEEPEST_CUT;
+use bt_keycode::Key;
 use bt_messages::{Merge, Packet};
 use bt_node::{Mode, Shape, Siblings, Tree, crown};
 use bt_plan::{Holed, Job, Place, cut};
@@ -39,6 +42,12 @@ pub(crate) enum RoundTree<V: Merge> {
         jobs: usize,
         room: Vec<(Place, Siblings<V>)>,
     },
+    /// A tree whose leaves are made by jobs, with the first key of each job and a list with capacity for the results.
+    Dealt {
+        shape: Shape,
+        starts: Vec<Key>,
+        room: Vec<(Place, Siblings<V>)>,
+    },
 }
 
 /// The trees of a round, and their jobs, tree by tree.
@@ -46,7 +55,7 @@ pub(crate) enum RoundTree<V: Merge> {
 pub(crate) struct RoundTrees<V: Merge> {
     pub(crate) trees: Vec<RoundTree<V>>,
     pub(crate) jobs: Vec<ShapedJob<V>>,
-    /// The number of messages in the packets of the trees that are cut.
+    /// The number of messages in the packets of the trees with jobs.
     pub(crate) messages: usize,
     /// An empty list with capacity for the resulting trees.
     pub(crate) room: Vec<Tree<V>>,
@@ -103,13 +112,15 @@ pub(crate) fn cut_tree<V: Merge>(
     ))
 }
 
-// A tree of a round with its packet, and its jobs. If its packet is smaller than the grain, it is sunk at once and has no jobs.
+// A tree of a round with its packet, and its jobs. If its packet is smaller than the grain, it is sunk at once and has no jobs. With
+// more than one part, the first packet of a tree is dealt into at most this many, if it puts new rows.
 fn round_tree<V: Merge>(
     alloc: Global,
     number: u16,
     tree: (Tree<V>, Packet<V>),
     depth: usize,
     grain: usize,
+    parts: usize,
 ) -> Result<(RoundTree<V>, Vec<ShapedJob<V>>), AllocError>
     requires { (1 ≤ depth) × (depth ≤ DEEPEST_CUT) }
     ensures jobs { IfOk result (λ cut. AreJobsOf (meaning_of V.terms) cut.0 cut.1.items (sunk_tree (meaning_of V.terms) tree)) }
@@ -121,14 +132,18 @@ fn round_tree<V: Merge>(
         let tree = tree.sink(alloc, packet)?;
         return Ok((RoundTree::Whole(tree), Vec::new(alloc)));
     }
+    let most = tree.shape().leaf();
+    if 1 < parts && most < packet.len() && is_bare(&tree) && are_new_rows(&packet) {
+        return deal_packet(alloc, number, tree, packet, parts);
+    }
     cut_tree(alloc, number, tree, packet, depth, Mode::Absorb)
 }
 
-// The number of messages in the packet of a tree if the tree is cut, or 0.
+// The number of messages in the packet of a tree if the tree has jobs, or 0.
 fn messages_to_cut<V: Merge>(tree: &RoundTree<V>, messages: usize) -> usize {
     match tree {
         RoundTree::Whole(_) => 0,
-        RoundTree::Cut { .. } => messages,
+        RoundTree::Cut { .. } | RoundTree::Dealt { .. } => messages,
     }
 }
 
@@ -139,6 +154,7 @@ pub(crate) fn round_trees<V: Merge>(
     trees: Vec<(Tree<V>, Packet<V>)>,
     depth: usize,
     grain: usize,
+    parts: usize,
 ) -> Result<RoundTrees<V>, AllocError>
     requires depth { (1 ≤ depth) × (depth ≤ DEEPEST_CUT) }
     requires few { first + length trees.items ≤ MOST_TREES }
@@ -153,7 +169,7 @@ pub(crate) fn round_trees<V: Merge>(
     let mut number = first;
     for tree in trees {
         let count = tree.1.len();
-        let (next, mut more) = round_tree(alloc, number as u16, tree, depth, grain)?;
+        let (next, mut more) = round_tree(alloc, number as u16, tree, depth, grain, parts)?;
         messages = messages.saturating_add(messages_to_cut(&next, count));
         list.push_reserved(next);
         jobs.append(&mut more)?;
@@ -204,6 +220,25 @@ fn filled_tree<V: Merge>(
     Ok(crown(alloc, shape, siblings)?)
 }
 
+// The tree over the leaves of the next pieces, one for each of these keys.
+fn dealt_tree<V: Merge>(
+    alloc: Global,
+    shape: Shape,
+    starts: Vec<Key>,
+    pieces: &mut IntoIter<(Place, Siblings<V>)>,
+    room: Vec<(Place, Siblings<V>)>,
+) -> Result<Tree<V>, AllocError>
+    requires room { IsEmptyWithRoom room (length starts.items) }
+    requires fill { IsDealtFilledBy (weigh_of V.terms) shape starts.items (take (length starts.items) (pieces_of (into_iter_items pieces.old))) }
+    ensures tree { IfOk result (λ tree. tree ≡ (shape, crown shape (pivot_first [] (led_pieces starts.items (take (length starts.items) (pieces_of (into_iter_items pieces.old))))))) }
+    ensures left { OnOk result (into_iter_items pieces.new ≡ drop (length starts.items) (into_iter_items pieces.old)) }
+{
+    let count = starts.len();
+    let own = next_pieces(pieces, count, room);
+    let leaves = leaves_of_parts(alloc, starts, own)?;
+    Ok(crown(alloc, shape, leaves)?)
+}
+
 /// A tree of a round, put together with the next pieces.
 pub(crate) fn whole_tree<V: Merge>(
     alloc: Global,
@@ -220,6 +255,11 @@ pub(crate) fn whole_tree<V: Merge>(
             let own = next_pieces(pieces, jobs, room);
             filled_tree(alloc, holed, own)
         }
+        RoundTree::Dealt {
+            shape,
+            starts,
+            room,
+        } => dealt_tree(alloc, shape, starts, pieces, room),
     }
 }
 

@@ -19,7 +19,7 @@ use Rattle.bt_table.specs.Calls.{primary}
 use Rattle.bt_table.specs.Indexes.{Index, is_complete}
 use Rattle.bt_table.specs.Tables.{Intact, Lost, PlainTable, TableState, after_batch}
 use Rattle.bt_view.specs.RangeSums.{sums_between}
-use Rattle.bt_view.specs.Ranges.{index_schema, page, tree_columns}
+use Rattle.bt_view.specs.Ranges.{index_schema, last_page, page, tree_columns}
 use Rattle.bt_view.specs.Usage.{usage, usage_of}
 use Rattle.bt_show.specs.declared.groups.Sum.{Sum}
 use Rattle.bt_show.specs.declared.range.KeyRange.{KeyRange}
@@ -155,16 +155,27 @@ packed_rows rows = fold (λ bytes row. bytes ++ row_bytes row.1) magic rows
 abbrev pub page_between : TableState → List ℕ → ℕ → KeyRange → Result (List ℕ) Fault
 page_between state name limit range = on_ok packed_rows (of_call (page state name range limit))
 
-abbrev pub page_of_tree : TableState → ℕ → Read (List ℕ) → Result (List ℕ) Fault
-page_of_tree state limit (name, bytes) = then_do (page_between state name limit) (range_of_tree state name bytes)
+-- those of its last page
+abbrev pub last_page_between : TableState → List ℕ → ℕ → KeyRange → Result (List ℕ) Fault
+last_page_between state name limit range = on_ok packed_rows (of_call (last_page state name range limit))
+
+-- what a call makes of the name of a tree, the most rows and a range
+abbrev pub MakesPage : Type 0
+MakesPage = TableState → List ℕ → ℕ → KeyRange → Result (List ℕ) Fault
+
+abbrev pub page_of_tree : MakesPage → TableState → ℕ → Read (List ℕ) → Result (List ℕ) Fault
+page_of_tree make state limit (name, bytes) = then_do (make state name limit) (range_of_tree state name bytes)
 
 -- a page: a header with the most rows, the name of a tree, a lower bound and an upper one
-abbrev pub page_under : TableState → Option (Read ℕ) → Result (List ℕ) Fault
-page_under state None = Err no_header
-page_under state (Some read) = then_read (page_of_tree state read.0) (name_at read.1)
+abbrev pub page_under : MakesPage → TableState → Option (Read ℕ) → Result (List ℕ) Fault
+page_under make state None = Err no_header
+page_under make state (Some read) = then_read (page_of_tree make state read.0) (name_at read.1)
 
 abbrev pub page_reply : TableState → List ℕ → Result (List ℕ) Fault
-page_reply state bytes = page_under state (header_at bytes)
+page_reply state bytes = page_under page_between state (header_at bytes)
+
+abbrev pub last_page_reply : TableState → List ℕ → Result (List ℕ) Fault
+last_page_reply state bytes = page_under last_page_between state (header_at bytes)
 
 -- ---- sums
 

@@ -21,7 +21,7 @@ use bt_messages::Packet;
 use bt_row::{Row, Schema};
 use bt_table::{Alone, Reply, Table};
 use bt_value::{Refusal, Text};
-use bt_view::{KeyRange, page, sums_between, tree_columns, usage};
+use bt_view::{KeyRange, last_page, page, sums_between, tree_columns, usage};
 use std::alloc::Global;
 
 // The messages of packed changes of a table.
@@ -136,6 +136,25 @@ fn rows_between(
     }
 }
 
+// Those of its last page.
+fn last_rows_between(
+    alloc: Global,
+    table: &Table,
+    name: &Text,
+    limit: u32,
+    range: &KeyRange,
+    room: ReplyRoom,
+) -> Result<Vec<u8>, Fault>
+    ensures done { IfOk result (λ reply. spec.last_page_between table.now name.now limit range.now ≡ Ok reply.items) }
+    ensures fault { IfErr result (λ fault. fault.refusal ≢ Refusal.OutOfMemory → spec.last_page_between table.now name.now limit range.now ≡ Err fault) }
+{
+    let rows = PackedRows::in_room(room)?;
+    match last_page(alloc, table, name, range, limit as usize, rows) {
+        Ok(rows) => Ok(rows.into_bytes()),
+        Err(refusal) => Err(Fault::of_call(refusal)),
+    }
+}
+
 /// The packed rows of the page that packed bytes ask for.
 pub fn page_packed(
     alloc: Global,
@@ -153,6 +172,25 @@ pub fn page_packed(
     let (name, rest) = name_at(alloc, rest)?;
     let range = read_range(alloc, table, &name, rest)?;
     rows_between(alloc, table, &name, limit, &range, room)
+}
+
+/// The packed rows of the last page of the range that packed bytes ask for, in descending order of their keys.
+pub fn last_page_packed(
+    alloc: Global,
+    table: &Table,
+    bytes: &[u8],
+    room: ReplyRoom,
+) -> Result<Vec<u8>, Fault>
+    ensures done { IfOk result (λ reply. spec.last_page_reply table.now bytes.now ≡ Ok reply.items) }
+    ensures headless { bytes_header bytes.now ≡ None → IsErrOf result no_header }
+    ensures fault { IfErr result (λ fault. fault.refusal ≢ Refusal.OutOfMemory → spec.last_page_reply table.now bytes.now ≡ Err fault) }
+{
+    let Some((limit, rest)) = header_at(bytes) else {
+        return Err(Fault::no_header());
+    };
+    let (name, rest) = name_at(alloc, rest)?;
+    let range = read_range(alloc, table, &name, rest)?;
+    last_rows_between(alloc, table, &name, limit, &range, room)
 }
 
 // The name that packed bytes encode.

@@ -10,6 +10,8 @@
 //! - A page ([`page_packed`]): the most rows in four bytes, the name of the tree as a text, the lower bound and the upper one. A bound is 0 for none; 1, a
 //!   number of values in one byte, and the values of that many of the tree's first key columns; or 2 and those of all its key columns, for the place directly
 //!   after the row with this key. So the next page begins with 2 and the bytes of the key columns of the last row, with which that row begins.
+//! - A page from the end ([`last_page_packed`]), in the same form: the reply has the last rows of the range, from the last one back. The next page has the same
+//!   lower bound, and its upper one is 1, the number of all key columns of the tree, and the bytes of those of the last row of the reply.
 //! - The name of a tree ([`columns_packed`]): the number 1 in four bytes, and the name as a text. The reply has, after the first four bytes, the number of key
 //!   columns in eight bytes, and of each column the kind in one byte (0 int, 1 text, 2 flag, 4 bytes) and the name as a text.
 //! - The name of a tree ([`usage_packed`]), in the same form: the reply has, after the first four bytes, the number of rows in the leaves of the tree, the number
@@ -20,7 +22,7 @@
 //! - Sums ([`sums_packed`]): the number of columns of a group in four bytes, the name of the tree and that of the summed column as texts, and two bounds as for a
 //!   page. The reply has, after the first four bytes, of each group the values of its columns, the number of its rows in eight bytes and the sum in sixteen. The
 //!   number 0 makes one group of all rows of the range, even of none; with an empty name for the column, no column is summed, and each sum is 0.
-//! - Rows (the replies to a key and to a page): after the first four bytes, the values of each row, one row after the other, to the end of the bytes.
+//! - Rows (the replies to a key and to pages): after the first four bytes, the values of each row, one row after the other, to the end of the bytes.
 //!
 //! ```text
 //! apply_packed(alloc, &mut table, b"BTV\x01\x01\0\0\0\0...")?;      // one put
@@ -43,7 +45,8 @@ mod rows;
 mod trees;
 
 pub use calls::{
-    apply_packed, columns_packed, get_packed, page_packed, sums_packed, trees_packed, usage_packed,
+    apply_packed, columns_packed, get_packed, last_page_packed, page_packed, sums_packed,
+    trees_packed, usage_packed,
 };
 pub use changes::read_changes;
 pub use fault::Fault;

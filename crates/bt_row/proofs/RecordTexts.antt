@@ -1,7 +1,7 @@
 -- The text of a record, field by field. Serves writing a record.
 use Rattle.std.proofs.Common.{ℕ, List, [], ◌∷◌, ◌++◌, ◌+◌, ◌*◌, ◌<◌, ◌≤◌, ◌≡◌, ◌∙◌, refl, sym, ap, ◌==◌, length, length-drop}
-use Rattle.std.proofs.Common.{take, take_all, drop, get_or, map, arith, zero, suc, ◌≢◌, length-append, append_assoc}
-use Rattle.std.proofs.lemmas.Bool.{ne_eqb}
+use Rattle.std.proofs.Common.{take, take_all, drop, get_or, map, arith, zero, suc, true, false, ◌≢◌, length-append, append_assoc}
+use Rattle.std.proofs.lemmas.Bool.{eq-eqb, ne_eqb}
 use Rattle.std.proofs.lemmas.List.{append-nil, get_or_default, length-map}
 use Rattle.std.proofs.Math.ListN.{get_or-map}
 use Rattle.csv.specs.Writing.{default_writer, field_text, fields_text, is_blank, next_sep, row_body}
@@ -10,7 +10,8 @@ use Rattle.bt_value.specs.Kinds.{Content, Number, Bytes, Bit, content_of, kind_o
 use Rattle.bt_value.specs.Room.{room_in, room_of}
 use Rattle.bt_value.specs.Values.{text_of}
 use Rattle.bt_value.specs.declared.value.Value.{Value}
-use Rattle.bt_row.specs.inside.Packing.{packed_content, packed_value}
+use Rattle.bt_row.specs.RecordTexts.{record_text}
+use Rattle.bt_row.specs.inside.Packing.{packed_content, packed_value, packed_values}
 use Rattle.bt_row.proofs.Packing.{length_int_bytes}
 
 -- one more field
@@ -92,3 +93,27 @@ content_room tag (Bit bit) = omega arith
 
 pub room_enough : (v : Value) → room_of v + 1 ≤ 6 * length (packed_value v)
 room_enough v = content_room (tag_of (kind_of v)) (content_of v)
+
+-- the bytes that the values take are those of the first and of the others
+pub width : (values rest : List Value) (v : Value) → values ≡ v ∷ rest → length (packed_values values) ≡ length (packed_values (v ∷ rest))
+width values rest v is = ap (λ (vs : List Value). length (packed_values vs)) is
+
+-- nothing was printed
+pub blank : (old out : List ℕ) (values : List Value) → out ≡ old ++ row_body default_writer (map text_of values) → length out ≡ length old
+    → out ++ (34 ∷ 34 ∷ []) ≡ old ++ record_text (map text_of values)
+blank old out values wrote same =
+    let texts = map text_of values in
+    let body = row_body default_writer texts in
+    let none : (length body == 0) ≡ true = eq-eqb _ 0 (omega (arith, simp length-append at (ap length wrote))) in
+    let is = blank_is_empty texts ∙ none in
+    rw is (ap (λ (t : List ℕ). t ++ (34 ∷ 34 ∷ [])) wrote ∙ append_assoc old body (34 ∷ 34 ∷ []))
+
+-- something was printed
+pub something : (old out : List ℕ) (values : List Value) → out ≡ old ++ row_body default_writer (map text_of values) → length out ≢ length old
+    → out ≡ old ++ record_text (map text_of values)
+something old out values wrote other =
+    let texts = map text_of values in
+    let body = row_body default_writer texts in
+    let none : (length body == 0) ≡ false = ne_eqb _ 0 (λ e. other (omega (arith, e, simp length-append at (ap length wrote)))) in
+    let is = blank_is_empty texts ∙ none in
+    rw (is, append-nil body) wrote

@@ -1,4 +1,5 @@
 pub mod Drawings
+pub mod EarlierPages
 pub mod Fronts
 pub mod IndexColumns
 pub mod NextPages

@@ -12,7 +12,7 @@ use Rattle.bt_keycode.proofs.offered.Order.{later_chain, not_after, not_before_i
 use Rattle.bt_show.specs.Ranges.{GoesOn, range_after}
 use Rattle.bt_show.specs.declared.range.KeyRange.{KeyRange}
 
-is_test : (b : Bool) → T b → b ≡ true
+pub is_test : (b : Bool) → T b → b ≡ true
 is_test true h = refl
 is_test false h = absurd h
 

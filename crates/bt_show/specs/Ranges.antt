@@ -1,5 +1,5 @@
 -- The columns and rows of an index as a table, and ranges of keys.
-use Rattle.std.specs.Prelude.{ℕ, ◌≡◌, ◌+◌, ◌++◌, ◌∷◌, List, [], T, drop, get_or, length, map, take, Option, Some, None, option_map, Result, Ok, Err, if◌then◌else◌}
+use Rattle.std.specs.Prelude.{ℕ, ◌≡◌, ◌+◌, ◌++◌, ◌∷◌, List, [], T, drop, get_or, length, map, reverse, take, Option, Some, None, option_map, Result, Ok, Err, if◌then◌else◌}
 use Rattle.std.specs.FinMap.{is_sorted}
 use Rattle.bt_value.specs.Results.{both_read, map_ok}
 use Rattle.bt_row.specs.Schemas.{Schema, prefix_as}
@@ -70,3 +70,13 @@ abbrev pub GoesOn : KeyRange → Key → KeyRange → Type 0
 GoesOn range key next =
     (rows : Rows (List Value)) (n : ℕ) → T (is_sorted key_cmp rows) → EndAt n key (between range.from range.to rows)
     → between next.from next.to rows ≡ drop n (between range.from range.to rows)
+
+-- what is left of a range before a key
+abbrev pub range_before : KeyRange → Key → KeyRange
+range_before range key = record { from = range.from; to = Some key }
+
+-- a range goes on before a page from the end of another one that ends at a key: it repeats no row and leaves none out
+abbrev pub GoesOnBefore : KeyRange → Key → KeyRange → Type 0
+GoesOnBefore range key next =
+    (rows : Rows (List Value)) (n : ℕ) → T (is_sorted key_cmp rows) → EndAt n key (reverse (between range.from range.to rows))
+    → reverse (between next.from next.to rows) ≡ drop n (reverse (between range.from range.to rows))

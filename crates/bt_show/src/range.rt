@@ -27,6 +27,26 @@ impl KeyRange {
         self.rest_after(alloc, key)
     }
 
+    /// What is left of the range before a key. If the last row of a page from the end has this key, it is the range of the next page.
+    pub fn before(&self, alloc: Global, key: &Key) -> Result<Self, AllocError>
+        ensures range { IfOk result (λ range. range ≡ spec.range_before self.now key.now) }
+        ensures goes_on { IfOk result (spec.GoesOnBefore self.now key.now) }
+    {
+        self.rest_before(alloc, key)
+    }
+
+    // What is left of the range before a key.
+    fn rest_before(&self, alloc: Global, key: &Key) -> Result<Self, AllocError>
+        ensures { IfOk result (λ range. range ≡ spec.range_before self.now key.now) }
+    {
+        let to = key.copy(alloc)?;
+        let from = match &self.from {
+            Some(from) => Some(from.copy(alloc)?),
+            None => None,
+        };
+        Ok(KeyRange { from, to: Some(to) })
+    }
+
     // What is left of the range after a key.
     fn rest_after(&self, alloc: Global, key: &Key) -> Result<Self, AllocError>
         ensures { IfOk result (λ range. range ≡ spec.range_after self.now key.now) }

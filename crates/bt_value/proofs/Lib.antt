@@ -1,7 +1,10 @@
+pub mod DigitCounts
 pub mod FieldTexts
+pub mod HexTexts
 pub mod IntTexts
 pub mod Paddings
 pub mod Quotes
+pub mod ShortTexts
 pub mod Spelling
 pub mod Tables
 pub mod offered

@@ -5,8 +5,8 @@ ghost use Rattle.bt_value.specs.Room.{HasRoom, TakesRoom};
 
 use std::alloc::AllocError;
 
-// The lower-case hexadecimal digit of a number.
-fn lower_digit(number: u8) -> u8
+/// The lower-case hexadecimal digit of a number.
+pub(crate) fn lower_digit(number: u8) -> u8
     requires { number < 16 }
     ensures { result ≡ hex_digit number }
 {

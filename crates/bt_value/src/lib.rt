@@ -29,6 +29,7 @@ mod hex;
 mod int;
 mod number;
 mod plain_fields;
+mod short_text;
 mod value;
 
 // Refusals.
@@ -45,6 +46,7 @@ pub use number::write_number;
 pub use plain_fields::{is_special, plain_group};
 pub use refusal::{Refusal, lowest_with};
 pub use sequence::Sequence;
+pub use short_text::{SHORT_TEXT, put_byte};
 pub use slices::{front, tail};
 pub use text::{MOST_VALUE_BYTES, Text, Texts};
 pub use try_clone::{TryClone, clone_all};

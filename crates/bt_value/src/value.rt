@@ -1,7 +1,7 @@
 //! Kinds and values. All code that depends on the kind is here: forms, words, the bytes that a kind takes, how its fields are read and
 //! printed, and its default. Everything else depends only on the form of a value, with one exception: arithmetic operations and sums
 //! check that a value is an int.
-ghost use Rattle.std.specs.Prelude.{◌≡◌, ◌≢◌, ◌++◌, IfOk, IfSome, Some, false, option_map, take, true};
+ghost use Rattle.std.specs.Prelude.{◌≡◌, ◌≢◌, ◌≤◌, ◌+◌, ◌++◌, IfOk, IfSome, Some, false, option_map, take, true};
 ghost use Rattle.csv.specs.Writing.{default_writer, field_text};
 ghost use Rattle.bt_value.specs.Kinds.{content_of, default_of, form_of, kind_of_word, kind_of, kind_of_tag, needs_room, tag_of, takes, text_of, value_of, value_with};
 ghost use Rattle.bt_value.specs.Values.{BytesFit, IsInRange, takes_content};
@@ -14,6 +14,7 @@ use crate::field::{read_flag, read_text};
 use crate::field_writer::{write_binary, write_flag, write_int, write_text};
 use crate::int::read_int;
 use crate::plain_fields::{plain_end, plain_int, plain_text_end};
+use crate::short_text::{SHORT_TEXT, put_binary, put_flag, put_int, put_text};
 use crate::slices::front;
 use crate::text::{MOST_VALUE_BYTES, Text, is_text};
 use crate::try_clone::TryClone;
@@ -325,6 +326,20 @@ impl<'a> ValueRef<'a> {
             ValueRef::Text(text) => write_text(out, text),
             ValueRef::Flag(flag) => write_flag(out, flag),
             ValueRef::Bytes(bytes) => write_binary(out, bytes),
+        }
+    }
+    /// Puts the text of the value at a place as a field of a record, and returns the place after it.
+    #[inline(always)]
+    pub fn put(self, room: &mut [u8; SHORT_TEXT], at: usize) -> usize
+        requires { at + room_of (value_of_ref self) ≤ SHORT_TEXT }
+        ensures text { take result room.new ≡ take at room.old ++ field_text default_writer (text_of (value_of_ref self.entry)) }
+        ensures room { result ≤ at + room_of (value_of_ref self.entry) }
+    {
+        match self {
+            ValueRef::Int(number) => put_int(room, at, number),
+            ValueRef::Text(text) => put_text(room, at, text),
+            ValueRef::Flag(flag) => put_flag(room, at, flag),
+            ValueRef::Bytes(bytes) => put_binary(room, at, bytes),
         }
     }
 }

@@ -1,11 +1,13 @@
 -- The result of reading a range of an index. Serves scans and sums of an index.
-use Rattle.std.proofs.Common.{◌≡◌, ◌≢◌, ◌∙◌, ◌≤◌, ◌<◌, ℕ, arith, length, Bool, true, false, List, [], Option, Some, Result, Ok, Err, ap, fold, map, refl, subst, sym, take, if◌then◌else◌}
-use Rattle.std.proofs.lemmas.List.{length-map}
+use Rattle.std.proofs.Common.{◌≡◌, ◌≢◌, ◌∙◌, ◌≤◌, ◌<◌, ℕ, arith, length, Bool, true, false, List, [], ◌∷◌, ◌++◌, Option, Some, Result, Ok, Err}
+use Rattle.std.proofs.Common.{ap, fold, map, refl, reverse, subst, sym, take, if◌then◌else◌}
+use Rattle.std.proofs.lemmas.List.{length-map, reverse-append}
 use Rattle.std.specs.List.{All}
 use Rattle.bt_row.specs.Schemas.{Schema}
 use Rattle.bt_value.specs.declared.refusal.Refusal.{Refusal}
 use Rattle.bt_value.specs.Results.{or_refused, and_then, map_ok}
 use Rattle.bt_value.specs.declared.refusal.Refusal.TheVariants.{Building, OutOfMemory, TooMany}
+use Rattle.bt_value.specs.declared.value.Kind.{Kind}
 use Rattle.bt_row.specs.declared.rows.schema.Column.{Column}
 use Rattle.bt_value.specs.declared.value.Value.{Value}
 use Rattle.bt_form.specs.Flushes.{holds}
@@ -23,12 +25,15 @@ use Rattle.bt_show.specs.inside.Entries.{index_kinds, rows_of_entries}
 use Rattle.bt_view.specs.Groups.{groups_of, summed_place, sums_of, unless_too_many}
 use Rattle.bt_view.specs.RangeSums.{groups_by, groups_within, place_in_range}
 use Rattle.bt_show.specs.inside.Neighbours.{after_row}
-use Rattle.bt_view.specs.Ranges.{index_row, index_schema, page_of, range_as, rows_within, scan_with_keys_of, when_whole}
+use Rattle.bt_view.specs.Ranges.{index_row, index_schema, range_as, rows_within, scan_with_keys_of, when_whole}
 use Rattle.bt_show.specs.declared.groups.Sum.{Sum}
 use Rattle.bt_show.specs.declared.range.KeyRange.{KeyRange}
-use Rattle.bt_show.proofs.offered.SelectedRows.{shown-between, shown-rows, shown-take}
+use Rattle.bt_show.proofs.offered.SelectedRows.{AreShown, shown-between, shown-rows, shown-take}
 use Rattle.bt_view.proofs.IndexRows.{all_rise, all_shown, all_stand}
 use Rattle.bt_view.proofs.RowOrder.{ascend}
+use Rattle.bt_view.specs.declared.pages.RowOrder.{RowOrder}
+use Rattle.bt_view.specs.declared.pages.RowOrder.TheVariants.{Falling, Rising}
+use Rattle.bt_view.specs.inside.Orders.{in_order, page_of}
 use Rattle.bt_view.specs.inside.Shown.{with_whole}
 use Rattle.bt_view.proofs.Summing.{of_rows}
 use Rattle.bt_view.proofs.WholeGroups.{ranged}
@@ -167,29 +172,56 @@ module _ (table : PlainTable) (index : Index) (from to : Option (List (List ℕ)
 
 -- ---- pages
 
-module _ (table : PlainTable) (index : Index) (own : KeyRange) (limit : ℕ) where
+-- entries show rows in each order
+module _ (kinds : List Kind) where
+  shown-join : (es fs rs ss : Rows (List Value)) → AreShown kinds es rs → AreShown kinds fs ss → AreShown kinds (es ++ fs) (rs ++ ss)
+  shown-join [] fs [] ss all others = others
+  shown-join [] fs (r ∷ rs) ss all others = absurd all
+  shown-join (e ∷ es) fs [] ss all others = absurd all
+  shown-join (e ∷ es) fs (r ∷ rs) ss all others = (all.0, all.1, shown-join es fs rs ss all.2 others)
+
+  shown-reverse : (es rs : Rows (List Value)) → AreShown kinds es rs → AreShown kinds (reverse es) (reverse rs)
+  shown-reverse [] [] all = tt
+  shown-reverse [] (r ∷ rs) all = absurd all
+  shown-reverse (e ∷ es) [] all = absurd all
+  shown-reverse (e ∷ es) (r ∷ rs) all =
+      let others = shown-reverse es rs all.2 in
+      let joined = shown-join (reverse es) (e ∷ []) (reverse rs) (r ∷ []) others (all.0, all.1, tt) in
+      subst (λ l. AreShown kinds l (reverse (r ∷ rs))) (sym (reverse-append (e ∷ []) es))
+      (subst (λ l. AreShown kinds (reverse es ++ e ∷ []) l) (sym (reverse-append (r ∷ []) rs)) joined)
+
+  shown-in_order : (order : RowOrder) (es rs : Rows (List Value)) → AreShown kinds es rs → AreShown kinds (in_order order es) (in_order order rs)
+  shown-in_order Rising es rs all = all
+  shown-in_order Falling es rs all = shown-reverse es rs all
+
+module _ (table : PlainTable) (index : Index) (own : KeyRange) (order : RowOrder) (limit : ℕ) where
   -- a page, by whether the index covers all rows
   abbrev page_when : Bool → Result (Rows (List Value)) Refusal
   page_when whole =
-      map_ok (take limit) (map_ok (between own.from own.to) (if whole then Ok (select (index_row table.schema.keys index.def) table.rows) else Err Building))
+      map_ok (λ rows. take limit (in_order order rows))
+      (map_ok (between own.from own.to) (if whole then Ok (select (index_row table.schema.keys index.def) table.rows) else Err Building))
 
   module _ (schema : Schema) (shows : ShowsIndex table schema index) where
-    -- the first entries of a range, as they are shown
+    -- the first entries of a range in the order, as they are shown
     abbrev first_by : Schema → Rows (List Value) → Rows (List Value)
-    first_by schema entries = rows_of_entries (index_kinds schema index.def) (take limit (between own.from own.to entries))
+    first_by schema entries = rows_of_entries (index_kinds schema index.def) (take limit (in_order order (between own.from own.to entries)))
 
     first_through : is_whole index.cover ≡ true
-        → first_by schema (holds entry_effect index.tree.1) ≡ take limit (between own.from own.to (select (index_row table.schema.keys index.def) table.rows))
+        → first_by schema (holds entry_effect index.tree.1)
+        ≡ take limit (in_order order (between own.from own.to (select (index_row table.schema.keys index.def) table.rows)))
     first_through whole =
         let on = under table.schema.columns index.def.on shows.suits.within.on in
         let include = under table.schema.columns index.def.include shows.suits.within.include in
         let entries = select (entry_of index.def) table.rows in
         let rows = select (index_row table.schema.keys index.def) table.rows in
         let kinds = index_kinds table.schema index.def in
+        let shown_entries = in_order order (between own.from own.to entries) in
+        let shown_rows = in_order order (between own.from own.to rows) in
         ap (λ s. first_by s (holds entry_effect index.tree.1)) shows.schema_is ∙ ap (first_by table.schema) (shows.complete whole)
-        ∙ shown-rows kinds (take limit (between own.from own.to entries)) (take limit (between own.from own.to rows))
-        (shown-take kinds limit (between own.from own.to entries) (between own.from own.to rows)
-        (shown-between kinds own entries rows (all_shown table.schema index.def on include shows.few table.rows shows.stand)))
+        ∙ shown-rows kinds (take limit shown_entries) (take limit shown_rows)
+        (shown-take kinds limit shown_entries shown_rows
+        (shown-in_order kinds order (between own.from own.to entries) (between own.from own.to rows)
+        (shown-between kinds own entries rows (all_shown table.schema index.def on include shows.few table.rows shows.stand))))
 
-    pub page_done : is_whole index.cover ≡ true → page_of own limit (Secondary table index) ≡ Ok (first_by schema (holds entry_effect index.tree.1))
+    pub page_done : is_whole index.cover ≡ true → page_of order own limit (Secondary table index) ≡ Ok (first_by schema (holds entry_effect index.tree.1))
     page_done whole = ap page_when whole ∙ ap Ok (sym (first_through whole))

@@ -2,6 +2,7 @@ pub mod GroupOrder
 pub mod GroupRows
 pub mod IndexRows
 pub mod IndexViews
+pub mod LastRows
 pub mod offered
 pub mod RowOrder
 pub mod ShownRows

@@ -1,5 +1,5 @@
 -- The rows of a tree of a table, and those of a range.
-use Rattle.std.specs.Prelude.{ℕ, List, T, map, take, Option, Result, Ok}
+use Rattle.std.specs.Prelude.{ℕ, List, T, map, reverse, take, Option, Result, Ok}
 use Rattle.bt_value.specs.Results.{and_then, map_ok}
 use Rattle.bt_row.specs.Schemas.{Schema}
 use Rattle.bt_value.specs.declared.refusal.Refusal.{Refusal}
@@ -12,7 +12,7 @@ use Rattle.bt_table.specs.Calls.{NamedTree, Primary, Secondary, tree_named}
 use Rattle.bt_table.specs.Tables.{TableState}
 use Rattle.bt_show.specs.declared.range.KeyRange.{KeyRange}
 -- those of bt_show
-pub use Rattle.bt_show.specs.Ranges.{column_in, index_schema, bound_as, range_as, all_keys, rows_within, index_row, when_whole, range_after, EndAt, GoesOn}
+pub use Rattle.bt_show.specs.Ranges.{column_in, index_schema, bound_as, range_as, all_keys, rows_within, index_row, when_whole, range_after, range_before, EndAt, GoesOn, GoesOnBefore}
 
 -- ---- the columns of the rows of a tree
 
@@ -46,6 +46,14 @@ page_of range limit tree = map_ok (take limit) (rows_between range tree)
 -- a page of the tree of this name
 abbrev pub page : TableState → List ℕ → KeyRange → ℕ → Result (Rows (List Value)) Refusal
 page state name range limit = and_then (page_of range limit) (tree_named state name)
+
+-- the last page of a tree: the last of these rows, at most this many, in descending order of their keys
+abbrev pub last_page_of : KeyRange → ℕ → NamedTree → Result (Rows (List Value)) Refusal
+last_page_of range limit tree = map_ok (λ rows. take limit (reverse rows)) (rows_between range tree)
+
+-- the last page of the tree of this name
+abbrev pub last_page : TableState → List ℕ → KeyRange → ℕ → Result (Rows (List Value)) Refusal
+last_page state name range limit = and_then (last_page_of range limit) (tree_named state name)
 
 -- the rows of a range of a tree by their keys, or the first of these refusals: of the bounds, and of an index that is building
 abbrev pub scan_with_keys_of : Option (List (List ℕ)) → Option (List (List ℕ)) → NamedTree → Result (Rows (List Value)) Refusal

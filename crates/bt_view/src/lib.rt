@@ -9,6 +9,7 @@
 //! let context = Context { rt: &rt, alloc, crew: &crew };
 //! let rows = scan(&context, &table, &name, Some(&from), None, RowList::new(alloc))?;      // the rows from the key that `from` encodes
 //! let rows = page(alloc, &table, &name, &range, 100, RowList::new(alloc))?;               // the first 100 rows of a range of keys
+//! let rows = last_page(alloc, &table, &name, &range, 100, RowList::new(alloc))?;          // the last 100 rows, from the last one back
 //! let sums = sums(&context, &table, &name, 1, &column, None, None)?;                      // one Sum for each value of the first column
 //! let sums = sums_between(alloc, &table, &name, &range, 1, &column)?;                     // the same for a range of keys
 //! let count = sums_between(alloc, &table, &name, &range, 0, &Text::empty())?;             // one Sum, with the number of all its rows
@@ -19,6 +20,7 @@
 //! `Usage` how much a tree holds, and `Images` its text.
 #![tactic(auto)]
 
+mod last_rows;
 mod pages;
 mod range_sums;
 mod shown;
@@ -27,4 +29,6 @@ mod view;
 
 pub use bt_show::{KeyRange, RecordText, RowList, Sum, TreeUsage};
 pub use shown_columns::{TreeColumns, tree_columns};
-pub use view::{check_scan, image, page, scan, scan_alone, sums, sums_alone, sums_between, usage};
+pub use view::{
+    check_scan, image, last_page, page, scan, scan_alone, sums, sums_alone, sums_between, usage,
+};

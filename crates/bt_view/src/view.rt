@@ -9,8 +9,9 @@ ghost use Rattle.bt_view.specs.Images as images;
 ghost use Rattle.bt_view.specs.RangeSums as ranged;
 ghost use Rattle.bt_view.specs.Ranges as spec;
 ghost use Rattle.bt_view.specs.Usage as usages;
+ghost use Rattle.bt_view.specs.inside.Orders as orders;
 
-use crate::pages::{page_of_index, page_of_rows};
+use crate::pages::{RowOrder, page_of_index, page_of_rows};
 use crate::range_sums::{sums_of_index, sums_of_rows};
 use crate::shown::{rows_to_show, rows_to_sum, show, show_alone, sum, sum_alone};
 use bt_gang::{Context, Crew, Gate};
@@ -78,6 +79,29 @@ pub fn check_scan(
     Ok(())
 }
 
+// Shows a visitor a page of the tree of this name, in an order.
+fn page_in_order<S: Visitor<Row>>(
+    alloc: Global,
+    table: &Table,
+    name: &Text,
+    range: &KeyRange,
+    order: RowOrder,
+    limit: usize,
+    visitor: S,
+) -> Result<S, Refusal>
+    ensures answer { Answers (map_ok (fold S.visited visitor) (orders.page order table.now name.now range.now limit)) result }
+    ensures certain { IfErr (orders.page order table.now name.now range.now limit) (IsErrOf result) }
+{
+    match table.tree(name)? {
+        TreeRef::Rows { tree, .. } => {
+            Ok(page_of_rows(alloc, tree, range, order, limit, visitor)?)
+        }
+        TreeRef::Index { schema, index } => {
+            page_of_index(alloc, schema, index, range, order, limit, visitor)
+        }
+    }
+}
+
 /// Shows a visitor a page of the tree of this name: the first rows, at most `limit`, whose keys are in a range, in ascending order of their keys; each is
 /// shown with its key. The key of a row of the table is the code of its key columns, and that of a row of an index is the code of the columns that it is
 /// ordered by and of the table's key columns. If the last row of a page has a key, [`KeyRange::after`] is the range of the next page.
@@ -95,12 +119,25 @@ pub fn page<S: Visitor<Row>>(
     ensures answer { Answers (map_ok (fold S.visited visitor) (spec.page table.now name.now range.now limit)) result }
     ensures certain { IfErr (spec.page table.now name.now range.now limit) (IsErrOf result) }
 {
-    match table.tree(name)? {
-        TreeRef::Rows { tree, .. } => Ok(page_of_rows(alloc, tree, range, limit, visitor)?),
-        TreeRef::Index { schema, index } => {
-            page_of_index(alloc, schema, index, range, limit, visitor)
-        }
-    }
+    page_in_order(alloc, table, name, range, RowOrder::Rising, limit, visitor)
+}
+
+/// Shows a visitor a page from the end of a range of the tree of this name: the last rows, at most `limit`, in descending order of their keys; each is shown
+/// with its key, as by [`page`]. If the last row shown has a key, [`KeyRange::before`] is the range of the next page.
+///
+/// Refused like [`page`]. Subtrees outside of the range or before the last row shown are not read, and no thread starts.
+pub fn last_page<S: Visitor<Row>>(
+    alloc: Global,
+    table: &Table,
+    name: &Text,
+    range: &KeyRange,
+    limit: usize,
+    visitor: S,
+) -> Result<S, Refusal>
+    ensures answer { Answers (map_ok (fold S.visited visitor) (spec.last_page table.now name.now range.now limit)) result }
+    ensures certain { IfErr (spec.last_page table.now name.now range.now limit) (IsErrOf result) }
+{
+    page_in_order(alloc, table, name, range, RowOrder::Falling, limit, visitor)
 }
 
 /// The groups of the rows that `scan` shows, in order, by a crew. The rows are grouped by their first `grouping` columns, with the sum of the column of this

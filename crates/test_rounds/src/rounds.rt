@@ -44,6 +44,29 @@ const THREE_LEVELS: [&str; 4] = [
 const TWELVE_ROWS: &str =
     "batch\nput 1,10\nput 2,50\nput 3,20\nput 4,60\nput 5,11\nput 6,51\nput 7,12\nput 8,52\nput 9,13\nput 10,53\nput 11,14\nput 12,54\nend\n";
 
+const A_ROW_TWICE: &str = "batch\nput 1,10\nput 2,20\nput 3,30\nput 2,21\nend\n";
+
+// Each leaf of twelve new rows is a job. If a key comes twice, the tree is one job.
+#[test]
+fn leaves_of_the_first_batch(rt: HostRuntime) -> Result<(), Fail> {
+    let alloc = rt.alloc();
+    for (script, jobs) in [(TWELVE_ROWS, 6), (A_ROW_TWICE, 1)] {
+        let mut table = table_after(alloc, &[])?;
+        let gate = Counting {
+            entered: AtomicUsize::new(0),
+        };
+        let crew = Crew::new(2, 1, 1, &gate as &(dyn Gate + Sync))?;
+        drop(apply(&rt, alloc, &mut table, script, &crew)?);
+        let alone = table_after(alloc, &[script])?;
+        assert_eq!(&rt;
+            image_of_rows(alloc, &table)?.as_slice(),
+            image_of_rows(alloc, &alone)?.as_slice()
+        );
+        assert_eq!(&rt; gate.entered.load(Ordering::SeqCst), jobs);
+    }
+    Ok(())
+}
+
 #[test]
 fn two_jobs_of_a_batch(rt: HostRuntime) -> Result<(), Fail> {
     let alloc = rt.alloc();

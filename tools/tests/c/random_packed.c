@@ -11,13 +11,15 @@
 #include <sys/mman.h>
 #include <unistd.h>
 
-enum { APPLY, GET, PAGE, SUMS, COLUMNS, USAGE, ALL_TREES, CALLS };
+enum { APPLY, GET, PAGE, LAST_PAGE, SUMS, COLUMNS, USAGE, ALL_TREES, CALLS };
 enum { UNWRITTEN = 99, MOST_ROWS = 40, ROOM = sizeof(((message *)0)->at) };
 /* Syntax, BadField, BadLength, NoSuchTree, NoSuchColumn and NotInt: what these calls are refused as, while there is a table and its indexes are complete. */
 static const uint32_t REFUSALS = 1 << 1 | 1 << 6 | 1 << 7 | 1 << 8 | 1 << 15 | 1 << 16;
 
-static packed_call *const CALL[CALLS] = {betable_apply, betable_get, betable_page, betable_sums, betable_columns, betable_usage, betable_trees};
-static const char *const NAME[CALLS] = {"changes", "gets", "pages", "sums", "columns", "usage", "trees"};
+static packed_call *const CALL[CALLS] = {
+    betable_apply, betable_get, betable_page, betable_last_page, betable_sums, betable_columns, betable_usage, betable_trees,
+};
+static const char *const NAME[CALLS] = {"changes", "gets", "pages", "last pages", "sums", "columns", "usage", "trees"};
 static betable_session session = BETABLE_CLOSED;
 static unsigned char *room;
 static size_t page_size;
@@ -65,6 +67,7 @@ static void write_request(message *to, size_t call) {
         add_key(to);
         break;
     case PAGE:
+    case LAST_PAGE:
         begin(to, LIMIT[below(sizeof LIMIT / sizeof *LIMIT)]);
         add_tree(to, of);
         add_bound(to, of);
@@ -282,7 +285,7 @@ static void check_reply(size_t call) {
         if (row_count(TREE[0].kinds) > 1 || (reply.length > 4 && memcmp(reply.at + 4, given.at + 8, 8) != 0)) {
             fail("another row than that of the key");
         }
-    } else if (call == PAGE) {
+    } else if (call == PAGE || call == LAST_PAGE) {
         if (row_count(named()->kinds) > number(given.at + 4, 4)) {
             fail("more rows than the limit");
         }

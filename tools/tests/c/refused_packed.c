@@ -74,6 +74,8 @@ static const request REQUEST[] = {
     {"a get", betable_get, write_key, BETABLE_DONE},
     {"a page of all rows", betable_page, write_all, BETABLE_DONE},
     {"a page of an index", betable_page, write_entries, BETABLE_DONE},
+    {"a last page of all rows", betable_last_page, write_all, BETABLE_DONE},
+    {"a last page of an index", betable_last_page, write_entries, BETABLE_DONE},
     {"a page of no tree", betable_page, write_wrong_page, BETABLE_REFUSED},
     {"sums of cities", betable_sums, write_sums, BETABLE_DONE},
     {"sums of entries", betable_sums, write_many_sums, BETABLE_DONE},

@@ -1,10 +1,11 @@
 -- The jobs of a round, and their results.
-use Rattle.std.specs.Prelude.{List, map}
+use Rattle.std.specs.Prelude.{◌≡◌, List, [], map}
 use Rattle.std.specs.List.{All}
 use Rattle.bt_message.specs.declared.message.Message.{Message}
 use Rattle.bt_form.specs.Fits.{IsInOrder}
-use Rattle.bt_form.specs.Messages.{Meaning}
-use Rattle.bt_form.specs.Trees.{Shape, Siblings}
+use Rattle.bt_form.specs.Messages.{Meaning, Messages}
+use Rattle.bt_form.specs.Trees.{Shape, Siblings, leaf}
+use Rattle.bt_form.specs.declared.mode.Mode.TheVariants.{Absorb}
 use Rattle.bt_plan.specs.declared.job.Job as code_job
 use Rattle.bt_plan.specs.declared.job.Place as code_place
 use Rattle.bt_plan.specs.Cuts.{outcome}
@@ -21,6 +22,13 @@ module _ {V D : Type 0} where
   -- the keys of its node are in order
   abbrev pub IsRunnable : ShapedJob V D → Type 0
   IsRunnable shaped = IsInOrder shaped.job.node
+
+  -- it makes the leaves of these messages
+  pub record IsLeafJob (shape : Shape) (packet : Messages (Message V D)) (shaped : ShapedJob V D) : Type 0 where
+    pub same : shaped.shape ≡ shape
+    pub bare : shaped.job.node ≡ leaf []
+    pub takes : shaped.job.packet ≡ packet
+    pub absorbs : shaped.job.mode ≡ Absorb
 
   abbrev pub AreRunnable : List (ShapedJob V D) → Type 0
   AreRunnable = All IsRunnable

@@ -1,4 +1,4 @@
-use Rattle.std.proofs.Common.{◌∙◌, Some, ap, arith, false, length, replicate, subst, sym}
+use Rattle.std.proofs.Common.{◌∙◌, Some, ap, arith, false, replicate, subst, sym}
 use Rattle.std.proofs.lemmas.List.{drop_all, length-map}
 use Rattle.bt_plan.specs.Views.{node_place}
 use Rattle.bt_gather.specs.Misfits.{double}

@@ -1,22 +1,11 @@
-use Rattle.std.proofs.Common.{◌≡◌, ◌∙◌, ◌++◌, ◌==◌, ◌∷◌, [], ℕ, List, ap, rules, arith, map, length, true, false, append_assoc, length-append, ◌≢◌}
-use Rattle.std.proofs.lemmas.Bool.{eq-eqb, ne_eqb}
-use Rattle.std.proofs.lemmas.List.{append-nil}
-use Rattle.csv.specs.Writing.{default_writer, row_body}
-use Rattle.bt_row.specs.RecordTexts.{record_text}
-use Rattle.bt_value.specs.Values.{text_of}
+use Rattle.std.proofs.Common.{◌∙◌, ◌++◌, ◌∷◌, [], ℕ, List, ap, rules, arith, length, append_assoc}
 use Rattle.bt_value.specs.Views.{value_of_ref}
-use Rattle.bt_value.specs.declared.value.Value.{Value}
-use Rattle.bt_row.specs.inside.Packing.{packed_values}
 use Rattle.bt_row.proofs.Packing.{length_packed}
-use Rattle.bt_row.proofs.RecordTexts.{blank_is_empty, wrote_all, wrote_more, wrote_none}
+use Rattle.bt_row.proofs.RecordTexts.{blank, something, width, wrote_all, wrote_more, wrote_none}
 use Rattle.bt_row.proofs.rows.record_writer.write_fields.Goals as goal
 
 pub loop-value-init : goal.loop-value-init
 loop-value-init c = record { wrote = wrote_none c.args.values c.args.out.now.items; room = c.requires.room }
-
--- the bytes that the values take are those of the first and of the others
-width : (values rest : List Value) (v : Value) → values ≡ v ∷ rest → length (packed_values values) ≡ length (packed_values (v ∷ rest))
-width values rest v is = ap (λ (vs : List Value). length (packed_values vs)) is
 
 pub write_field-requires : goal.write_field-requires
 write_field-requires c =
@@ -32,26 +21,6 @@ loop-value-preserved c = record {
 
 pub loop-value-smaller : goal.loop-value-smaller
 loop-value-smaller c = omega (arith, ap length c.in-Some.ensures.some)
-
--- nothing was printed
-blank : (old out : List ℕ) (values : List Value) → out ≡ old ++ row_body default_writer (map text_of values) → length out ≡ length old
-    → out ++ (34 ∷ 34 ∷ []) ≡ old ++ record_text (map text_of values)
-blank old out values wrote same =
-    let texts = map text_of values in
-    let body = row_body default_writer texts in
-    let none : (length body == 0) ≡ true = eq-eqb _ 0 (omega (arith, simp length-append at (ap length wrote))) in
-    let is = blank_is_empty texts ∙ none in
-    rw is (ap (λ (t : List ℕ). t ++ (34 ∷ 34 ∷ [])) wrote ∙ append_assoc old body (34 ∷ 34 ∷ []))
-
--- something was printed
-something : (old out : List ℕ) (values : List Value) → out ≡ old ++ row_body default_writer (map text_of values) → length out ≢ length old
-    → out ≡ old ++ record_text (map text_of values)
-something old out values wrote other =
-    let texts = map text_of values in
-    let body = row_body default_writer texts in
-    let none : (length body == 0) ≡ false = ne_eqb _ 0 (λ e. other (omega (arith, e, simp length-append at (ap length wrote)))) in
-    let is = blank_is_empty texts ∙ none in
-    rw (is, append-nil body) wrote
 
 pub returns-then-len-start : goal.returns-then-len-start
 returns-then-len-start c =
