@@ -95,6 +95,7 @@ class Crews(TestCase):
         refused = {name: [line for line in lines if line.startswith("refused ")] for name, lines in replies.items()}
         self.assertEqual(refused.pop("load_of_many_records"), ["refused 6 BadField 1090", "refused 14 DuplicateKey 1030"])
         self.assertEqual(refused.pop("batches_in_ranges"), ["refused 6 BadField 16401"])
+        self.assertEqual(refused.pop("batches_in_pieces"), ["refused 1 Syntax", "refused 1 Syntax", "refused 2 Unfinished"])
         self.assertEqual({name: lines for name, lines in refused.items() if lines}, {})
         built = [line for line in replies["built_between_batches"] if line.startswith("build ")]
         self.assertEqual((len(built), [line.endswith(" complete") for line in built[-3:]]), (10, [False, True, True]))

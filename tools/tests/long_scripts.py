@@ -82,6 +82,22 @@ def batches_in_ranges() -> Lines:
     yield from ["image primary", "image by_n"]
 
 
+def batches_in_pieces() -> Lines:
+    """Batches of so many bytes that workers read their lines in pieces. Their lines have line ends of both kinds, spaces before them, blank lines between them,
+    and texts that are words of the language. One batch has a wrong line among its last ones, and the end of the script cuts off the last one."""
+    dice = random.Random(5)
+
+    def lines(count: int) -> list[str]:
+        texts = ("end", "go", " end", '"a,b"', '""', "batch", "." * 60)
+        changes = (lambda key: f"put {key},{dice.choice(texts)}", lambda key: f"  ups {key},set,t,{dice.choice(texts)}", lambda key: f"del {key}")
+        return [dice.choice(["", "  ", "\r"]) if dice.random() < 0.1 else dice.choices(changes, (6, 3, 1))[0](dice.randrange(9_000)) + dice.choice(["", "\r"]) for _ in range(count)]
+
+    yield "table 16 256 64 1 id:int t:text"
+    for count, wrong in ((5_000, []), (9_000, []), (9_000, [" end", "del 1"]), (5_000, ["put"]), (6_000, [])):
+        yield from ["batch", *lines(count), *wrong, "end\r"]
+    yield from ["scan primary", "go", "image primary", "batch", *lines(6_000)]
+
+
 def dressed(dice: random.Random, kind: str) -> str:
     """A random value of a kind, in one of the forms that a field may have."""
     if kind == "flag":
@@ -122,7 +138,7 @@ def random_compound_keys() -> Lines:
 
 # Those whose batches crates/test_cuts flushes in pieces: their trees are cut into jobs at several depths.
 FOR_CUTS: list[Callable[[], Lines]] = [flush_through_seven_levels, random_texts, random_compound_keys]
-ALL: list[Callable[[], Lines]] = [deep_tree_of_upserts, load_of_many_records, six_levels, built_between_batches, batches_in_ranges, *FOR_CUTS]
+ALL: list[Callable[[], Lines]] = [deep_tree_of_upserts, load_of_many_records, six_levels, built_between_batches, batches_in_ranges, batches_in_pieces, *FOR_CUTS]
 
 
 def script_of(lines: Callable[[], Lines]) -> bytes:

@@ -4,6 +4,7 @@ pub mod Cuts
 pub mod Feeds
 pub mod Gets
 pub mod Joined
+pub mod LinePieces
 pub mod Machine
 pub mod Names
 pub mod Numbers

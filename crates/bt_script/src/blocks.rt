@@ -27,8 +27,11 @@ fn parse_item(text: &[u8]) -> Option<Item<'_>>
     None
 }
 
-// The messages of some lines, and the message of one more line, which has no carriage return at its end.
-fn and_item<'a>(items: Option<Items<'a>>, line: &'a [u8]) -> Result<Option<Items<'a>>, AllocError>
+/// The messages of some lines, and the message of one more line, which has no carriage return at its end.
+pub(crate) fn and_item<'a>(
+    items: Option<Items<'a>>,
+    line: &'a [u8],
+) -> Result<Option<Items<'a>>, AllocError>
     ensures { IfOk result (λ all. all ≡ and_line items.entry line.now) }
 {
     let text = without_spaces(line);

@@ -1,7 +1,7 @@
-//! The block of a load.
-ghost use Rattle.std.specs.Prelude.{◌≡◌, ◌≤◌, List, codes, length, true, ℕ};
+//! The text of a block.
+ghost use Rattle.std.specs.Prelude.{◌≡◌, ◌≤◌, List, length, true, ℕ};
 ghost use Rattle.bt_script.specs.inside.Blocks.{IsBlock, is_closed, place_after};
-ghost use Rattle.bt_script.specs.Lines.{text_of_lines};
+ghost use Rattle.bt_script.specs.Lines.{lines, text_of_lines};
 
 use crate::blocks::{Block, BlockEnd};
 use crate::lines::{is_word, next_line, without_return};
@@ -30,17 +30,21 @@ impl<'a> BlockText<'a> {
     }
 }
 
-/// The block of a load: its text, or the rest of the script if no line closes it. Allocates nothing.
-pub(crate) fn read_block_text(script: &[u8], start: usize) -> Block<BlockText<'_>>
+/// The text of a block with this closing line, or the rest of the script if no line closes it. Allocates nothing.
+pub(crate) fn read_block_text<'a>(
+    script: &'a [u8],
+    start: usize,
+    closing: &[u8],
+) -> Block<BlockText<'a>>
     requires { start ≤ length script.now }
-    ensures block { (block : List (List ℕ)) × (is_closed result.end ≡ true → result.content ≡ text_of_lines block)
-        × IsBlock script.now start (codes ".") block result.end }
+    ensures block { (block : List (List ℕ)) × (lines result.content ≡ block) × (is_closed result.end ≡ true → result.content ≡ text_of_lines block)
+        × IsBlock script.now start closing.now block result.end }
     ensures within { (start ≤ place_after result.end) × (place_after result.end ≤ length script.now) }
 {
     let mut at = start;
     while at < script.len() {
         let (line, next) = next_line(script, at);
-        if is_word(without_return(line), b".") {
+        if is_word(without_return(line), closing) {
             return Block {
                 content: BlockText {
                     bytes: &script[start..at],

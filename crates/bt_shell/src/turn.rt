@@ -21,7 +21,7 @@ use bt_gang::Context;
 use bt_node::Shape;
 use bt_row::Schema;
 use bt_rowtype::both_read;
-use bt_script::{Bounds, Capacity, Command, IndexForm, Parsed, SumsForm, TableForm, parse_command};
+use bt_script::{Bounds, Capacity, Command, IndexForm, Parsed, SumsForm, TableForm};
 use bt_table::{Reply, Table};
 use bt_value::{Refusal, Text};
 use std::alloc::{AllocError, Global};
@@ -276,10 +276,11 @@ pub(crate) fn next_reply<T, C: ScriptWorkforce<T>>(
     ensures past { IfOk result (λ found. IfSome found (λ f. (at < f.1) × (f.1 ≤ length script.now))) }
     ensures left { OnErr result (IsLeftAfter table.old table.new (commands (drop at script.now)) 0) }
 {
-    match parse_command(context.alloc, script, at)? {
+    let Context { rt, alloc, crew } = *context;
+    match crew.parse(rt, alloc, script, at)? {
         Parsed::End => Ok(None),
         Parsed::Bad { refusal, next } => {
-            let reply = refusal_answer(context.alloc, refusal)?;
+            let reply = refusal_answer(alloc, refusal)?;
             Ok(Some((reply, next)))
         }
         Parsed::Good { command, next } => {

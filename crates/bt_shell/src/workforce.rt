@@ -1,7 +1,8 @@
 //! Who works on a script: the caller alone, or a crew.
-ghost use Rattle.std.specs.Prelude.{◌≡◌, ◌≢◌, fold, IfErr, IsErrOf, None};
+ghost use Rattle.std.specs.Prelude.{◌≡◌, ◌≢◌, drop, fold, IfErr, IfOk, IsErrOf, None};
 ghost use Rattle.bt_value.specs.Answers.{Answers};
 ghost use Rattle.bt_value.specs.Results.{map_ok};
+ghost use Rattle.bt_script.specs.Commands.{Finds, NextPast, commands};
 ghost use Rattle.bt_table.specs.Calls.{tree_named};
 ghost use Rattle.bt_view.specs.Groups as groups;
 ghost use Rattle.bt_view.specs.Ranges as ranges;
@@ -11,20 +12,32 @@ ghost use Rattle.bt_shell.specs.inside.Lines.{with_line};
 use crate::replies::Lines;
 use crate::sizes::has_fewer_rows;
 use bt_gang::{Context, Crew, Gate, NoGate};
-use bt_script::{Bounds, SumsForm};
+use bt_script::{Bounds, Parsed, SumsForm, parse_by_crew, parse_command};
 use bt_table::{Alone, Table, Workforce};
 use bt_value::{Refusal, Sequence, Text};
 use bt_view::{Sum, scan, scan_alone, sums, sums_alone};
-use std::alloc::Global;
+use std::alloc::{AllocError, Global};
 use std::sync::Wait;
 use std::thread::Threads;
 
 // A crew leaves a tree with fewer rows to the caller, because starting threads would take longer than the workers gain.
 const FEW_ROWS: usize = 49_152;
 
-/// Who works on a script: a [`Workforce`] that also reads. The type of the visitor of the rows is named here, because a crew passes it to threads, and inside
+/// Who works on a script: a [`Workforce`] that also parses and reads. The type of the visitor of the rows is named here, because a crew passes it to threads, and inside
 /// an `impl` it is not known that a thread may have the value of a type parameter. The calls have the same clauses for either.
 pub trait ScriptWorkforce<T>: Workforce<T> {
+    /// The command at a place of a script, as returned by [`parse_command`].
+    fn parse<'a>(
+        &self,
+        rt: &T,
+        alloc: Global,
+        script: &'a [u8],
+        at: usize,
+    ) -> Result<Parsed<'a>, AllocError>
+        requires ready { Self.accepts self.now }
+        ensures found { IfOk result (λ parsed. Finds parsed script.now (commands (drop at script.now))) }
+        ensures past { IfOk result (λ parsed. NextPast parsed at script.now) };
+
     /// Appends the rows of a tree between two bounds to some lines.
     fn scan(
         &self,
@@ -55,6 +68,16 @@ pub trait ScriptWorkforce<T>: Workforce<T> {
 }
 
 impl<T> ScriptWorkforce<T> for Alone {
+    fn parse<'a>(
+        &self,
+        _rt: &T,
+        alloc: Global,
+        script: &'a [u8],
+        at: usize,
+    ) -> Result<Parsed<'a>, AllocError> {
+        parse_command(alloc, script, at)
+    }
+
     fn scan(
         &self,
         _rt: &T,
@@ -89,6 +112,21 @@ impl<T> ScriptWorkforce<T> for Alone {
 }
 
 impl<T: Threads + Wait + Sync> ScriptWorkforce<T> for Crew<NoGate> {
+    fn parse<'a>(
+        &self,
+        rt: &T,
+        alloc: Global,
+        script: &'a [u8],
+        at: usize,
+    ) -> Result<Parsed<'a>, AllocError> {
+        let context = Context {
+            rt,
+            alloc,
+            crew: self,
+        };
+        parse_by_crew(&context, script, at)
+    }
+
     fn scan(
         &self,
         rt: &T,
@@ -147,6 +185,21 @@ impl<T: Threads + Wait + Sync> ScriptWorkforce<T> for Crew<NoGate> {
 }
 
 impl<T: Threads + Wait + Sync> ScriptWorkforce<T> for Crew<&(dyn Gate + Sync)> {
+    fn parse<'a>(
+        &self,
+        rt: &T,
+        alloc: Global,
+        script: &'a [u8],
+        at: usize,
+    ) -> Result<Parsed<'a>, AllocError> {
+        let context = Context {
+            rt,
+            alloc,
+            crew: self,
+        };
+        parse_by_crew(&context, script, at)
+    }
+
     fn scan(
         &self,
         rt: &T,

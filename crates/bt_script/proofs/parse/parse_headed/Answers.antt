@@ -50,8 +50,8 @@ returns-then-begins-4-clause-found c =
     let closes : closing_of (words head) ≡ Some (codes ".") = search rules in
     let found : command_of head block.0 ≡ load_command (words head) (text_of_lines block.0) = search rules in
     let made : load_command (words head) read.content ≡ c.load_command.result = search rules in
-    let same = ap (block_answer read.end) found ∙ load-answer read.end (words head) read.content (text_of_lines block.0) block.1 ∙ ap (block_answer read.end) made in
-    headed-block _ c.args.script.now head _ c.args.at _ _ _ closes block.2 same (c.parsed_command-then-begins-4.ensures.found _)
+    let same = ap (block_answer read.end) found ∙ load-answer read.end (words head) read.content (text_of_lines block.0) block.2 ∙ ap (block_answer read.end) made in
+    headed-block _ c.args.script.now head _ c.args.at _ _ _ closes block.3 same (c.parsed_command-then-begins-4.ensures.found _)
 
 pub returns-clause-found : goal.returns-clause-found
 unfolding closing_of command_of

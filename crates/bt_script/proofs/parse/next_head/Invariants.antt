@@ -1,6 +1,6 @@
 use Rattle.std.proofs.Common.{length, ◌-◌, ◌≡◌, ◌≤◌, drop}
 use Rattle.bt_script.specs.Commands.{commands}
-use Rattle.bt_script.proofs.parse.parse_command.Given as goal
+use Rattle.bt_script.proofs.parse.next_head.Given as goal
 
 -- only blank lines were skipped
 abbrev pub invariant-loop-place : goal.invariant-loop-place
