@@ -26,8 +26,8 @@ loop-left-preserved g t c = elim c.if-is_before.branch [
       let high = option_copied c.loop-left.high in
       let pivot = c.pivot-pivot.result.now in
       let here : option_copied c.if-is_before.high ≡ Some pivot = ap option_copied w.high-is in
-      let after : is_before_lower low pivot ≡ false = subst (λ k. is_before_lower low k ≡ false) 
-        (same_key_at _ c.pivot.result.now pivot c.pivot.ensures c.pivot-pivot.ensures) (c.if-is_after.ensures refl) in
+      let after : is_before_lower low pivot ≡ false = subst (λ k. is_before_lower low k ≡ false)
+      (same_key_at _ c.pivot.result.now pivot c.pivot.ensures c.pivot-pivot.ensures) (c.if-is_after.ensures refl) in
       let before : is_before_upper high pivot ≡ true = sym w.if-is_before.ensures in
       let step = earlier_left visited c.loop-left.visitor w.visit_pieces.new.visitor c.loop-left.left w.in_ok-left.left
       (between low high rows) (between low (Some pivot) rows) (between (Some pivot) high rows)
