@@ -439,6 +439,26 @@ def most_messages(dice):
     return b"table 4 1 2 1 id:int\nbatch\n" + b"".join(lines) + b"end\nimage primary\n"
 
 
+LARGE_TEXTS = [b"end", b"go", b".", b"end of it", b'"a,b"', b'""', b"x" * 40]
+
+
+def large(dice):
+    """Batches that workers read in pieces, and mostly in ranges of keys, each with a fault in a quarter of the cases, on a tree with or without an index."""
+    first = [b"table 16 %b 64 1 id:int t:text\n" % dice.choice([b"64", b"4096b"])] + [b"index by_t on t\n", b"build by_t 9\n"] * dice.randrange(2)
+    for _ in range(dice.choice([1, 2])):
+        span = dice.choice([1, 50, 3_000, 1 << 40])
+        lines = []
+        for _ in range(dice.choice([5_000, 16_384, 17_000])):
+            word, key = dice.choice([b"put", b"put", b"ups", b"del"]), dice.randrange(-span, span)
+            text = {b"put": b",", b"ups": b",set,t,", b"del": b""}[word] + (dice.choice(LARGE_TEXTS) if word != b"del" else b"")
+            lines.append(b"%b %d%b\n" % (word, key, text))
+        if dice.random() < 0.25:
+            lines[dice.randrange(-len(lines) // 4, len(lines))] = dice.choice([b"del x\n", b"put 1\n", b" end\n", b"del\n"])
+        first += [b"batch\n", *lines, b"end\n"]
+    first += [b"%b\n" % line for line in (b"sums primary 1 id", b"go", b"image primary", b"scan by_t", b"go")]
+    return dressed(dice, first)
+
+
 @cache
 def stored():
     """The stored scripts that are not large, in the order of their names."""
@@ -519,12 +539,12 @@ def noise(dice):
 
 
 SHARES = {small: 580, deep: 80, changed: 290, noise: 50}
-MOST_MESSAGES_SHARE = 1 / 10_000
+MOST_MESSAGES_SHARE, LARGE_SHARE = 1 / 10_000, 1 / 500
 
 
 def script(seed, number):
     dice = random.Random(f"{seed} {number}")
-    if dice.random() < MOST_MESSAGES_SHARE:
-        return most_messages(dice)
+    if (share := dice.random()) < MOST_MESSAGES_SHARE + LARGE_SHARE:
+        return most_messages(dice) if share < MOST_MESSAGES_SHARE else large(dice)
     [make] = dice.choices([*SHARES], [*SHARES.values()])
     return make(dice)
