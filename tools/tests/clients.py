@@ -64,7 +64,7 @@ def both_ways(test):
     return tested
 
 
-PACKED_CALLS = ("betable_apply", "betable_get", "betable_page", "betable_columns", "betable_sums")
+PACKED_CALLS = ("betable_apply", "betable_get", "betable_page", "betable_last_page", "betable_columns", "betable_sums")
 
 
 class OtherLibrary:

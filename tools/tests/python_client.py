@@ -353,7 +353,7 @@ class PythonClient(TestCase):
                 if call:
                     for parameter in inspect.signature(getattr(client.Session, name)).parameters.values():
                         kinds = [parameter.VAR_POSITIONAL, parameter.POSITIONAL_OR_KEYWORD] + [parameter.VAR_KEYWORD] * name.startswith("upsert")
-                        self.assertTrue(parameter.kind in kinds or parameter.name == "self")
+                        self.assertTrue(parameter.kind in kinds or parameter.name in ("self", "newest_first"))
                     self.assertEqual((fault_of(lambda: call(session)) is not None, content(session)), (True, before))
 
 

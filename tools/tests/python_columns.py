@@ -4,6 +4,7 @@ and pandas are skipped if these are not installed."""
 import random
 import tempfile
 from array import array
+from itertools import product
 from pathlib import Path
 from unittest import TestCase
 
@@ -138,8 +139,8 @@ class PythonColumns(TestCase):
                 session.put(random_rows(dice, count))
             for tree, bounds in (("primary", (None, None)), ("primary", ((0,), (50,))), ("by_city", (None, None)), ("by_city", (("Oslo", True), ("x" * 255,)))):
                 with self.subTest(tree=tree):
-                    for limit in (None, 0, 1, 7, 10**6):
-                        rows, columns = session.scan(tree, *bounds, limit), session.scan_columns(tree, *bounds, limit)
+                    for limit, newest_first in product((None, 0, 1, 7, 10**6), (False, True)):
+                        rows, columns = (call(tree, *bounds, limit, newest_first=newest_first) for call in (session.scan, session.scan_columns))
                         there = session.columns(tree)
                         self.assertEqual(list(columns), [column.name for column in there])
                         self.assertEqual([type(values) for values in columns.values()], [array if column.kind == "int" else list for column in there])
@@ -194,6 +195,7 @@ class PythonColumns(TestCase):
         self.assertEqual((other.put_frame(found), other.replies("scan primary\ngo\n")), (300, session.replies("scan primary\ngo\n")))
         session.index("by_qty", "qty", "city")
         self.assertEqual(list(session.scan_frame("by_qty", (5,), (6,)).itertuples(index=False, name=None)), session.scan("by_qty", (5,), (6,)))
+        self.assertEqual(list(session.scan_frame("by_qty", limit=7, newest_first=True).itertuples(index=False, name=None)), session.scan("by_qty")[:-8:-1])
         self.assertEqual(len(new_session().scan_frame()), 0)
         before = session.scan()
         missing = frame.assign(qty=[None] + [1] * 299)

@@ -34,7 +34,7 @@ def reads(session):
     """Each call of the extension that reads rows."""
     return [
         lambda: session.get(5), lambda: session.scan(limit=9), lambda: session.scan("by_city"), lambda: session.scan_columns(), lambda: list(session.iterate(page=7)),
-        lambda: session.sums("by_city", 1, "qty"),
+        lambda: session.sums("by_city", 1, "qty"), lambda: session.scan("by_city", newest_first=True),
     ]  # fmt: skip
 
 

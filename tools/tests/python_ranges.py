@@ -1,7 +1,8 @@
-"""Tests of `delete_range`, on sessions and durable tables."""
+"""Tests of ranges on sessions and durable tables: `delete_range`, and rows from the end of a range."""
 
 import random
 import threading
+from itertools import product
 from unittest import TestCase
 
 from .clients import betable, both_ways, build_extension, library
@@ -140,3 +141,90 @@ class DeleteRange(TestCase):
             # A row is gone and was put again, or was out of the range and stays.
             self.assertEqual(sorted(day for _, day in table.scan()), [2] * len(threads))
             self.assertTrue(16 <= count <= 20)
+
+
+def changed(one):
+    """Fills a table whose trees have several levels and messages in their buffers. A row of it was put, put again, upserted, or deleted and put again."""
+    client, dice, rows = betable(), random.Random(7), rows_of(150, ["", "a", "b", "ab"])
+    filled(one, rows[:100])
+    one.batch([client.delete(*row[:3]) for row in rows[:100] if dice.random() < 0.4])
+    one.put((*row[:3], row[3] + 1, not row[4]) for row in rows[50:])
+    one.batch([client.upsert(*row[:3], add={"qty": 3}) for row in rows if dice.random() < 0.2])
+    one.batch([client.delete(*rows[0][:3])])
+
+
+class NewestFirst(TestCase):
+    @both_ways
+    def test_rows_are_those_of_a_scan_from_the_last_one_back(self):
+        """Of trees with messages in their buffers, with every limit at which something may end, in rows, columns and pages. The first values of keys are the
+        same in many rows, so pages end between rows that differ only in later ones."""
+        with betable().Session() as one:
+            changed(one)
+            for tree in ("primary", *INDEX):
+                usage = one.usage(tree)
+                self.assertTrue(usage.messages > 0 and usage.height > 2, usage)
+            for tree, start, stop in RANGES:
+                wanted, columns = one.scan(tree, start, stop)[::-1], one.scan_columns(tree, start, stop)
+                for limit in (None, 0, 1, 2, max(0, len(wanted) - 1), len(wanted), len(wanted) + 1):
+                    with self.subTest(tree=tree, start=start, stop=stop, limit=limit):
+                        self.assertEqual(one.scan(tree, start, stop, limit, newest_first=True), wanted[:limit])
+                        found = one.scan_columns(tree, start, stop, limit, newest_first=True)
+                        self.assertEqual(found, {name: values[::-1][:limit] for name, values in columns.items()})
+                for page in (1, 2, 7, max(1, len(wanted)), 1_000):
+                    with self.subTest(tree=tree, start=start, stop=stop, page=page):
+                        self.assertEqual(list(one.iterate(tree, start, stop, page, newest_first=True)), wanted)
+            self.assertEqual(one.scan(newest_first=False), one.scan())
+
+    @both_ways
+    def test_rows_begin_directly_before_a_row(self):
+        """Before each row and before a key of no row, with the bounds of a range beside it. The earlier one of the two upper bounds counts."""
+        with betable().Session() as one:
+            changed(one)
+            for tree in ("primary", "by_qty", "by_ok"):
+                rows, key = one.scan(tree), len(one.trees().tree(tree).key)
+                for (of, start, stop), row in product(RANGES, [*rows[::11], rows[0], rows[-1]]):
+                    if of == tree:
+                        inside = one.scan(tree, start, stop)
+                        for after in (row[:key], (*row[: key - 1], row[key - 1] + b"\0")):
+                            with self.subTest(tree=tree, start=start, stop=stop, after=after):
+                                wanted = [found for found in inside[::-1] if found[:key] < after]
+                                for limit in (None, 1, 3):
+                                    self.assertEqual(one.scan(tree, start, stop, limit, after, newest_first=True), wanted[:limit])
+
+    def test_pages_are_those_of_the_table_when_they_are_read(self):
+        """On sessions and on durable tables, over a rollback too: what is put before the last row that was read comes, and what is put after it does not."""
+        with folder() as path, durable().open(path / "t", make=failing_session("whole")) as table, betable().Session() as session:
+            for one in (session, table):
+                with self.subTest(one=type(one).__name__):
+                    one.table("id:int city:text", fanout=4, buffer=3, leaf=2)
+                    one.index("by_city", "city")
+                    one.put([(number, "x") for number in range(0, 20, 2)])
+                    for tree, place in (("primary", 0), ("by_city", 1)):
+                        rows = one.iterate(tree, page=2, newest_first=True)
+                        found = [next(rows)[place] for _ in range(4)]
+                        one.put([(19, "x"), (13, "x"), (11, "x"), (-1, "x")])
+                        one.batch([betable().delete(8)])
+                        if one is table:
+                            expect_fault(self, durable().RolledBack, lambda: one.put([(2, "drop fails")]))
+                        self.assertEqual(found + [row[place] for row in rows], [18, 16, 14, 12, 11, 10, 6, 4, 2, 0, -1])
+                        one.delete_columns({"id": [19, 13, 11, -1]})
+                        one.put([(8, "x")])
+                    rows = one.iterate("by_city", page=2, newest_first=True)
+                    next(rows), next(rows)
+                    one.run("drop by_city\nindex by_city on city\nbuild by_city 100\n")
+                    expect_fault(self, RuntimeError, lambda: next(rows), "the tree 'by_city' was dropped, or made again")
+
+    @both_ways
+    def test_the_order_is_given_by_its_name_and_is_a_flag(self):
+        with betable().Session() as one:
+            filled(one, rows_of(9, ["a"]))
+            for wrong in (1, 0, None, "yes"):
+                for call in (one.scan, one.iterate, one.scan_columns):
+                    expect_fault(self, TypeError, lambda: call(newest_first=wrong), f"'newest_first' is True or False, and not {wrong!r}")
+            self.assertIs(type(fault_of(lambda: one.scan("primary", None, None, None, None, True))), TypeError)
+            expect_fault(self, betable().RowValueError, lambda: one.scan(after=(1,), newest_first=True), "the key of the row before")
+            for tree in ("none", "half"):
+                one.index("half", "qty", build=False) if tree == "half" else None
+                wrong = [str(fault_of(lambda: one.scan(tree, newest_first=newest_first))) for newest_first in (False, True)]
+                self.assertEqual(wrong[0], wrong[1])
+                self.assertIn("refused ", wrong[0])

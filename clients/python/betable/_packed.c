@@ -39,7 +39,7 @@ enum { MAGIC_LENGTH = 4, HEADER_LENGTH = 8, MOST_VALUE_LENGTH = 256 };
 #define MUCH_CHANGED 8192
 #define MUCH_READ 512
 /* The calls of the library that `_connect` takes. */
-#define CALL_COUNT 8
+#define CALL_COUNT 9
 /* Room that is kept from call to call. */
 #define FIRST_ROOM 4096
 #define MOST_ROOM (1u << 20)
@@ -66,7 +66,7 @@ typedef struct {
     PyObject_HEAD
     PyObject *owner; /* of the session's memory */
     betable_session *session;
-    packed_call *apply, *get, *page, *sums;
+    packed_call *apply, *get, *page, *last_page, *sums;
     length_call *length, *reply_count;
     copy_call *copy;
     reply_call *reply;
@@ -85,7 +85,7 @@ typedef struct {
 
 static PyObject *plain, *message_type, *lock_type;
 static PyObject *word_name, *shape_name, *values_name, *put_word, *del_word, *ups_word, *plan_name, *out_of_memory_name;
-static PyObject *names_of_scan[5], *names_of_sums[5];
+static PyObject *names_of_scan[6], *names_of_sums[5];
 
 /* ---- room ---- */
 
@@ -1081,27 +1081,46 @@ static int are_placed(PyObject *const *args, Py_ssize_t count, PyObject *names, 
     return 1;
 }
 
-/* The rows of a scan, or their columns. NULL with OTHER is for the plain class. */
-static PyObject *scanned(caller *self, PyObject *const given[5], int are_columns, outcome *found)
+static int is_given(PyObject *argument)
 {
-    PyObject *rows = NULL, *after = given[4] == Py_None ? NULL : given[4];
+    return argument != NULL && argument != Py_None;
+}
+
+/* The two bounds of a page, which begins directly after a row, or with the newest first directly before one: the whole key of that row is the upper bound. */
+static outcome add_bounds(bytes_in_room *bytes, PyObject *const given[6], const tree *there, int newest_first)
+{
+    PyObject *start = given[1], *stop = given[2], *after = given[4];
+    outcome found;
+    if (!is_given(after)) {
+        found = add_bound(bytes, start, there, PREFIX);
+        return found == DONE ? add_bound(bytes, stop, there, PREFIX) : found;
+    }
+    /* Which of two bounds is the narrower one is found out by the plain class. */
+    if (is_given(newest_first ? stop : start) || !is_sequence(after) || length_of(after) != there->keys)
+        return OTHER;
+    found = newest_first ? add_bound(bytes, start, there, PREFIX) : add_bound(bytes, after, there, AFTER);
+    return found == DONE ? add_bound(bytes, newest_first ? after : stop, there, PREFIX) : found;
+}
+
+/* The rows of a scan, or their columns. NULL with OTHER is for the plain class. */
+static PyObject *scanned(caller *self, PyObject *const given[6], int are_columns, outcome *found)
+{
+    PyObject *rows = NULL;
+    const int newest_first = given[5] == Py_True;
     uint32_t limit;
     tree there;
     bytes_in_room bytes;
     reader reply;
     *found = OTHER;
-    /* Which of two lower bounds is the later one is found out by the plain class. */
-    if (!is_ready(self) || limit_of(given[3], &limit) != DONE || (after != NULL && given[1] != NULL && given[1] != Py_None))
+    if (!is_ready(self) || limit_of(given[3], &limit) != DONE || (given[5] != NULL && !newest_first && given[5] != Py_False))
         return NULL;
     PyObject *description = description_of(self, given[0]);
     if (described(description, &there)) {
         *found = taken(self, &bytes) ? begin_range(&bytes, &there, limit) : RAISED;
         if (*found == DONE)
-            *found = after == NULL ? add_bound(&bytes, given[1], &there, PREFIX) : add_bound(&bytes, after, &there, AFTER);
+            *found = add_bounds(&bytes, given, &there, newest_first);
         if (*found == DONE)
-            *found = add_bound(&bytes, given[2], &there, PREFIX);
-        if (*found == DONE)
-            *found = called(self, self->page, &bytes, limit >= MUCH_READ);
+            *found = called(self, newest_first ? self->last_page : self->page, &bytes, limit >= MUCH_READ);
         if (*found == DONE)
             *found = read_reply(self, &bytes, &reply);
         if (*found == DONE) {
@@ -1198,9 +1217,10 @@ static PyObject *puts_after(PyObject *object, PyObject *const *args, Py_ssize_t 
 
 static PyObject *call_scan(PyObject *self, PyObject *const *args, Py_ssize_t count, PyObject *names)
 {
-    PyObject *given[5], *rows = NULL;
+    PyObject *given[6], *rows = NULL;
     outcome found = OTHER;
-    if (are_placed(args, count, names, names_of_scan, 5, given))
+    /* The order is given by its name alone. */
+    if (count < 6 && are_placed(args, count, names, names_of_scan, 6, given))
         rows = scanned((caller *)self, given, 0, &found);
     return found == OTHER ? by_python(self, "scan", args, count, names) : rows;
 }
@@ -1214,7 +1234,7 @@ static PyObject *none_if_other(PyObject *found, outcome ended)
 static PyObject *rows_between(PyObject *self, PyObject *const *args, Py_ssize_t count)
 {
     outcome found = OTHER;
-    if (!have_count(count, 5))
+    if (!have_count(count, 6))
         return NULL;
     PyObject *rows = scanned((caller *)self, args, 0, &found);
     return none_if_other(rows, found);
@@ -1223,7 +1243,7 @@ static PyObject *rows_between(PyObject *self, PyObject *const *args, Py_ssize_t 
 static PyObject *columns_between(PyObject *self, PyObject *const *args, Py_ssize_t count)
 {
     outcome found = OTHER;
-    if (!have_count(count, 5))
+    if (!have_count(count, 6))
         return NULL;
     PyObject *columns = scanned((caller *)self, args, 1, &found);
     return none_if_other(columns, found);
@@ -1362,11 +1382,12 @@ static PyObject *connect(PyObject *object, PyObject *const *args, Py_ssize_t cou
     self->apply = (packed_call *)found[0];
     self->get = (packed_call *)found[1];
     self->page = (packed_call *)found[2];
-    self->sums = (packed_call *)found[3];
-    self->length = (length_call *)found[4];
-    self->copy = (copy_call *)found[5];
-    self->reply_count = (length_call *)found[6];
-    self->reply = (reply_call *)found[7];
+    self->last_page = (packed_call *)found[3];
+    self->sums = (packed_call *)found[4];
+    self->length = (length_call *)found[5];
+    self->copy = (copy_call *)found[6];
+    self->reply_count = (length_call *)found[7];
+    self->reply = (reply_call *)found[8];
     Py_XDECREF(owner);
     Py_XDECREF(earlier);
     Py_XDECREF(lock);
@@ -1419,9 +1440,10 @@ static PyMethodDef methods[] = {
      "batch($self, messages, most=65536)\n--\n\nApplies messages in order, and returns their number."},
     {"get", FAST(call_get), METH_FASTCALL | METH_KEYWORDS, "get($self, *key)\n--\n\nThe row of a key, or None."},
     {"scan", FAST(call_scan), METH_FASTCALL | METH_KEYWORDS,
-     "scan($self, tree='primary', start=None, stop=None, limit=None, after=None)\n--\n\n"
+     "scan($self, tree='primary', start=None, stop=None, limit=None, after=None, *, newest_first=False)\n--\n\n"
      "The rows of a tree in ascending order of their keys, from those that begin with the values `start` to before those that begin with `stop`, directly\n"
-     "after the row of the key `after`, and at most as many as the limit."},
+     "after the row of the key `after`, and at most as many as the limit. With `newest_first` they are in descending order: the last ones of that range,\n"
+     "directly before the row of `after`."},
     {"sums", FAST(call_sums), METH_FASTCALL | METH_KEYWORDS,
      "sums($self, tree, columns, column, start=None, stop=None)\n--\n\n"
      "For each group of rows that are equal in the tree's first columns: their number, the sum of a column, and the values of those columns. By 0 columns all\n"
@@ -1505,10 +1527,10 @@ static int are_interned(const char *const *given, PyObject **found, int count)
 PyMODINIT_FUNC PyInit__packed(void)
 {
     static const char *const words[] = {"word", "shape", "values", "put", "del", "ups", "_plan", "_raise_out_of_memory"};
-    static const char *const of_scan[] = {"tree", "start", "stop", "limit", "after"};
+    static const char *const of_scan[] = {"tree", "start", "stop", "limit", "after", "newest_first"};
     static const char *const of_sums[] = {"tree", "columns", "column", "start", "stop"};
     PyObject *interned[8];
-    if (!are_interned(words, interned, 8) || !are_interned(of_scan, names_of_scan, 5) || !are_interned(of_sums, names_of_sums, 5))
+    if (!are_interned(words, interned, 8) || !are_interned(of_scan, names_of_scan, 6) || !are_interned(of_sums, names_of_sums, 5))
         return NULL;
     word_name = interned[0];
     shape_name = interned[1];
@@ -1521,8 +1543,8 @@ PyMODINIT_FUNC PyInit__packed(void)
     PyObject *module = PyModule_Create(&definition), *type = PyType_FromSpec(&spec);
     lock_type = PyType_FromSpec(&spec_of_lock);
     PyObject *calls =
-        Py_BuildValue("(ssssssss)", "betable_apply", "betable_get", "betable_page", "betable_sums", "betable_replies_length", "betable_copy_replies",
-                      "betable_reply_count", "betable_reply");
+        Py_BuildValue("(sssssssss)", "betable_apply", "betable_get", "betable_page", "betable_last_page", "betable_sums", "betable_replies_length",
+                      "betable_copy_replies", "betable_reply_count", "betable_reply");
     /* With no object to add, an exception is set, as is wanted. */
     if (module != NULL && (PyModule_AddObjectRef(module, "Caller", type) < 0 || PyModule_AddObjectRef(module, "Lock", lock_type) < 0 ||
                            PyModule_AddObjectRef(module, "CALLS", calls) < 0))

@@ -39,19 +39,25 @@ Bound = tuple[Any, ...] | None
 
 
 class Range(NamedTuple):
-    """What a scan is of: a tree and its columns, the two bounds, and the key of the row directly after which it begins, in place of the first bound. The values
-    are plain."""
+    """What a scan is of: a tree and its columns, the two bounds, the key of the row directly after which it begins, in place of the first bound, and whether the
+    last row comes first. The values are plain."""
 
     name: str
     there: Tree
     start: Bound
     stop: Bound
     after: Bound = None
+    newest_first: bool = False
 
     @property
     def script(self) -> str:
         """The scan in a script, which begins with the row of the key if there is one."""
         return f"scan {self.name}\n{bounds(self.there, self.start if self.after is None else self.after, self.stop)}go\n"
+
+    def beyond(self, row: Row) -> Range:
+        """The rest of the range after a row of it, in the order of the scan."""
+        key = row[: len(self.there.key)]
+        return self._replace(stop=key) if self.newest_first else self._replace(start=None, after=key)
 
 
 # What calls a function with that which reads a table, and returns what it gives.
@@ -254,22 +260,25 @@ class Calls(ABC):
         return rows[0] if rows else None
 
     def scan(
-        self, tree: str = "primary", start: Bound = None, stop: Bound = None, limit: int | None = None, after: Bound = None
+        self, tree: str = "primary", start: Bound = None, stop: Bound = None, limit: int | None = None, after: Bound = None, *, newest_first: bool = False
     ) -> list[Row]:
         """The rows of a tree in ascending order of their keys, from those that begin with the values `start` to before those that begin with `stop`. If the key
-        of a row is given as `after`, they begin directly after that row. With a limit they are the first ones, no more than that."""
-        most, found = checked_limit(limit), self._range(tree, start, stop, after)
+        of a row is given as `after`, they begin directly after that row. With a limit they are the first ones, no more than that. With `newest_first` they
+        are in descending order, from the last row of the range on, or from the one directly before that of `after`."""
+        most, found = checked_limit(limit), self._range(tree, start, stop, after, newest_first)
         rows = self._rows(b"scan", found.script, found.there.kinds)
         if found.after is not None and rows and rows[0][: len(found.after)] == found.after:
             del rows[0]
+        if found.newest_first:
+            rows.reverse()
         return rows[:most]
 
     def iterate(
-        self, tree: str = "primary", start: Bound = None, stop: Bound = None, page: int = 1_000
+        self, tree: str = "primary", start: Bound = None, stop: Bound = None, page: int = 1_000, *, newest_first: bool = False
     ) -> Iterator[Row]:
         """The rows that a scan gives, which are read a page at a time as they are asked for. Each page begins directly after the last row of the one before, so
         no row comes twice; the rows that follow are those of the table when their page is read. What has only scripts reads all rows at once."""
-        return self._iterated(lambda call: call(self), tree, start, stop, page)
+        return self._iterated(lambda call: call(self), tree, start, stop, page, newest_first)
 
     def columns(self, tree: str = "primary") -> list[TreeColumn]:
         """The columns of the rows of a tree, each with its name, its kind, and whether it belongs to the key of the tree."""
@@ -308,21 +317,21 @@ class Calls(ABC):
         return int(self.sums(tree, 0, "", start, stop)[0][0])
 
     def scan_columns(
-        self, tree: str = "primary", start: Bound = None, stop: Bound = None, limit: int | None = None
+        self, tree: str = "primary", start: Bound = None, stop: Bound = None, limit: int | None = None, *, newest_first: bool = False
     ) -> dict[str, ColumnValues]:
         """The rows of `scan` by columns: a dict from their names to an `array` of ints, or to a list of other values."""
-        rows = self.scan(tree, start, stop, limit)
+        rows = self.scan(tree, start, stop, limit, newest_first=newest_first)
         there = self.trees().tree(tree)
         return by_names(there, columns_of_rows(rows, there.kinds))
 
     def scan_frame(
-        self, tree: str = "primary", start: Bound = None, stop: Bound = None, limit: int | None = None
+        self, tree: str = "primary", start: Bound = None, stop: Bound = None, limit: int | None = None, *, newest_first: bool = False
     ) -> Any:
         """The rows of `scan` as a data frame of pandas."""
         import numpy
         import pandas  # type: ignore
 
-        columns = self.scan_columns(tree, start, stop, limit)
+        columns = self.scan_columns(tree, start, stop, limit, newest_first=newest_first)
         kinds = {column.name: column.kind for column in self.trees().tree(tree).columns}
         return pandas.DataFrame({name: numpy.asarray(values, dtype=ARRAY_TYPES[kinds[name]]) for name, values in columns.items()})
 
@@ -367,23 +376,28 @@ class Calls(ABC):
         """The bytes of the replies to a script, and the place of each, or None where nothing but their text says that."""
         return self.replies(script), None
 
-    def _iterated(self, read: Read, tree: str, start: Bound, stop: Bound, page: int) -> Iterator[Row]:
+    def _iterated(self, read: Read, tree: str, start: Bound, stop: Bound, page: int, newest_first: bool) -> Iterator[Row]:
         """The rows of `iterate`. `read` calls what it is given with that which reads, a page at a time, if there are pages."""
         checked_page(page)
-        return iter(self.scan(tree, start, stop))
+        return iter(self.scan(tree, start, stop, newest_first=newest_first))
 
-    def _range(self, tree: Any, start: Bound, stop: Bound, after: Bound = None) -> Range:
+    def _range(self, tree: Any, start: Bound, stop: Bound, after: Bound = None, newest_first: Any = False) -> Range:
         """What a scan is of, whose arguments are checked."""
         name = checked_name(tree, "a tree")
+        if not isinstance(newest_first, bool):
+            raise TypeError(f"'newest_first' is True or False, and not {shown(newest_first)}")
         there = self.trees().tree(name)
         if there is UNKNOWN:
             return Range(name, there, None, None)
         lower, upper = [None if values is None else plain_key(values, there.key, "a bound", is_prefix=True) for values in (start, stop)]
         if after is not None:
             key = plain_key(after, there.key, "the key of the row before")
-            if lower is None or key[: len(lower)] >= lower:
+            if newest_first:
+                # The place directly before a row is the bound of its whole key.
+                upper = key if upper is None or key[: len(upper)] < upper else upper
+            elif lower is None or key[: len(lower)] >= lower:
                 return Range(name, there, None, upper, key)
-        return Range(name, there, lower, upper)
+        return Range(name, there, lower, upper, None, newest_first)
 
     def _refuse_tree(self, name: str) -> NoReturn:
         """Raises the refusal, in words, of a call on a tree that is unknown."""

@@ -27,24 +27,24 @@ class Reads(Calls):
         return self._read(lambda reader: reader.get(*key))
 
     def scan(
-        self, tree: str = "primary", start: Bound = None, stop: Bound = None, limit: int | None = None, after: Bound = None
+        self, tree: str = "primary", start: Bound = None, stop: Bound = None, limit: int | None = None, after: Bound = None, *, newest_first: bool = False
     ) -> list[Row]:
-        return self._read(lambda reader: reader.scan(tree, start, stop, limit, after))
+        return self._read(lambda reader: reader.scan(tree, start, stop, limit, after, newest_first=newest_first))
 
     def iterate(
-        self, tree: str = "primary", start: Bound = None, stop: Bound = None, page: int = 1_000
+        self, tree: str = "primary", start: Bound = None, stop: Bound = None, page: int = 1_000, *, newest_first: bool = False
     ) -> Iterator[Row]:
-        return self._read(lambda reader: reader._iterated(self._read, tree, start, stop, page))
+        return self._read(lambda reader: reader._iterated(self._read, tree, start, stop, page, newest_first))
 
     def scan_columns(
-        self, tree: str = "primary", start: Bound = None, stop: Bound = None, limit: int | None = None
+        self, tree: str = "primary", start: Bound = None, stop: Bound = None, limit: int | None = None, *, newest_first: bool = False
     ) -> dict[str, ColumnValues]:
-        return self._read(lambda reader: reader.scan_columns(tree, start, stop, limit))
+        return self._read(lambda reader: reader.scan_columns(tree, start, stop, limit, newest_first=newest_first))
 
     def scan_frame(
-        self, tree: str = "primary", start: Bound = None, stop: Bound = None, limit: int | None = None
+        self, tree: str = "primary", start: Bound = None, stop: Bound = None, limit: int | None = None, *, newest_first: bool = False
     ) -> Any:
-        call: Callable[[Calls], Any] = lambda reader: reader.scan_frame(tree, start, stop, limit)  # noqa: E731
+        call: Callable[[Calls], Any] = lambda reader: reader.scan_frame(tree, start, stop, limit, newest_first=newest_first)  # noqa: E731
         return self._read(call)
 
     def sums(

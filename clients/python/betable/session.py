@@ -302,8 +302,8 @@ class CheckedCalls(ScriptSession):
         def _pack_messages(self, messages: list[Any], /) -> bytes | None: ...
         def _pack_upserts(self, form: bytes, rows: list[Any], /) -> bytes | None: ...
         def _pack_columns(self, count: int, form: bytes, columns: list[Any], /) -> bytes | None: ...
-        def _rows_between(self, tree: str, start: Bound, stop: Bound, limit: int, after: Bound, /) -> list[Row] | None: ...
-        def _columns_between(self, tree: str, start: Bound, stop: Bound, limit: int, after: Bound, /) -> list[Any] | None: ...
+        def _rows_between(self, tree: str, start: Bound, stop: Bound, limit: int, after: Bound, newest_first: bool, /) -> list[Row] | None: ...
+        def _columns_between(self, tree: str, start: Bound, stop: Bound, limit: int, after: Bound, newest_first: bool, /) -> list[Any] | None: ...
         def _groups_between(self, tree: str, columns: int, column: str, start: Bound, stop: Bound, /) -> list[Row] | None: ...
 
     def get(self, *key: Any) -> Row | None:
@@ -312,21 +312,21 @@ class CheckedCalls(ScriptSession):
         if there is not UNKNOWN and len(key) == len(there.key):
             check_one_by_one(key)
             values = plain_key(key, there.key, "a key")
-            rows = self._rows_between("primary", values, None, 1, None)
+            rows = self._rows_between("primary", values, None, 1, None, False)
             if rows is not None:
                 return rows[0] if rows and rows[0][: len(values)] == values else None
         return super().get(*key)
 
     def scan(
-        self, tree: str = "primary", start: Bound = None, stop: Bound = None, limit: int | None = None, after: Bound = None
+        self, tree: str = "primary", start: Bound = None, stop: Bound = None, limit: int | None = None, after: Bound = None, *, newest_first: bool = False
     ) -> list[Row]:
         """The rows of a tree in ascending order of their keys, from those that begin with the values `start` to before those that begin with `stop`. If the key
         of a row is given as `after`, they begin directly after that row. With a limit they are the first ones, no more than that, and the library reads no
-        others."""
-        return self._page(self._range(tree, start, stop, after), checked_limit(limit))
+        others. With `newest_first` they are in descending order, from the last row of the range on, or from the one directly before that of `after`."""
+        return self._page(self._range(tree, start, stop, after, newest_first), checked_limit(limit))
 
-    def _iterated(self, read: Read, tree: str, start: Bound, stop: Bound, page: int) -> Iterator[Row]:
-        most, found = checked_page(page), self._range(tree, start, stop)
+    def _iterated(self, read: Read, tree: str, start: Bound, stop: Bound, page: int, newest_first: bool) -> Iterator[Row]:
+        most, found = checked_page(page), self._range(tree, start, stop, None, newest_first)
         return _rows_of_pages(self, read, found, most) if found.there is not UNKNOWN else iter(self._page(found, most))
 
     def sums(
@@ -339,12 +339,12 @@ class CheckedCalls(ScriptSession):
         return super().sums(tree, columns, column, start, stop) if groups is None else groups
 
     def scan_columns(
-        self, tree: str = "primary", start: Bound = None, stop: Bound = None, limit: int | None = None
+        self, tree: str = "primary", start: Bound = None, stop: Bound = None, limit: int | None = None, *, newest_first: bool = False
     ) -> dict[str, ColumnValues]:
         """The rows of `scan` by columns: a dict from their names to an `array` of ints, or to a list of other values."""
-        most, found = checked_limit(limit), self._range(tree, start, stop)
-        columns = self._columns_between(found.name, found.start, found.stop, most, None)
-        return super().scan_columns(tree, start, stop, limit) if columns is None else by_names(found.there, columns)
+        most, found = checked_limit(limit), self._range(tree, start, stop, None, newest_first)
+        columns = self._columns_between(found.name, found.start, found.stop, most, None, newest_first)
+        return super().scan_columns(tree, start, stop, limit, newest_first=newest_first) if columns is None else by_names(found.there, columns)
 
     def _packed(self, batch: Batch, there: Tree, taken: int) -> bytes | None:
         packed = batch.packed(self) or batch.plain(there, taken).packed(self)
@@ -358,8 +358,10 @@ class CheckedCalls(ScriptSession):
 
     def _page(self, found: Range, most: int) -> list[Row]:
         """The first rows of a range. If the library refuses it, the script of the scan takes its place."""
-        rows = self._rows_between(found.name, found.start, found.stop, most, found.after)
-        return super().scan(found.name, found.start, found.stop, most, found.after) if rows is None else rows
+        rows = self._rows_between(found.name, found.start, found.stop, most, found.after, found.newest_first)
+        if rows is None:
+            return super().scan(found.name, found.start, found.stop, most, found.after, newest_first=found.newest_first)
+        return rows
 
     def _next_page(self, before: CheckedCalls, found: Range, most: int) -> tuple[Range, list[Row]]:
         """The range with its next page. The pages before were read by this session, or by one of the same table that this one has taken the place of."""
@@ -384,7 +386,7 @@ def _rows_of_pages(session: CheckedCalls, read: Read, found: Range, most: int) -
         yield from rows
         if len(rows) < most:
             return
-        found = found._replace(start=None, after=rows[-1][: len(found.there.key)])
+        found = found.beyond(rows[-1])
 
 
 if TYPE_CHECKING or _packed is not None:

@@ -32,20 +32,20 @@ class Shard:
                     if self._is_working:
                         self._replies.send(None)
 
-    def answer(self, name: str, arguments: tuple[Any, ...]) -> None:
+    def answer(self, name: str, arguments: tuple[Any, ...], named: dict[str, Any]) -> None:
         self._is_working = True
         try:
             if name not in CALLS:
                 raise ValueError(f"{name} is no call of a shard")
-            outcome: tuple[str, Any] = "gives", self._carried_out(name, arguments)
+            outcome: tuple[str, Any] = "gives", self._carried_out(name, arguments, named)
         except Exception as fault:
             outcome = "raises", fault
         with self._lock:
             self._is_working = False
             self._replies.send(outcome)
 
-    def _carried_out(self, name: str, arguments: tuple[Any, ...]) -> Any:
-        return getattr(self._session, name)(*arguments)
+    def _carried_out(self, name: str, arguments: tuple[Any, ...], named: dict[str, Any]) -> Any:
+        return getattr(self._session, name)(*arguments, **named)
 
 
 def main() -> int:

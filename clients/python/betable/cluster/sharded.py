@@ -85,10 +85,10 @@ class ProcessShard:
         finally:
             timer.cancel()
 
-    def send(self, name: str, *arguments: Any) -> None:
+    def send(self, name: str, *arguments: Any, **named: Any) -> None:
         """Sends a call, which the process carries out while others work."""
         with self._watched():
-            self._requests.send((name, arguments))
+            self._requests.send((name, arguments, named))
 
     def receive(self) -> Any:
         """What the call gives, or the exception that it raises."""
@@ -178,20 +178,26 @@ class Sharded:
         shard = self._shard_of(key)
         return self._given({shard: ("get", *key)})[0]  # type: ignore[no-any-return]
 
-    def scan(self, tree: str = "primary", start: Bound = None, stop: Bound = None, limit: int | None = None, after: Bound = None) -> list[Row]:
+    def scan(
+        self, tree: str = "primary", start: Bound = None, stop: Bound = None, limit: int | None = None, after: Bound = None, *, newest_first: bool = False
+    ) -> list[Row]:
         """The rows of a tree in a range, as `Session.scan` gives them."""
-        parts = self._of_each("scan", tree, start, stop, limit, after)
+        parts = self._of_each("scan", tree, start, stop, limit, after, newest_first=newest_first)
+        if tree == "primary":
+            return list(islice(chain(*parts[:: -1 if newest_first else 1]), limit))
         # The rows of an index begin with its key, and no two are equal in that.
-        return list(islice(chain(*parts) if tree == "primary" else heapq.merge(*parts), limit))
+        return list(islice(heapq.merge(*parts, reverse=newest_first), limit))
 
-    def scan_columns(self, tree: str = "primary", start: Bound = None, stop: Bound = None, limit: int | None = None) -> dict[str, ColumnValues]:
+    def scan_columns(
+        self, tree: str = "primary", start: Bound = None, stop: Bound = None, limit: int | None = None, *, newest_first: bool = False
+    ) -> dict[str, ColumnValues]:
         """The rows of `scan` by columns, as `Session.scan_columns` gives them."""
-        parts = self._of_each("scan_columns", tree, start, stop, limit)
-        found = {name: reduce(add, (part[name] for part in parts)) for name in parts[0]}
+        parts = self._of_each("scan_columns", tree, start, stop, limit, newest_first=newest_first)
+        found = {name: reduce(add, (part[name] for part in parts[:: -1 if newest_first else 1])) for name in parts[0]}
         if tree == "primary":
             return {name: values[:limit] for name, values in found.items()}
         rows = list(zip(*found.values()))
-        order = sorted(range(len(rows)), key=rows.__getitem__)[:limit]
+        order = sorted(range(len(rows)), key=rows.__getitem__, reverse=newest_first)[:limit]
         return {name: taken(values, order) for name, values in found.items()}
 
     def sums(self, tree: str, columns: int, column: str, start: Bound = None, stop: Bound = None) -> list[Row]:
@@ -208,7 +214,7 @@ class Sharded:
 
     # ---- what the calls share ----
 
-    def _ask(self, requests: Mapping[int, tuple[Any, ...]]) -> list[Any]:
+    def _ask(self, requests: Mapping[int, tuple[Any, ...]], **named: Any) -> list[Any]:
         """What shards, which work at the same time, give or raise for a call."""
         if self._is_closed:
             raise ValueError("the table is closed")
@@ -217,7 +223,7 @@ class Sharded:
         found, at = [], 0
         try:
             for at, request in requests.items():
-                self._shards[at].send(*request)
+                self._shards[at].send(*request, **named)
             for at in requests:
                 found.append(self._shards[at].receive())
                 if isinstance(found[-1], OutOfMemory):
@@ -232,16 +238,16 @@ class Sharded:
             raise
         return found
 
-    def _given(self, requests: Mapping[int, tuple[Any, ...]]) -> list[Any]:
+    def _given(self, requests: Mapping[int, tuple[Any, ...]], **named: Any) -> list[Any]:
         """What shards give for a call that all of them refuse if one does."""
-        found = self._ask(requests)
+        found = self._ask(requests, **named)
         for outcome in found:
             if isinstance(outcome, Exception):
                 raise outcome
         return found
 
-    def _of_each(self, *request: Any) -> list[Any]:
-        return self._given(dict.fromkeys(range(len(self._shards)), request))
+    def _of_each(self, *request: Any, **named: Any) -> list[Any]:
+        return self._given(dict.fromkeys(range(len(self._shards)), request), **named)
 
     def _shard_of(self, key: tuple[Any, ...]) -> int:
         """The shard of a key. What is no key is refused by any shard."""
