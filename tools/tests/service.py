@@ -25,6 +25,7 @@ from contextlib import ExitStack, closing, contextmanager
 from functools import cache, wraps
 from html import unescape
 from http.client import HTTPConnection
+from itertools import product
 from pathlib import Path
 from unittest import TestCase
 from urllib.parse import quote
@@ -345,24 +346,31 @@ class Endpoints(TestCase):
             for tree, keys in (("primary", 1), ("by_city", 2)):
                 whole, wanted = found.json(f"/rows/{tree}")["rows"], found.ask("GET", f"/rows/{tree}")[2]
                 self.assertEqual(len(whole), len(hard))
-                for limit in (1, 5, len(hard) - 1, len(hard), len(hard) + 1):
-                    with self.subTest(tree=tree, limit=limit):
+                for limit, order in product((1, 5, len(hard) - 1, len(hard), len(hard) + 1), ("", "&newest_first=1")):
+                    with self.subTest(tree=tree, limit=limit, order=order):
                         rows, text, after, is_more, pages = [], b"", "", True, 0
                         while is_more:
-                            path = f"/rows/{tree}?limit={limit}{after}"
+                            path = f"/rows/{tree}?limit={limit}{after}{order}"
                             page = found.json(path)
                             status, headers, part = found.ask("GET", path + "&format=csv")
                             self.assertEqual((status, headers["Betable-More"]), (200, str(page["more"]).lower()))
                             rows, text, is_more, pages = rows + page["rows"], text + part, page["more"], pages + 1
                             after = "".join(f"&after={quote(str(value))}" for value in rows[-1][:keys])
+                        if order:
+                            rows, text = rows[::-1], b"".join(text.splitlines(keepends=True)[::-1])
                         self.assertEqual((rows, text, pages), (whole, wanted, -(-len(hard) // limit)))
-                # The row of the key, and then all rows after it.
-                self.assertEqual(found.json(f"/rows/{tree}?limit=1{after}")["rows"], [])
+                    # No row is beyond the last one.
+                    self.assertEqual(found.json(f"/rows/{tree}?limit=1{after}{order}")["rows"], [])
             self.assertEqual(found.json("/rows/by_city?after=Oslo&after=0")["rows"][0], ["Oslo", 10, 100])
             self.assertEqual(found.json("/rows/by_city?after=Oslo&after=5&limit=1")["rows"], [["Oslo", 10, 100]])
             found.run(b"batch\ndel 10\nend\n")
             self.assertEqual(found.json("/rows/by_city?after=Oslo&after=10&limit=1")["rows"], [["Oslo", 11, 110]])
             self.assertEqual(found.json("/rows/by_city?from=Oslo&to=P&after=Oslo&after=0")["rows"], [["Oslo", 11, 110]])
+            self.assertEqual(found.json("/rows/by_city?after=Oslo&after=10&limit=1&newest_first=1")["rows"], [["Oslo", 0, 0]])
+            self.assertEqual(found.json("/rows/by_city?from=Oslo&to=P&after=Oslo&after=11&newest_first=1")["rows"], [["Oslo", 0, 0]])
+            # The earlier one of the two is the end.
+            self.assertEqual(found.json("/rows/by_city?to=Oslo&after=Oslo&after=11&limit=1&newest_first=1")["rows"], found.json("/rows/by_city?to=Oslo")["rows"][-1:])
+            self.assertEqual(found.json("/rows/by_city?to=end&after=Oslo&after=11&limit=1&newest_first=1")["rows"], [["Oslo", 0, 0]])
             # The later one of the two is the first.
             self.assertEqual(found.json("/rows/by_city?from=end&after=Oslo&after=11&limit=1")["rows"], [["end", 6, 60]])
             self.assertEqual(found.json("/rows/by_city?from=O&after=Oslo&after=0&limit=1")["rows"], [["Oslo", 11, 110]])
@@ -380,7 +388,7 @@ class Endpoints(TestCase):
                 table.run("table 4 8 4 2 on:flag id:int data:bytes note:text\nindex i on note\nbuild i 1\nindex late on data\n")
                 table.put([(number % 2 == 1, number, bytes([number]), f"n,{number}") for number in range(8)])
                 scan, limits = table.scan, []
-                table.scan = lambda tree, start, stop, limit, after: limits.append(limit) or scan(tree, start, stop, limit, after)
+                table.scan = lambda tree, start, stop, limit, after, **order: limits.append(limit) or scan(tree, start, stop, limit, after, **order)
                 table.replies = None
 
                 def page(*words, most=2):
@@ -563,6 +571,11 @@ BAD_REQUESTS = [
     ("GET", "/rows/none?after=x", {}, None, 404, "none"),
     ("GET", "/rows/building?limit=1", {}, None, 409, "building"),
     ("GET", "/sums/primary?of=qty&after=1", {}, None, 400, "'after' is no parameter"),
+    ("GET", "/rows/primary?newest_first=yes", {}, None, 400, "'newest_first' is 1 or 0, and not 'yes'"),
+    ("GET", "/rows/primary?newest_first", {}, None, 400, "'newest_first'"),
+    ("GET", "/rows/primary?newest_first=1&after=x", {}, None, 400, "'after': column 'id' (int): 'x' is no whole number"),
+    ("GET", "/rows/building?newest_first=1", {}, None, 409, "building"),
+    ("GET", "/sums/primary?of=qty&newest_first=1", {}, None, 400, "'newest_first' is no parameter"),
     ("GET", "/rows/primary?limit=abc", {}, None, 400, "'limit' is a number from 1 to 999999999, and not 'abc'"),
     ("GET", "/rows/primary?limit=0", {}, None, 400, "limit"),
     ("GET", "/rows/primary?limit=-1", {}, None, 400, "limit"),

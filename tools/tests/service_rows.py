@@ -48,6 +48,8 @@ class AllRows(unittest.TestCase):
                     found_rows = found.json(f"/rows/{tree}")
                     self.assertEqual((len(found_rows["rows"]), found_rows["more"]), (count, False))
                     self.assertTrue(found_rows == found.json(f"/rows/{tree}?limit=999999999"))
+                    newest_first = found.json(f"/rows/{tree}?newest_first=1")
+                    self.assertTrue(newest_first == found_rows | {"rows": found_rows["rows"][::-1]}, (count, tree))
                 read = [(city, int(number), note) for city, number, note in csv.reader(io.StringIO(found.ask("GET", "/rows/primary")[2].decode(), newline=""))]
                 self.assertTrue(read == rows)
                 middle = [row for row in rows if ("city, 2",) <= row < ("city, 5",)]
@@ -62,6 +64,9 @@ class AllRows(unittest.TestCase):
             page = found.json(f"/rows/primary?limit=2&after={quote(keys[5])}")
             self.assertEqual((page["rows"], page["more"]), ([[keys[6], 7], [keys[7], 7]], True))
             self.assertEqual(found.json(f"/rows/primary?from={quote(keys[5])}&limit=1")["rows"], [[keys[5], 7]])
+            self.assertTrue([key for key, _ in found.json("/rows/primary?newest_first=1")["rows"]] == keys[::-1])
+            page = found.json(f"/rows/primary?limit=2&after={quote(keys[5])}&newest_first=1")
+            self.assertEqual((page["rows"], page["more"]), ([[keys[4], 7], [keys[3], 7]], True))
 
     def test_a_header_line_comes_if_it_is_asked_for(self) -> None:
         with server(script=TABLE + b'batch\nput Oslo,1,"a,b"\nput Oslo,2,x\nend\n') as found:

@@ -46,13 +46,14 @@ LAST_WORDS = {b"row ": b"rows", b"sum ": b"sums"}
 
 class Page(NamedTuple):
     """Rows of a tree: from a key to before another, and after the key of a row. Each is given by the fields of its values, or is None. The key of a row may be
-    given by its values too, as `Answer` has it. With `group` they are the groups of that many columns, with the sums of that column, and with `is_row` the row
-    of the key at which they start."""
+    given by its values too, as `Answer` has it. With `newest_first` the last row comes first. With `group` they are the groups of that many columns, with the
+    sums of that column, and with `is_row` the row of the key at which they start."""
 
     tree: str
     start: list[str] | None
     stop: list[str] | None = None
     after: list[str] | tuple[Value, ...] | None = None
+    newest_first: bool = False
     group: tuple[int, str] | None = None
     is_row: bool = False
 
@@ -246,7 +247,7 @@ class Worker:
         except ValueError as fault:
             raise WrongKey(f"'after': {fault}") from None
         try:
-            rows = self.table.scan(page.tree, start, stop, None if most == ALL_ROWS else most + 1, after)
+            rows = self.table.scan(page.tree, start, stop, None if most == ALL_ROWS else most + 1, after, newest_first=page.newest_first)
         except REFUSALS:
             return None
         is_cut = len(rows) > most

@@ -127,7 +127,7 @@ def flag_of(query: dict[str, list[str]], name: str) -> bool:
 
 def page_of(tree: str, query: dict[str, list[str]]) -> Page:
     """The page that is asked for."""
-    return Page(tree, query.get("from"), query.get("to"), query.get("after"))
+    return Page(tree, query.get("from"), query.get("to"), query.get("after"), newest_first=flag_of(query, "newest_first"))
 
 
 def request_id(request: web.Request) -> str | None:

@@ -478,7 +478,7 @@ class Service:
         return await self.rows(request, f"get {record_of(key)}\n", query, Page("primary", key, is_row=True))
 
     async def get_rows(self, request: web.Request) -> web.StreamResponse:
-        query, tree = query_of(request, "from", "to", "after", "limit", "format", "header"), tree_of(request)
+        query, tree = query_of(request, "from", "to", "after", "limit", "newest_first", "format", "header"), tree_of(request)
         return await self.rows(request, f"scan {tree}\n{bounds_of(query)}go\n", query, page_of(tree, query))
 
     async def get_sums(self, request: web.Request) -> web.StreamResponse:
