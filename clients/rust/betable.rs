@@ -71,6 +71,7 @@ extern "C" {
     fn betable_apply(session: *mut Handle, changes: *const u8, length: usize, fault: *mut CallFault) -> u32;
     fn betable_get(session: *mut Handle, key: *const u8, length: usize, fault: *mut CallFault) -> u32;
     fn betable_page(session: *mut Handle, page: *const u8, length: usize, fault: *mut CallFault) -> u32;
+    fn betable_last_page(session: *mut Handle, page: *const u8, length: usize, fault: *mut CallFault) -> u32;
     fn betable_sums(session: *mut Handle, sums: *const u8, length: usize, fault: *mut CallFault) -> u32;
     fn betable_usage(session: *mut Handle, name: *const u8, length: usize, fault: *mut CallFault) -> u32;
     fn betable_trees(session: *mut Handle, request: *const u8, length: usize, fault: *mut CallFault) -> u32;

@@ -3,7 +3,7 @@
 use crate::fault::Fault;
 use crate::packed::{MAGIC, PRIMARY};
 use crate::values::{Column, FromValue, Kind, Value, Values, append, for_each_tuple, pack_all, pack_first};
-use crate::{Session, betable_get, betable_page};
+use crate::{Session, betable_get, betable_last_page, betable_page};
 
 /// The rows that a scan reads at a time.
 const ROWS_OF_PAGE: u32 = 1024;
@@ -66,15 +66,23 @@ macro_rules! tuple_of_row {
 
 for_each_tuple!(tuple_of_row);
 
+/// The order of rows, by their keys.
+#[derive(Clone, Copy)]
+enum Order {
+    Ascending,
+    NewestFirst,
+}
+
 /// The rows of a range of a tree, which are read page by page. A row is borrowed until the next one is read.
 pub struct Rows<'s> {
     // Its packed bytes ask for the next page.
     session: &'s mut Session,
     tree: usize,
+    order: Order,
     most: u32,
-    // The length of the packed bytes without their bounds, and the bytes of the upper bound.
+    // The length of the packed bytes before the bound at which a page begins, and the bytes after it.
     head: usize,
-    upper: Vec<u8>,
+    rest: Vec<u8>,
     // Where the next row of the page begins, and how many rows the page may still have.
     at: usize,
     left: u32,
@@ -110,16 +118,47 @@ impl Session {
         F: Values + ?Sized,
         T: Values + ?Sized,
     {
+        self.rows_in_order(Order::Ascending, tree, from, to, most)
+    }
+
+    /// The rows of [`scan`](Session::scan) from the last one back, in descending order of the tree's key.
+    pub fn scan_newest_first<F, T>(&mut self, tree: &str, from: &F, to: &T) -> Result<Rows<'_>, Fault>
+    where
+        F: Values + ?Sized,
+        T: Values + ?Sized,
+    {
+        self.pages_newest_first(tree, from, to, ROWS_OF_PAGE)
+    }
+
+    /// A scan from the last row back that reads at most this many rows at a time, and at least one.
+    pub fn pages_newest_first<F, T>(&mut self, tree: &str, from: &F, to: &T, most: u32) -> Result<Rows<'_>, Fault>
+    where
+        F: Values + ?Sized,
+        T: Values + ?Sized,
+    {
+        self.rows_in_order(Order::NewestFirst, tree, from, to, most)
+    }
+
+    fn rows_in_order<F, T>(&mut self, order: Order, tree: &str, from: &F, to: &T, most: u32) -> Result<Rows<'_>, Fault>
+    where
+        F: Values + ?Sized,
+        T: Values + ?Sized,
+    {
         let (name, tree, most) = (tree, self.tree(tree)?, most.max(1));
         self.begin(most)?;
         self.pack_name(name)?;
-        let head = self.packed.len();
+        let start = self.packed.len();
         let key = self.trees[tree].key();
         pack_bound(&mut self.packed, 1, key, from)?;
+        let end = self.packed.len();
         let mut upper = Vec::new();
         pack_bound(&mut upper, 2, key, to)?;
         append(&mut self.packed, &upper)?;
-        Ok(Rows { session: self, tree, most, head, upper, at: 0, left: 0 })
+        let (head, rest) = match order {
+            Order::Ascending => (start, upper),
+            Order::NewestFirst => (end, Vec::new()),
+        };
+        Ok(Rows { session: self, tree, order, most, head, rest, at: 0, left: 0 })
     }
 
     fn row(&self, tree: usize, start: usize, end: usize) -> Row<'_> {
@@ -144,7 +183,10 @@ impl Rows<'_> {
     #[allow(clippy::should_implement_trait)]
     pub fn next(&mut self) -> Result<Option<Row<'_>>, Fault> {
         if self.left == 0 {
-            self.session.call_with_reply(betable_page)?;
+            self.session.call_with_reply(match self.order {
+                Order::Ascending => betable_page,
+                Order::NewestFirst => betable_last_page,
+            })?;
             (self.at, self.left) = (MAGIC.len(), self.most);
         }
         if self.at == self.session.reply.len() {
@@ -152,20 +194,23 @@ impl Rows<'_> {
         }
         let (start, end) = (self.at, self.session.read_ends(self.tree, self.at)?);
         if self.left == 1 {
-            self.ask_for_rows_after(start)?;
+            self.ask_for_rows_beyond(start)?;
         }
         (self.at, self.left) = (end, self.left - 1);
         Ok(Some(self.session.row(self.tree, start, end)))
     }
 
-    // Packs the page after the row at a place of the reply, whose first values are the key.
-    fn ask_for_rows_after(&mut self, start: usize) -> Result<(), Fault> {
+    // Packs the page beyond the row at a place of the reply, whose first values are the key. The bound of the whole key is directly before the row.
+    fn ask_for_rows_beyond(&mut self, start: usize) -> Result<(), Fault> {
         let Session { packed, reply, ends, trees, .. } = &mut *self.session;
-        let key = &reply[start..][..ends[trees[self.tree].key().len() - 1]];
+        let count = trees[self.tree].key().len();
         packed.truncate(self.head);
-        append(packed, &[AFTER])?;
-        append(packed, key)?;
-        append(packed, &self.upper)
+        match self.order {
+            Order::Ascending => append(packed, &[AFTER])?,
+            Order::NewestFirst => append(packed, &[PREFIX, count as u8])?,
+        }
+        append(packed, &reply[start..][..ends[count - 1]])?;
+        append(packed, &self.rest)
     }
 }
 

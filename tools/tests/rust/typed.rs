@@ -6,7 +6,7 @@
 
 mod fields;
 
-use betable::{Fault, FromValue, Group, Kind, Op, Packer, Refusal, Reply, Row, Session, Sum, Tree, Usage, Value, Values, quoted};
+use betable::{Fault, FromValue, Group, Kind, Op, Packer, Refusal, Reply, Row, Rows, Session, Sum, Tree, Usage, Value, Values, quoted};
 use fields::{field, hexadecimal};
 use std::alloc::{GlobalAlloc, Layout, System};
 use std::sync::atomic::{AtomicUsize, Ordering};
@@ -188,17 +188,26 @@ fn check_changes() -> Result<(), Fault> {
     Ok(())
 }
 
-/// The fields of the rows of a scan.
+/// The fields of rows that are read.
+fn fields_of(mut rows: Rows<'_>) -> Result<Vec<Vec<String>>, Fault> {
+    let mut found = Vec::new();
+    while let Some(row) = rows.next()? {
+        found.push(row.values().map(field).collect());
+    }
+    assert!(rows.next()?.is_none());
+    Ok(found)
+}
+
+/// The fields of the rows of a scan. From the last row back they are the same ones.
 fn scanned<F, T>(session: &mut Session, tree: &str, from: &F, to: &T, most: u32) -> Result<Vec<Vec<String>>, Fault>
 where
     F: Values + ?Sized,
     T: Values + ?Sized,
 {
-    let (mut rows, mut found) = (session.pages(tree, from, to, most)?, Vec::new());
-    while let Some(row) = rows.next()? {
-        found.push(row.values().map(field).collect());
-    }
-    assert!(rows.next()?.is_none());
+    let found = fields_of(session.pages(tree, from, to, most)?)?;
+    let mut newest_first = fields_of(session.pages_newest_first(tree, from, to, most)?)?;
+    newest_first.reverse();
+    assert_eq!(newest_first, found, "{most} rows of a page");
     Ok(found)
 }
 
