@@ -6,7 +6,7 @@ from itertools import product
 from unittest import TestCase
 
 from .clients import betable, both_ways, build_extension, library
-from .common import SECONDS, fault_of
+from .common import SECONDS, TOP, fault_of
 from .durable import durable, expect_fault, failing_session, folder, probe
 
 
@@ -228,3 +228,12 @@ class NewestFirst(TestCase):
                 wrong = [str(fault_of(lambda: one.scan(tree, newest_first=newest_first))) for newest_first in (False, True)]
                 self.assertEqual(wrong[0], wrong[1])
                 self.assertIn("refused ", wrong[0])
+
+    def test_the_recipe_gives_the_newest_rows(self):
+        """The lines of docs/HOW_TO.md."""
+        recipe = (TOP / "docs/HOW_TO.md").read_text().split("\n## The newest rows of each device\n")[1].split("```python\n")[1].split("```")[0]
+        with betable().Session() as session:
+            readings = [(device, time, device * time) for device in (6, 7, 8) for time in range(2_000)]
+            found = {"session": session, "readings": readings[::-1]}
+            exec(recipe, found)
+            self.assertEqual((found["newest"], found["older"]), (readings[3_999:3_994:-1], readings[3_994:3_989:-1]))
