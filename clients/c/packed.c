@@ -1,5 +1,5 @@
-/* The calls on packed bytes from C: puts three rows and changes one, gets a row, reads the table in pages of two rows, sums the quantities of each city,
- * counts the rows, and shows a refusal. No text is written or read in between. Build it as example.c. */
+/* The calls on packed bytes from C: puts three rows and changes one, gets a row, reads the table in pages of two rows and its last two rows, sums the quantities
+ * of each city, counts the rows, and shows a refusal. No text is written or read in between. Build it as example.c. */
 #include "betable.h"
 
 #include <inttypes.h>
@@ -115,6 +115,14 @@ int main(void) {
         puts("page:");
         last = print_rows(&session, &count);
     }
+
+    packed newest = begun(2); /* the last two rows, from the last one back */
+    add_text(&newest, "primary");
+    add_number(&newest, 0, 2); /* without bounds */
+    if (betable_last_page(&session, newest.bytes, newest.length, &fault) != BETABLE_DONE)
+        return 1;
+    puts("last page:");
+    print_rows(&session, &count);
 
     packed sums = begun(1); /* groups by one column */
     add_text(&sums, "by_city");

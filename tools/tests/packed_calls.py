@@ -1178,6 +1178,9 @@ page:
 2 Bergen, west 15
 page:
 3 Oslo 7
+last page:
+3 Oslo 7
+2 Bergen, west 15
 sums:
 Bergen, west: rows 1, sum 15
 Oslo: rows 2, sum 37
