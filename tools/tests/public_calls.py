@@ -20,6 +20,7 @@ UNCALLED: dict[str, str] = {
     "bt_value::Collected::new": "stands beside `with_capacity`, as on the lists of the standard library",
     "bt_record::Fields::is_empty": "stands beside `len`, as on the lists of the standard library",
     "bt_show::KeyRange::after": "the rest of a range after a page, for callers in Rattle; the library for C takes packed bounds instead",
+    "bt_show::KeyRange::before": "the same for a page from the end of a range",
 }
 
 # Functions of a module of the engine, although only callers outside of it need them, each with the reason.
