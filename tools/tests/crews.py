@@ -164,10 +164,9 @@ class CrewsWithProgram(ProgramTestCase):
         self.assertEqual((status, errors, told.splitlines()[-1]), (0, "", "2 scripts, 60 runs, 0 faults"))
 
     def test_pieces_of_a_batch_are_worked_by_two_threads(self):
-        """Of a batch into an empty table. The caller starts one thread for the lines that it does not read itself, and one to merge what both have sorted. The
-        tree is one leaf, which is one job, and needs no thread. With an index there is one thread more for the entries, one to merge these, and one since
-        there are two leaves."""
-        for heads, started in (([TABLE], 2), ([TABLE, INDEX], 5)):
+        """Of a batch into an empty table. The caller starts one thread for the lines that it does not read itself, one to merge what both have sorted, and one to
+        make leaves of a part of it. With an index there is one thread more for the entries, and one to merge these."""
+        for heads, started in (([TABLE], 3), ([TABLE, INDEX], 5)):
             script = "\n".join([*heads, puts(range(2_000))])
             alone, none = run_and_threads(self, script, 1)
             by_two, some = run_and_threads(self, script, 2)
@@ -196,11 +195,11 @@ class CrewsWithProgram(ProgramTestCase):
             self.assertEqual((least > 1, some.of_rayon - least in extra, some), (True, True, some))
 
     def test_a_batch_by_four_workers_starts_workers_of_the_queue_and_by_one_none(self):
-        """Of 2,000 lines into an empty table: three workers read lines with the caller, and three merge what the four have sorted."""
+        """Of 2,000 lines into an empty table: three workers read lines with the caller, three merge what the four have sorted, and three make leaves of it."""
         script = f"{TABLE}\n{puts(range(2_000))}"
         alone, none = run_and_threads(self, script, 1)
         by_four, some = run_and_threads(self, script, 4)
-        self.assertEqual((none, by_four == alone, some), (Started(), True, Started(workers=6)))
+        self.assertEqual((none, by_four == alone, some), (Started(), True, Started(workers=9)))
 
     def test_a_load_is_typed_and_sorted_by_as_many_pieces_as_workers(self):
         """Records are typed, keys encoded and entries of the index made in such pieces, and keys and entries sorted. A record whose key an earlier one has is
