@@ -15,6 +15,8 @@ mod messages;
 #[cfg(test)]
 mod operations;
 #[cfg(test)]
+mod reasons;
+#[cfg(test)]
 mod samples;
 #[cfg(test)]
 mod trees;
