@@ -60,7 +60,7 @@ typedef enum {
     BETABLE_NOT_OPEN = 3,
     /* The session is open already. Nothing was done. */
     BETABLE_ALREADY_OPEN = 4,
-    /* A call on packed bytes was refused, and nothing has changed. Its fault says why. */
+    /* A call on packed bytes was refused, and nothing has changed. Its fault says why. Or betable_explain has found a reason. */
     BETABLE_REFUSED = 5
 } betable_status;
 
@@ -74,6 +74,40 @@ typedef struct {
     /* The column of the value or the operation at fault, counted from 1. 0 if it is none. */
     uint64_t column;
 } betable_fault;
+
+/* What is wrong with a field, or with a record as a whole. */
+typedef enum {
+    BETABLE_FIELD_COUNT = 1,   /* The number of fields is wrong. */
+    BETABLE_NO_INT = 2,        /* An int is digits, after a '-' if it is negative, and this field is not. */
+    BETABLE_INT_RANGE = 3,     /* An int has more than 64 bits. */
+    BETABLE_TOO_LONG = 4,      /* A text, or bytes, are longer than 255 bytes. */
+    BETABLE_NO_TEXT = 5,       /* A text is not UTF-8. */
+    BETABLE_NO_FLAG = 6,       /* A flag is neither 'true' nor 'false'. */
+    BETABLE_NO_HEX = 7,        /* A letter of bytes is no hexadecimal digit. */
+    BETABLE_ODD_DIGITS = 8,    /* Bytes have an odd number of hexadecimal digits. */
+    BETABLE_NO_OPERATION = 9,  /* The word of an operation is unknown. */
+    BETABLE_NO_COLUMN = 10,    /* No column has this name. */
+    BETABLE_KEY_COLUMN = 11,   /* The column is one of the key, which no operation changes. */
+    BETABLE_NO_INT_COLUMN = 12, /* The operation is one for ints, and the column has another kind. */
+    BETABLE_MANY_MESSAGES = 13, /* The batch has more messages than a batch may have; the item is the first one over the limit. */
+    BETABLE_SECOND_MARK = 14,  /* The text of a load begins with two byte order marks. */
+    BETABLE_NO_HEADER = 15,    /* The text of a load has no record, and so no header. */
+    BETABLE_OTHER_NAME = 16    /* A field of the header of a load is not the name of its column. */
+} betable_problem;
+
+/* Why a command is refused because of its records. Written if the result of betable_explain is REFUSED. */
+typedef struct {
+    /* The number of the refusal, as docs/SCRIPT.md lists them. */
+    uint64_t refusal;
+    /* The item at fault, counted from 1: a line of a batch, a record of a load after its header, 1 for the key of a get or the lower bound of a range, and 2 for
+       the upper bound. 0 for the header of a load. */
+    uint64_t item;
+    /* The field of the item at fault, counted from 1; of an upsert the key columns come first and then three fields for each operation. 0 if it is no single
+       one. */
+    uint64_t field;
+    /* What is wrong with it: a betable_problem. */
+    uint32_t problem;
+} betable_reason;
 
 /* What a command of a script did, or what it would do, after betable_check. */
 typedef enum {
@@ -106,6 +140,12 @@ betable_status betable_run(betable_session *session, const unsigned char *script
  * betable_refused_count is 0. The rows of a load are read, sorted by key and dropped; no tree is made. DONE, OUT_OF_MEMORY or NOT_OPEN. After OUT_OF_MEMORY
  * betable_reply_count is 0. */
 betable_status betable_check(betable_session *session, const unsigned char *script, size_t length) BETABLE_NOT_NULL;
+
+/* Finds why the first command of a script would be refused because of its records, on the table as it is: the lines of a batch, the key of a get, the text of a
+ * load, or the bounds of a scan or of sums. The command is not carried out, and the replies are kept, so you can ask directly after a run in which the command
+ * was refused. If several records or fields are at fault, the reason is that of the refusal in the reply, and of these the first. REFUSED if there is a reason,
+ * and otherwise DONE, OUT_OF_MEMORY or NOT_OPEN. */
+betable_status betable_explain(betable_session *session, const unsigned char *script, size_t length, betable_reason *reason) BETABLE_NOT_NULL;
 
 /* The calls on packed bytes do what commands do, without text in between. Packed bytes begin with the letters BTV, the version of the layout, 1, and a number of
  * four bytes. Numbers are little endian, there is no padding, and there are no pointers. A value has the kind of its column: an int is eight bytes; a text, or

@@ -1,3 +1,4 @@
 pub mod Owned
+pub mod Reasons
 pub mod Replies
 pub mod Sessions

@@ -21,6 +21,7 @@ ghost use Rattle.bt_shell.specs.Steps.{State};
 ghost use Rattle.bt_table.specs.Standing.{IsConsistent, IsSound};
 ghost use Rattle.bt_table.specs.Tables.{Lost};
 ghost use Rattle.bt_packed.specs.Calls.{columns_reply, get_reply, last_page_reply, page_reply, sums_reply, trees_reply, usage_reply};
+ghost use Rattle.bt_c.specs.Reasons.{IsReason, first_reason};
 ghost use Rattle.bt_c.specs.Replies.{checked_marks, marks_of, reply_at};
 ghost use Rattle.bt_c.specs.Sessions.{IsAnswered, IsFault, IsUnmarked, StaysOpen, StaysOrIsLostIn, answer_of, applied_to, code_of, fault_of, is_lost, reply_from, session_of};
 ghost use Rattle.bt_c.specs.declared.status.Status.TheVariants as status;
@@ -28,6 +29,7 @@ ghost use Rattle.bt_c.specs.declared.status.Status.TheVariants as status;
 mod fault;
 mod handle;
 mod parts;
+mod reason;
 mod reply;
 mod session;
 mod slot;
@@ -39,6 +41,7 @@ use bt_script::RunFault;
 use bt_value::Refusal;
 pub use fault::FaultInC;
 pub use handle::Handle;
+pub use reason::ReasonInC;
 pub use reply::{ReplyInC, ReplyMark};
 pub use session::{Question, Session};
 pub use status::Status;
@@ -133,6 +136,39 @@ pub extern "C" fn betable_check(alloc: Global, handle: &mut Handle, script: &[u8
     *handle = Handle::of(session);
     match ended {
         Ok(()) => Status::Done.code(),
+        Err(AllocError) => Status::OutOfMemory.code(),
+    }
+}
+
+/// Finds why the first command of a script would be refused because of its records, on the table as it is. The command is not carried out, and the replies are
+/// kept.
+///
+/// `Refused`: the reason says which record is at fault and why; the reply to the command would be its refusal. `Done`: there is no command, or it has no
+/// record at fault.
+#[unsafe(no_mangle)]
+pub extern "C" fn betable_explain(
+    alloc: Global,
+    handle: &mut Handle,
+    script: &[u8],
+    reason: &mut ReasonInC,
+) -> u32
+    ensures closed { session_of handle.old ≡ None → result ≡ code_of status.NotOpen }
+    ensures ends { is_some (session_of handle.old) ≡ true → (result ≡ code_of status.Done) ⊎ (result ≡ code_of status.OutOfMemory) ⊎ (result ≡ code_of status.Refused) }
+    ensures done { result ≡ code_of status.Done → IfSome (session_of handle.old) (λ session. first_reason session.table (commands script.now) ≡ None) }
+    ensures refused { result ≡ code_of status.Refused → MatchOption (session_of handle.old) ⊥ (λ session. IsReason session.table (commands script.now) reason.new) }
+    ensures kept { session_of handle.new ≡ session_of handle.old }
+{
+    let Some(session) = handle.take(alloc) else {
+        return Status::NotOpen.code();
+    };
+    let found = session.explain(alloc, script);
+    *handle = Handle::of(session);
+    match found {
+        Ok(None) => Status::Done.code(),
+        Ok(Some(found)) => {
+            *reason = ReasonInC::of(found);
+            Status::Refused.code()
+        }
         Err(AllocError) => Status::OutOfMemory.code(),
     }
 }

@@ -5,15 +5,17 @@ ghost use Rattle.bt_shell.specs.Faults.{StopsBetweenReplies, StopsWithinReply, l
 ghost use Rattle.bt_shell.specs.Runs.{after_commands, refused_count, replies};
 ghost use Rattle.bt_table.specs.Standing.{IsConsistent, IsSound};
 ghost use Rattle.bt_table.specs.Tables.{Lost};
+ghost use Rattle.bt_c.specs.Reasons.{FirstIsRefused, first_reason};
 ghost use Rattle.bt_c.specs.Replies.{checked_marks, marks_of};
 ghost use Rattle.bt_c.specs.Sessions.{StaysOrIsLostIn, answer_of, applied_to, is_lost, no_table, reply_from};
 
 use crate::reply::{ReplyMark, ReplyMarks};
+use bt_fault::{Reason, command_reason};
 use bt_packed::{
     Fault, ReplyRoom, apply_packed, columns_packed, get_packed, last_page_packed, page_packed,
     sums_packed, trees_packed, usage_packed,
 };
-use bt_script::{Counted, RunFault};
+use bt_script::{Counted, Parsed, RunFault, parse_command};
 use bt_shell::{Context, check_commands, run_commands};
 use bt_table::{Alone, Table};
 use bt_value::Refusal;
@@ -166,6 +168,21 @@ impl Session {
         check_commands(alloc, script, &self.table, &mut log)?;
         self.marks = log.marks;
         Ok(())
+    }
+
+    /// Why the first command of a script would be refused because of its records, on the table as it is.
+    #[tactic(auto, using(crate::proofs::Refusals::result_refused))]
+    pub fn explain(&self, alloc: Global, script: &[u8]) -> Result<Option<Reason>, AllocError>
+        ensures reason { IfOk result (λ reason. reason ≡ first_reason self.now.table (commands script.now)) }
+        ensures refused { IfOk result (λ reason. IfSome reason (λ r. FirstIsRefused self.now.table (commands script.now) r.refusal)) }
+    {
+        let Some(table) = &self.table else {
+            return Ok(None);
+        };
+        match parse_command(alloc, script, 0)? {
+            Parsed::Good { command, .. } => command_reason(alloc, table, &command),
+            _ => Ok(None),
+        }
     }
 
     /// Applies packed changes to the table. The replies are emptied.
