@@ -5,7 +5,7 @@ use Rattle.bt_value.specs.declared.refusal.Refusal.{Refusal}
 use Rattle.bt_script.specs.Commands.{Answer}
 use Rattle.bt_fault.specs.Commands.{command_reason}
 use Rattle.bt_fault.specs.declared.problem.Problem.{Problem}
-use Rattle.bt_fault.specs.declared.problem.Problem.TheVariants.{FieldCount, IntRange, KeyColumn, ManyMessages, NoColumn, NoFlag, NoHeader, NoHex, NoInt, NoIntColumn, NoOperation, NoText, OddDigits, OtherName, SecondMark, TooLong}
+use Rattle.bt_fault.specs.declared.problem.Problem.TheVariants as problem
 use Rattle.bt_fault.specs.declared.reason.Reason.{Reason}
 use Rattle.bt_shell.specs.Replies.{refused_text}
 use Rattle.bt_shell.specs.Steps.{State, turn}
@@ -25,22 +25,22 @@ FirstIsRefused state (answer ∷ answers) refusal = turn state answer ≡ (state
 
 -- the code in C for what is wrong with a field
 abbrev pub code_of_problem : Problem → ℕ
-code_of_problem FieldCount = 1
-code_of_problem NoInt = 2
-code_of_problem IntRange = 3
-code_of_problem TooLong = 4
-code_of_problem NoText = 5
-code_of_problem NoFlag = 6
-code_of_problem NoHex = 7
-code_of_problem OddDigits = 8
-code_of_problem NoOperation = 9
-code_of_problem NoColumn = 10
-code_of_problem KeyColumn = 11
-code_of_problem NoIntColumn = 12
-code_of_problem ManyMessages = 13
-code_of_problem SecondMark = 14
-code_of_problem NoHeader = 15
-code_of_problem OtherName = 16
+code_of_problem problem.FieldCount = 1
+code_of_problem problem.NoInt = 2
+code_of_problem problem.IntRange = 3
+code_of_problem problem.TooLong = 4
+code_of_problem problem.NoText = 5
+code_of_problem problem.NoFlag = 6
+code_of_problem problem.NoHex = 7
+code_of_problem problem.OddDigits = 8
+code_of_problem problem.NoOperation = 9
+code_of_problem problem.NoColumn = 10
+code_of_problem problem.KeyColumn = 11
+code_of_problem problem.NoIntColumn = 12
+code_of_problem problem.ManyMessages = 13
+code_of_problem problem.SecondMark = 14
+code_of_problem problem.NoHeader = 15
+code_of_problem problem.OtherName = 16
 
 -- a reason as C sees it
 abbrev pub reason_in_c : Reason → ReasonInC

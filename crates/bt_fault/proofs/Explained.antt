@@ -121,7 +121,8 @@ row_explained columns item fields = elim (length fields == length columns) as (�
 
 -- the reason of a bound is that of its refusal
 pub prefix_explained : (columns : List Column) (item : ℕ) (fields : List (List ℕ)) → Explains (prefix_as columns item fields) (prefix_reason columns item fields)
-prefix_explained columns item fields = elim (nat_lt 0 (length fields) && nat_le (length fields) (length columns)) as (λ some. (nat_lt 0 (length fields) && nat_le (length fields) (length columns)) ≡ some
+prefix_explained columns item fields = elim (nat_lt 0 (length fields) && nat_le (length fields) (length columns))
+    as (λ some. (nat_lt 0 (length fields) && nat_le (length fields) (length columns)) ≡ some
     → refusal_of (if some then bad_field (take (length fields) columns) item fields else Some (wrong_count item))
     ≡ result_err (if some then or_refused (BadField item) (values_of (take (length fields) columns) fields) else Err (BadLength item))) [
       | true ↦ λ some.

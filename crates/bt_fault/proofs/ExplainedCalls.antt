@@ -52,13 +52,15 @@ pub batch_explained : (schema : Schema) (items : List Item) → schema.keys ≤ 
 batch_explained schema items within =
     let many = nat_lt most_messages (length items) in
     lower_explained (lowest_reason (line_reasons schema 1 items)) (many_reason (length items))
-    ∙ ap (λ (f : Option Refusal). lowest_from f (option_to_list (refusal_of (many_reason (length items))))) (lowest_explained (line_reasons schema 1 items) ∙ ap lowest (lines_explained schema 1 items within))
+    ∙ ap (λ (f : Option Refusal). lowest_from f (option_to_list (refusal_of (many_reason (length items)))))
+        (lowest_explained (line_reasons schema 1 items) ∙ ap lowest (lines_explained schema 1 items within))
     ∙ ap (lowest_from (lowest (record_refusals schema items))) (many_explained many)
     ∙ sym (lowest_from-append None (record_refusals schema items) (one_if many TooMany))
 
 -- ---- loads
 
-records_explained : (columns : List Column) (item : ℕ) (others : List (List (List ℕ))) → filter_map refusal_of (record_reasons columns item others) ≡ filter_map result_err (typed_from columns item others)
+records_explained : (columns : List Column) (item : ℕ) (others : List (List (List ℕ)))
+    → filter_map refusal_of (record_reasons columns item others) ≡ filter_map result_err (typed_from columns item others)
 records_explained columns item [] = refl
 records_explained columns item (fields ∷ others) =
     ap (λ (first : Option Refusal). cons_option first (filter_map refusal_of (record_reasons columns (item + 1) others))) (row_explained columns item fields)

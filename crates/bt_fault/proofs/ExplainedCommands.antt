@@ -48,12 +48,14 @@ batch_refused table items reason within is =
 
 get_refused : (table : PlainTable) (fields : List (List ℕ)) (reason : Reason) → key_reason table.schema 1 fields ≡ Some reason → step (Intact table) (call.Get fields) ≡ Err reason.refusal
 get_refused table fields reason is =
-    let none : read_key table.schema 1 fields ≡ Err reason.refusal = of_reason (read_key table.schema 1 fields) (key_reason table.schema 1 fields) reason (row_explained (take table.schema.keys table.schema.columns) 1 fields) is in
+    let explains = row_explained (take table.schema.keys table.schema.columns) 1 fields in
+    let none : read_key table.schema 1 fields ≡ Err reason.refusal = of_reason (read_key table.schema 1 fields) (key_reason table.schema 1 fields) reason explains is in
     rw none refl
 
 load_refused : (table : PlainTable) (text : List ℕ) (reason : Reason) → text_reason table.schema.columns text ≡ Some reason → step (Intact table) (call.Load text) ≡ Err reason.refusal
 load_refused table text reason is =
-    let none : text_rows table.schema.columns text ≡ Err reason.refusal = of_reason (text_rows table.schema.columns text) (text_reason table.schema.columns text) reason (text_explained table.schema.columns text) is in
+    let columns = table.schema.columns in
+    let none : text_rows columns text ≡ Err reason.refusal = of_reason (text_rows columns text) (text_reason columns text) reason (text_explained columns text) is in
     rw none refl
 
 range_refused : (tree : NamedTree) (bounds : Bounds) (reason : Reason) → bounds_reason bounds (Ok (schema_of tree)) ≡ Some reason → range_of tree bounds.from bounds.to ≡ Err reason.refusal

@@ -38,7 +38,7 @@ lowest_reason reasons = fold lower_reason None reasons
 
 -- ---- fields by their columns
 
--- the first field with a problem, counted from 1 after so many others, and the problem; a field without a column has none
+-- the first field with a problem, counted from 1 after a number of others, and the problem; a field without a column has none
 abbrev pub first_problem : (Column → List ℕ → Option Problem) → ℕ → List Column → List (List ℕ) → Option (ℕ × Problem)
 first_problem problem before [] fields = None
 first_problem problem before (column ∷ columns) [] = None
@@ -64,7 +64,7 @@ prefix_reason columns item fields =
 
 -- ---- upserts
 
--- the name of an operation, which is a field after so many others, is no column that operations may change
+-- the name of an operation, which is a field after a number of others, is no column that operations may change
 abbrev pub closed_reason : Schema → ℕ → ℕ → List ℕ → Reason
 closed_reason schema item before name = reason_at NoSuchColumn item (before + 2) (if is_some (named_from 0 name schema.columns) then KeyColumn else NoColumn)
 
@@ -87,7 +87,7 @@ abbrev pub making_reason : Schema → ℕ → ℕ → List ℕ → List ℕ → 
 making_reason schema item before name argument None = Some (reason_at (BadField item) item (before + 1) NoOperation)
 making_reason schema item before name argument (Some arithmetic) = at_column schema item before name (number_reason item before argument) (open_column schema name)
 
--- why an operation is refused: its word, its column, the kind for a number, or its argument, three fields after so many others
+-- why an operation is refused: its word, its column, the kind for a number, or its argument, three fields after a number of others
 abbrev pub op_reason : Schema → ℕ → ℕ → List ℕ → List ℕ → List ℕ → Option Reason
 op_reason schema item before word name argument =
     if pointwise ◌==◌ word set_word then at_column schema item before name (argument_reason item before argument) (open_column schema name)

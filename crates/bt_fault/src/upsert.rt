@@ -43,7 +43,7 @@ fn number_reason(item: u64, before: u64, argument: &[u8], kind: Kind) -> Option<
     }
 }
 
-// Why an operation is refused whose word, column's name and argument are the fields after so many others.
+// Why an operation is refused whose word, column's name and argument are the fields after a number of others.
 fn op_reason(
     schema: &Schema,
     item: u64,
