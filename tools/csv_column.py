@@ -9,6 +9,7 @@ from typing import Callable, Iterable, Iterator, Sequence, TypeAlias
 
 from betable import language
 from betable.language import counted
+from betable.reasons import value_fault
 from csv_source import shown
 
 # The number of a record, and its line, in words.
@@ -52,7 +53,7 @@ POINT_INSIDE = re.compile(r"\n\.(?=\r?\n)")
 
 def fault_of(kind: str, value: str) -> str | None:
     """Why a field is no value of a kind, or None."""
-    return language.KINDS[kind.encode()].fault(value.encode())
+    return value_fault(kind, value.encode())
 
 
 class Column:

@@ -30,6 +30,7 @@
 mod changes;
 mod fault;
 mod packed;
+mod reason;
 mod rows;
 mod sums;
 mod trees;
@@ -38,6 +39,7 @@ mod values;
 
 pub use changes::{Changes, Op};
 pub use fault::Fault;
+pub use reason::{Problem, Reason};
 pub use rows::{Row, Rows};
 pub use sums::{Group, Sums};
 pub use trees::Tree;
@@ -45,6 +47,7 @@ pub use usage::Usage;
 pub use values::{Column, FromValue, Kind, Packer, ToValue, Value, Values};
 
 use packed::CallFault;
+use reason::CallReason;
 use std::error::Error;
 use std::fmt;
 use std::ops::Range;
@@ -68,6 +71,7 @@ extern "C" {
     fn betable_open(session: *mut Handle) -> u32;
     fn betable_run(session: *mut Handle, script: *const u8, length: usize) -> u32;
     fn betable_check(session: *mut Handle, script: *const u8, length: usize) -> u32;
+    fn betable_explain(session: *mut Handle, script: *const u8, length: usize, reason: *mut CallReason) -> u32;
     fn betable_apply(session: *mut Handle, changes: *const u8, length: usize, fault: *mut CallFault) -> u32;
     fn betable_get(session: *mut Handle, key: *const u8, length: usize, fault: *mut CallFault) -> u32;
     fn betable_page(session: *mut Handle, page: *const u8, length: usize, fault: *mut CallFault) -> u32;
@@ -154,9 +158,25 @@ impl Session {
     pub fn check(&mut self, script: &[u8]) -> Result<Vec<usize>, OutOfMemory> {
         let status = unsafe { betable_check(&mut self.handle, script.as_ptr(), script.len()) };
         if status != DONE {
-            return Err(OutOfMemory { replies: Replies::default(), is_cut: false, is_lost: self.is_lost() });
+            return Err(self.out_of_memory());
         }
         Ok(self.parts().iter().enumerate().filter(|(_, part)| part.is_refused).map(|(place, _)| place).collect())
+    }
+
+    /// Why the first command of a script would be refused because of its records, on the table as it is: the lines of a batch, the key of a get, the text of a
+    /// load, or the bounds of a scan or of sums. None if it would not be. It is not carried out. Of several faults the reason is that of the refusal in the reply,
+    /// and of these the first.
+    pub fn explain(&mut self, script: &[u8]) -> Result<Option<Reason>, OutOfMemory> {
+        let mut reason = CallReason::default();
+        match unsafe { betable_explain(&mut self.handle, script.as_ptr(), script.len(), &mut reason) } {
+            DONE => Ok(None),
+            REFUSED => Ok(Some(reason.reason())),
+            _ => Err(self.out_of_memory()),
+        }
+    }
+
+    fn out_of_memory(&mut self) -> OutOfMemory {
+        OutOfMemory { replies: Replies::default(), is_cut: false, is_lost: self.is_lost() }
     }
 
     /// Where the replies to the last script are, which was done or checked. None if it was not.

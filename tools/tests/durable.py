@@ -210,6 +210,7 @@ READS = [
     lambda one: one.columns("by_city"),
     lambda one: one.usage("by_city"),
     lambda one: one.check("get 1\nget x\nbatch\nput 1\nend\n"),
+    lambda one: one.explain("batch\nput 1\nend\n"),
 ]
 WRONG_READS = [
     lambda one: one.get("1"),
@@ -233,6 +234,7 @@ WRONG_READS = [
     lambda one: one.usage("none"),
     lambda one: one.columns("none"),
     lambda one: one.check(5),
+    lambda one: one.explain(5),
 ]
 
 
@@ -1392,7 +1394,7 @@ durable.open(sys.argv[1])"""
                 )
                 self.assertEqual((table.scan("primary", (3,), after=(1,)), list(table.iterate(page=1))), ([(3, "b", 3)], table.scan()))
                 self.assertEqual((table.scan_columns(limit=1)["city"], table.columns()[0]), ([""], ("id", "int", True)))
-                for call in (table.usage, lambda: table.check("get 1\n")):
+                for call in (table.usage, lambda: table.check("get 1\n"), lambda: table.explain("get 1\n")):
                     expect_fault(self, NotImplementedError, call, "only a session")
                 expect_fault(self, betable().Refused, lambda: table.columns("none"), "NoSuchTree")
 

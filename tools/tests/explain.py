@@ -422,7 +422,7 @@ def rows_of_their_kinds(test, command, answer, trees, language):
         record = row.removesuffix(b"\n").removeprefix(b"row ")
         fields = language.fields(record)
         test.assertEqual(len(fields), len(columns), record)
-        test.assertEqual([language.KINDS[kind].fault(field) for field, (_, kind) in zip(fields, columns)], [None] * len(columns))
+        test.assertEqual([import_module("betable.reasons").problem_of(kind.decode(), field) for field, (_, kind) in zip(fields, columns)], [None] * len(columns))
         test.assertEqual(language.printed_record([language.KINDS[kind].printed(field) for field, (_, kind) in zip(fields, columns)]), record)
     return len(answer) - 1
 

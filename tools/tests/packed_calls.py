@@ -16,6 +16,7 @@ from .common import fault_of, SECONDS, TOP, needs
 from .clients import betable, both_ways, build_extension, c_program, HERE, library, library_without_memory, worked_scripts
 
 from betable import language
+from betable.reasons import problem_of
 
 DONE, NOT_OPEN, REFUSED = 0, 3, 5
 SYNTAX, NO_TABLE, BAD_FIELD, BAD_LENGTH, NO_SUCH_TREE, BUILDING, NO_SUCH_COLUMN, NOT_INT = 1, 3, 6, 7, 8, 11, 15, 16
@@ -278,8 +279,7 @@ def values_of_line(line, columns):
 
 
 def value_of_field(field, kind):
-    faults = {b"int": language.fault_of_int, b"text": language.fault_of_text, b"flag": language.fault_of_flag, b"bytes": language.fault_of_bytes}
-    if faults[kind](field):
+    if problem_of(kind.decode(), field):
         raise NotInValues
     forms = {b"int": int, b"text": bytes.decode, b"flag": lambda flag: flag.lower() == b"true", b"bytes": lambda digits: bytes.fromhex(digits.decode())}
     return forms[kind](field)

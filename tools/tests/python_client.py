@@ -314,6 +314,7 @@ class PythonClient(TestCase):
         methods = {
             "batch": lambda s: s.batch([client.put(text, "", True, b"")]),
             "check": None,
+            "explain": None,
             "close": None,
             "columns": lambda s: s.columns(text),
             "count": lambda s: s.count(text),
@@ -554,6 +555,7 @@ CALLS = [
     lambda s: s.run("get 1\n"),
     lambda s: s.replies("get 1\n"),
     lambda s: s.check("get 1\n"),
+    lambda s: s.explain("get 1\n"),
     lambda s: s.is_lost,
 ]
 

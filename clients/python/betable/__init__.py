@@ -27,6 +27,7 @@ from .calls import MOST_MESSAGES, Calls
 from .errors import OutOfMemory, Refused, RowError, RowTypeError, RowValueError
 from .messages import OPERATIONS, Message, delete, field, put, record, upsert, upsert_form
 from .packed import Usage
+from .reasons import Problem, Reason
 from .replies import Reply
 from .schema import Tree, TreeColumn, Trees
 from .session import Session
@@ -41,6 +42,8 @@ __all__ = [
     "Calls",
     "Message",
     "OutOfMemory",
+    "Problem",
+    "Reason",
     "Refused",
     "Reply",
     "RowError",

@@ -16,14 +16,15 @@ from typing import Any, NamedTuple, NoReturn
 
 from . import language
 from .batches import Batch, Columns, Messages, Rows, UpsertRows, without_breaks
-from .csv_input import BLOCK, Part, WrongRecords, has_line_breaks, parts, rows_of_records, several_are_wrong, wrong_records, wrong_records_of_load
+from .csv_input import BLOCK, Part, WrongRecords, parts, rows_of_records, several_are_wrong, wrong_records, wrong_records_of_load
 from .errors import OutOfMemory, Refused, RowTypeError, RowValueError, WrongRecord
 from .faults import MEANINGS, Fault, faults_of_refusal
 from .forms import OTHER_KINDS, name_fault
-from .language import Command
+from .language import Command, has_line_breaks
 from .messages import Message, Shape, columns_of_shape, delete, record, shape_of, shape_of_columns, upsert
 from .packed import MOST_ROWS, Usage
 from .ranges import delete_range
+from .reasons import Reason
 from .replies import Place, Reply, answered, kinds_of_rows, rows_of_reply
 from .rows import (
     ARRAY_TYPES, VALUE_TYPES, VALUES, ColumnValues, Value, as_iterator, as_tuple, changes_by_column, columns_of_rows, key_fields, line_field, names_fault,
@@ -295,6 +296,10 @@ class Calls(ABC):
     def check(self, script: str | bytes) -> list[int]:
         """The places of the commands of a script that would be refused, counted from 0 as in the list that `run` returns."""
         raise NotImplementedError("only a session, or a table over one, has 'check': what has only scripts cannot tell it")
+
+    def explain(self, script: str | bytes) -> Reason | None:
+        """Why the first command of a script would be refused because of its records, or None."""
+        raise NotImplementedError("only a session, or a table over one, has 'explain': what has only scripts cannot tell it")
 
     def sums(
         self, tree: str, columns: int, column: str, start: Bound = None, stop: Bound = None
@@ -720,14 +725,8 @@ def _with_point(rows: list[Any], columns: Sequence[TreeColumn], row: int) -> Row
 
 def fault_of(command: Command, number: int, item: int | None, table: Trees) -> Fault | None:
     """The fault that a refusal of a command names: of several lines the one of its item."""
-    line = None
-    if item is not None and command.head.word in (b"batch", b"load"):
-        numbers = [one.number for one in command.messages()][item - 1 : item] if command.head.word == b"batch" else [
-            one for one, _ in islice(command.records(), item, item + 1)
-        ]
-        line = numbers[0] if numbers else None
-    faults: Iterable[Fault] = faults_of_refusal(command, number, table)
-    return next((fault for fault in faults if line is None or fault.line == line), None)
+    line = None if item is None or command.head.word not in (b"batch", b"load") else command.line_of(item)
+    return next((fault for fault in faults_of_refusal(command, number, table) if line is None or fault.line == line), None)
 
 
 def _given_value(row: Any, column: str, columns: Sequence[TreeColumn], otherwise: Any) -> Any:

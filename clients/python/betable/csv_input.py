@@ -4,15 +4,14 @@ from __future__ import annotations
 
 import csv
 import os
-from bisect import bisect_right
 from collections.abc import Iterable, Iterator, Sequence
 from io import StringIO
-from itertools import accumulate, islice
+from itertools import islice
 from types import TracebackType
 from typing import BinaryIO, NamedTuple
 
 from .errors import Refused, WrongRecord
-from .faults import Fault, faults_of_records
+from .faults import Fault, load_records
 from .language import MARK, RECORD, broken_quotes
 from .rows import Value, values_of_fields
 from .schema import Trees
@@ -85,12 +84,6 @@ def _records(text: bytes, line: int, is_last: bool) -> tuple[list[bytes], Sequen
 # ---- records that are no rows ----
 
 
-def has_line_breaks(records: Sequence[bytes]) -> bool:
-    """Whether a text of a record has a line break."""
-    together = b"".join(records)
-    return b"\n" in together or b"\r" in together
-
-
 def wrong_records(part: Part, table: Trees) -> dict[int, Fault]:
     """Why records are no rows of a table: the first fault of each that is none, by its place in the part."""
     records = [record.removeprefix(MARK) for record in part.records]
@@ -99,9 +92,8 @@ def wrong_records(part: Part, table: Trees) -> dict[int, Fault]:
         # A text with a line break may be the rest of the file after a quote that was forgotten.
         if b"\n" in record and (broken := next(broken_quotes(record, part.lines[place]), None)):
             found[place] = Fault(str(broken))
-    first_lines = list(accumulate((1 + record.count(b"\n") for record in records), initial=1))
-    for fault in faults_of_records(b"\n".join(records) + b"\n", 1, 0, table):
-        found.setdefault(bisect_right(first_lines, fault.line or 1) - 1, fault)
+    for fault in load_records(table).faults(enumerate(records)):
+        found.setdefault(fault.line or 0, fault)
     return dict(sorted(found.items()))
 
 

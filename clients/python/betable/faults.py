@@ -1,16 +1,22 @@
 """Why a command of a script is refused: each fault of it, with its line, its column and the reason in a few words."""
 
 import re
+from collections.abc import Iterable, Iterator
+from heapq import merge
 from itertools import chain, islice
-from typing import Iterable, Iterator
+from typing import TypeAlias
 
 from .forms import head_faults, no_block_word, record_reasons, spelled
 from .language import (
-    any_of, BLOCK_WORDS, BUFFERS, BUFFERS_IN_BYTES, Columns, Command, counted, FANOUTS, FIELD, fields, FORMS, index_of, INT_OPERATIONS, KINDS, LEAVES, Line,
-    MARK, matched, MOST_COLUMNS, MOST_INCLUDED, MOST_INDEXES, MOST_KEY_COLUMNS, MOST_MESSAGES, MOST_ON, MOST_OPERATIONS, OPERATIONS, PRIMARY, printed_field,
-    RECORD, record_of_line, spans, text_pattern, visible,
+    any_of, BLOCK_WORDS, BUFFERS, BUFFERS_IN_BYTES, Columns, Command, counted, FANOUTS, FIELD, fields, FORMS, has_line_breaks, index_of, KINDS, LEAVES, Line,
+    MARK, MOST_COLUMNS, MOST_INCLUDED, MOST_INDEXES, MOST_KEY_COLUMNS, MOST_MESSAGES, MOST_ON, MOST_OPERATIONS, OPERATIONS, PRIMARY, printed_field,
+    record_of_line, spans, visible,
 )  # fmt: skip
+from .reasons import SPACES_OF_BREAKS, Problem, Reason, empty_session, reason_of_value, value_fault
 from .schema import Trees
+
+# A line, or a record of a load, and its number, which the head line of a command has not.
+NumberedLine: TypeAlias = tuple[int | None, bytes]
 
 # The meaning of each refusal, by its number, and what to do about it.
 MEANINGS = {
@@ -70,214 +76,168 @@ def column_place(columns: Columns, place: int) -> str:
     return f"column {place + 1} '{name.decode()}' ({kind.decode()})"
 
 
-# ---- fields ----
+# ---- records ----
+
+# A value of each kind.
+EXAMPLES = {b"int": b"0", b"text": b"x", b"flag": b"true", b"bytes": b"00"}
 
 
-def length_fault(raw: bytes, count: int, wanted: str, line: int | None, around: bytes, at: int, most: int | None = None) -> Fault:
-    """A fault of the number of fields, with what may be the reason. Where there are more than `most`, a text may have lost its quotes."""
+class Records:
+    """Records of a command, of which the engine says which are at fault, and why. Each ends a line that begins with a word, or else `word` says what it is. The
+    engine is asked about some of them by a script: its head, the records and its end."""
+
+    def __init__(self, table: Trees, head: bytes, end: bytes, word: bytes = b"", tree: bytes = PRIMARY) -> None:
+        self.table, self.head, self.end, self.word, self.tree = table, head, end, word, tree
+        self.engine = empty_session(table)
+
+    def reason(self, records: list[bytes]) -> Reason | None:
+        """Why one of the records is refused. They are in one line of a load, and their line breaks are spaces, so that no line is the one that ends it."""
+        if self.word and has_line_breaks(records):
+            records = [text.removesuffix(b"\n").translate(SPACES_OF_BREAKS) for text in records]
+        return self.engine.explain(self.head + (b"\r" if self.word else b"\n").join(records) + self.end)
+
+    def faults(self, records: Iterable[NumberedLine]) -> Iterator[Fault]:
+        """Each fault of the records, in their order; of one record that comes first for which it is refused."""
+        records = iter(records)
+        while some := list(islice(records, MOST_MESSAGES)):
+            for place, reason in self.reasons([text for _, text in some], 0):
+                yield from self.faults_of(*some[place], reason)
+
+    def reasons(self, records: list[bytes], first: int, known: Reason | None = None) -> Iterator[tuple[int, Reason]]:
+        """The reason of each record at fault, with its place, by halves. The reason of all of them, which may be known, is that of one half too."""
+        reason, middle = known or self.reason(records), len(records) // 2
+        if reason and middle == 0:
+            yield first, reason
+        elif reason:
+            is_first = reason.item <= middle
+            yield from self.reasons(records[:middle], first, reason if is_first else None)
+            yield from self.reasons(records[middle:], first + middle, None if is_first else reason._replace(item=reason.item - middle))
+
+    def faults_of(self, number: int | None, text: bytes, reason: Reason | None) -> Iterator[Fault]:
+        """The faults of one record. With right fields in the place of those at fault, the engine is asked for the next fault."""
+        at = self.start(text)
+        raw_fields = [text[at + start : at + end] for start, end in spans(text[at:])]
+        for _ in range(len(raw_fields)):
+            if reason is None:
+                return
+            fault, place, right = self.fault(number, text, reason)
+            yield fault
+            raw_fields[place : place + len(right)] = right
+            reason = self.reason([text[:at] + b",".join(raw_fields)]) if right else None
+
+    def start(self, text: bytes) -> int:
+        """Where in its line a record begins."""
+        return 0 if self.word else len(text) - len(record_of_line(text.partition(b" ")[2])[0])
+
+    def fault(self, number: int | None, text: bytes, reason: Reason) -> tuple[Fault, int, list[bytes]]:
+        """A fault of a record, its place among the fields, and right fields in its place: a value, a name or a whole operation, if one is known."""
+        word, at, first = self.word or text.partition(b" ")[0], self.start(text), reason.field - 1
+        columns = self.table.columns if word in (b"put", b"record", b"header") else self.table.key_of(self.tree)
+        raw, values = text[at:], fields(text[at:])
+        if reason.field == 0:
+            of_text = columns if word in (b"put", b"del", b"record") else []
+            return length_fault(raw, len(values), self.wanted(word, columns), number, text, at, of_text), 0, []
+        value, start = values[first], at + spans(raw)[first][0]
+        if word == b"header":
+            name = self.table.names[first]
+            return Fault(f"the header has '{visible(value, 40)}' there", f"column {reason.field} '{name.decode()}'", number), first, [name]
+        if first < len(columns):
+            name, kind = columns[first]
+            what = reason_of_value(reason.problem, kind.decode(), value)
+            return Fault(what, column_place(columns, first), number, None if value else text, start, name, value), first, [EXAMPLES[kind]]
+        operation, part = divmod(first - len(columns), 3)
+        word, name, value = values[first - part : first - part + 3]
+        what, where = self.operation_fault(reason.problem, word, name, value)
+        changed = (name, value) if part else (None, None)
+        fault = Fault(what, f"operation {operation + 1}{where}", number, None if part == 2 and value else text, start, *changed)
+        right = [[b"set", other, EXAMPLES[kind]] for other, kind in self.table.columns[len(columns) :]]
+        return fault, first - part, right[0] if right else []
+
+    def operation_fault(self, problem: Problem, word: bytes, name: bytes, value: bytes) -> tuple[str, str]:
+        """What is wrong with an operation, and the place of its column if that is there."""
+        columns, shown = dict(self.table.columns), f"'{visible(name, 40)}'"
+        match problem:
+            case Problem.NO_OPERATION:
+                return f"'{visible(word, 40)}' is not {any_of(OPERATIONS)}", ""
+            case Problem.NO_COLUMN:
+                return f"{shown} is no column ({spelled(columns)})", ""
+            case Problem.KEY_COLUMN:
+                return f"{shown} is a column of the key, which no operation changes", ""
+            case Problem.NO_INT_COLUMN:
+                return f"{shown} is {columns[name].decode()}, and {word.decode()} needs an int", ""
+        place = column_place(self.table.columns, self.table.names.index(name))
+        return reason_of_value(problem, columns[name].decode(), value), f", {place}"
+
+    def wanted(self, word: bytes, columns: Columns) -> str:
+        """How many fields a record should have."""
+        count, names = len(columns), spelled(name for name, _ in columns)
+        match word:
+            case b"ups":
+                return f"an ups has {count} for the key ({names}) and then 3 for each operation, of which there are 1 to {MOST_OPERATIONS}"
+            case b"from" | b"to":
+                return f"a bound of {self.tree.decode()} has at most {count} ({names})"
+            case b"header":
+                return f"the table has {counted(count, 'column')}"
+        return f"a {word.decode()} has {count} ({names})"
+
+
+def length_fault(raw: bytes, count: int, wanted: str, line: int | None, around: bytes, at: int, columns: Columns) -> Fault:
+    """A fault of the number of fields, with what may be the reason. Where there are more than the columns, a text may have lost its quotes."""
+    if at == 0 and raw.strip(b" \t") == b".":
+        return Fault(f"'{visible(raw, 20)}' does not close the block: a closing line is '.' exactly", line=line)
     other = next((mark for mark in (b";", b"\t", b"|") if mark in raw and b"," not in raw), None)
     hint = f"; fields are divided by commas, and not by '{visible(other)}'" if other else ""
-    if most is not None and count > most:
+    if count > len(columns) and b"text" in dict(columns).values():
         hint = "; put a text with a comma in double quotes" + (", as single quotes are letters" if b",'" in raw or raw.startswith(b"'") else "")
     return Fault(f"{counted(count, 'field')}, and {wanted}{hint}", line=line, around=around, at=at)
 
 
-def most_of(columns: Columns) -> int | None:
-    """The number of columns where a text is among them."""
-    return len(columns) if b"text" in dict(columns).values() else None
-
-
-def field_faults(raw: bytes, columns: Columns, line: int | None, around: bytes, offset: int, place: str = "") -> list[Fault]:
-    """The fields of a record that are no values of their columns."""
-    values = fields(raw)
-    reasons = [KINDS[kind].fault(value) for value, (_, kind) in zip(values, columns)]
-    if not any(reasons):
-        return []
-    begins = [start for start, _ in spans(raw)]
-    return [
-        Fault(
-            reason, place + column_place(columns, number), line, None if "'" in reason or values[number] else around, offset + begins[number],
-            columns[number][0], values[number],
-        )  # fmt: skip
-        for number, reason in enumerate(reasons)
-        if reason
-    ]
-
-
-class MessageFaults:
-    """The faults of the lines of a batch, by a table or by none yet."""
-
-    def __init__(self, table: Trees) -> None:
-        self.table = table
-        self.key = table.key if table else []
-
-    def of(self, line: Line) -> list[Fault]:
-        if line.word not in BLOCK_WORDS[b"batch"]:
-            return [Fault(no_block_word(line, b"batch"), line=line.number)]
-        if line.rest is None:
-            return [Fault(f"no record follows '{line.word.decode()}'", line=line.number)]
-        record, reason = record_of_line(line.rest)
-        if reason:
-            return [Fault(reason, line=line.number, around=line.text, at=len(line.word) + 1)]
-        if not self.table:
-            return []
-        offset = len(line.text) - len(record)
-        if line.word == b"ups":
-            return self.of_upsert(line, record, offset, self.table)
-        columns = self.table.columns if line.word == b"put" else self.key
-        count = len(fields(record))
-        if count != len(columns):
-            wanted = f"a {line.word.decode()} has {len(columns)} ({spelled(name for name, _ in columns)})"
-            return [length_fault(record, count, wanted, line.number, line.text, offset, most_of(columns))]
-        return field_faults(record, columns, line.number, line.text, offset)
-
-    def of_upsert(self, line: Line, record: bytes, offset: int, table: Trees) -> list[Fault]:
-        values = fields(record)
-        count, rest = divmod(len(values) - len(self.key), 3)
-        if rest or not 1 <= count <= MOST_OPERATIONS:
-            key = f"an ups has {len(self.key)} for the key ({spelled(name for name, _ in self.key)})"
-            wanted = f"{key} and then 3 for each operation, of which there are 1 to {MOST_OPERATIONS}"
-            return [length_fault(record, len(values), wanted, line.number, line.text, offset)]
-        found = field_faults(record, self.key, line.number, line.text, offset)
-        begins = [offset + start for start, _ in spans(record)]
-        for number in range(count):
-            start = len(self.key) + 3 * number
-            part, place, reason = operation_fault(table, f"operation {number + 1}", *values[start : start + 3])
-            if reason:
-                is_shown = part == 2 and values[start + 2]
-                around, at = None if is_shown else line.text, begins[start + part]
-                found.append(Fault(reason, place, line.number, around, at, *values[start + 1 : start + 3] if part else (None, None)))
-        return found
-
-
-def operation_fault(table: Trees, place: str, word: bytes, name: bytes, argument: bytes) -> tuple[int, str, str | None]:
-    """The first fault of an operation: which of its three fields it is, the place, and the reason, or None."""
-    columns = dict(table.columns)
-    if word not in OPERATIONS:
-        return 0, place, f"'{visible(word, 40)}' is not {any_of(OPERATIONS)}"
-    if name not in columns:
-        return 1, place, f"'{visible(name, 40)}' is no column ({spelled(columns)})"
-    if name in dict(table.key):
-        return 1, place, f"'{name.decode()}' is a column of the key, which no operation changes"
-    kind = columns[name]
-    if word in INT_OPERATIONS and kind != b"int":
-        return 1, place, f"'{name.decode()}' is {kind.decode()}, and {word.decode()} needs an int"
-    return 2, f"{place}, {column_place(table.columns, table.names.index(name))}", KINDS[kind].fault(argument)
+def load_records(table: Trees) -> Records:
+    """Those of a load after its header."""
+    return Records(table, b"load\n%b\r" % b",".join(table.names), b"\n.\n", b"record")
 
 
 # ---- blocks ----
 
-class SurePatterns:
-    """Patterns of what is surely without a fault, so that only the rest of a large block is looked into."""
 
-    def __init__(self, table: Trees, block: bytes, breaks: bytes = b"") -> None:
-        self.table, self.kinds = table, {word: kind.spelled for word, kind in KINDS.items()} | {b"text": text_pattern(block, breaks)}
-
-    def values(self, columns: Columns) -> bytes:
-        return b",".join(self.kinds[kind] for _, kind in columns)
-
-    def operations(self) -> bytes:
-        columns = self.table.columns[len(self.table.key) :]
-        forms = [b"set,%b,%b" % (name, self.kinds[kind]) for name, kind in columns]
-        forms += [b"(?:%b),%b,%b" % (b"|".join(INT_OPERATIONS), name, self.kinds[kind]) for name, kind in columns if kind == b"int"]
-        return b"(?:,(?:%b)){1,16}" % b"|".join(forms) if forms else rb"(?!)"
-
-    def messages(self) -> re.Pattern[bytes]:
-        """Lines of a batch that have no fault, with blank ones between them, as many as there are."""
-        columns, key = self.values(self.table.columns), self.values(self.table.key)
-        record = rb"(?=... (?![\r\n]|%b))(?:put %b|del %b|ups %b%b)" % (MARK, columns, key, key, self.operations())
-        return re.compile(rb"(?>(?> *(?:%b)?\r?)\n)*+" % record)
-
-    def records(self) -> re.Pattern[bytes]:
-        """Records of a load that have no fault, as many as there are."""
-        return re.compile(rb"(?>(?>%b)[\r\n]++)*+" % self.record())
-
-    def record(self) -> bytes:
-        return rb"(?=[^\r\n])%b" % self.values(self.table.columns)
-
-
-LINE_FEED, LINE_BREAKS = 10, rb"\r\n"
-MESSAGE = re.compile(rb"^(?> *)(?!\r?$)[^\n]+", re.MULTILINE)
-LINE = re.compile(rb"[^\n]*")
-
-
-def doubtful(block: bytes, number: int, at: int, sure: re.Pattern[bytes], one: re.Pattern[bytes]) -> Iterator[tuple[int, bytes]]:
-    """What is not surely without a fault in a block that has this line number at this place, as (line number, bytes)."""
-    while True:
-        start = matched(sure, block, at).end()
-        number += block.count(b"\n", at, start)
-        if start >= len(block):
-            return
-        found = one.match(block, start)
-        if found is None:
-            # A line break after the part that was checked before.
-            number, at = number + (block[start] == LINE_FEED), start + 1
-            continue
-        yield number, found[0]
-        number, at = number + found[0].count(b"\n"), found.end()
-
-
-def batch_faults(command: Command, table: Trees) -> Iterator[Fault]:
-    """The faults of a batch's lines, in order."""
-    faults, block = MessageFaults(table), command.block
-    sure = SurePatterns(table, block, LINE_BREAKS).messages() if table else re.compile(rb"(?> *\r?\n)*+")
-    for number, raw in doubtful(block, command.head.number + 1, 0, sure, LINE):
-        line = Line(number, raw)
-        if line.text:
-            yield from faults.of(line)
+def batch_faults(lines: Iterable[Line], table: Trees) -> Iterator[Fault]:
+    """The faults of the lines of a batch, in order, by a table or by none yet."""
+    wrong, others = [], []
+    for line in lines:
+        if line.word not in BLOCK_WORDS[b"batch"]:
+            wrong.append(Fault(no_block_word(line, b"batch"), line=line.number))
+        elif line.rest is None:
+            wrong.append(Fault(f"no record follows '{line.word.decode()}'", line=line.number))
+        elif reason := record_of_line(line.rest)[1]:
+            wrong.append(Fault(reason, line=line.number, around=line.text, at=len(line.word) + 1))
+        else:
+            others.append((line.number, line.text))
+    found = Records(table, b"batch\n", b"\nend\n").faults(others) if table else []
+    return merge(wrong, found, key=lambda fault: fault.line or 0)
 
 
 def number_faults(command: Command) -> Iterator[Fault]:
     """Why a batch has too many messages: the first one that is over the limit."""
-    if command.block.count(b"\n") < MOST_MESSAGES:
-        return
-    starts = [found.start() for found in MESSAGE.finditer(command.block)]
-    if len(starts) > MOST_MESSAGES:
-        line = command.head.number + 1 + command.block.count(b"\n", 0, starts[MOST_MESSAGES])
-        yield Fault(f"message {MOST_MESSAGES + 1:,} of {len(starts):,}, and a batch has at most {MOST_MESSAGES:,}", line=line)
+    if command.block.count(b"\n") >= MOST_MESSAGES and len(lines := command.messages()) > MOST_MESSAGES:
+        reason = f"message {MOST_MESSAGES + 1:,} of {len(lines):,}, and a batch has at most {MOST_MESSAGES:,}"
+        yield Fault(reason, line=lines[MOST_MESSAGES].number)
 
 
 def load_faults(command: Command, table: Trees) -> Iterator[Fault]:
     """The faults of the records of a load, after its header."""
-    block = command.block
-    header = RECORD.search(block, len(MARK) if block.startswith(MARK) else 0)
-    if header is None:
-        return
-    yield from faults_of_records(block, command.head.number + 1 + block.count(b"\n", 0, header.end()), header.end(), table)
-
-
-def faults_of_records(text: bytes, number: int, at: int, table: Trees) -> Iterator[Fault]:
-    """The faults of the records of a CSV text, from a place in it on that has this line number."""
-    columns, names = table.columns, spelled(table.names)
-    for number, raw in doubtful(text, number, at, SurePatterns(table, text).records(), RECORD):
-        count = len(fields(raw))
-        if count != len(columns):
-            yield record_length_fault(raw, count, columns, names, number)
-        else:
-            yield from field_faults(raw, columns, number, raw, 0)
-
-
-def record_length_fault(raw: bytes, count: int, columns: Columns, names: str, number: int) -> Fault:
-    if raw.strip(b" \t") == b".":
-        return Fault(f"'{visible(raw, 20)}' does not close the block: a closing line is '.' exactly", line=number)
-    return length_fault(raw, count, f"a record has {len(columns)} ({names})", number, raw, 0, most_of(columns))
+    return load_records(table).faults(islice(command.records(), 1, None))
 
 
 def header_faults(command: Command, table: Trees) -> list[Fault]:
     """Why the header of a load is none."""
     number, raw = next(command.records(), (None, b""))
-    if number is None:
+    header = Records(table, b"load\n" + MARK, b"\n.\n", b"header")
+    reason = header.reason([raw])
+    if reason and reason.problem == Problem.NO_HEADER:
         return [Fault("the block has no header")]
-    names = fields(raw)
-    if raw.startswith(MARK):
+    if reason and reason.problem == Problem.SECOND_MARK:
         return [Fault("a second byte order mark is before the header", line=number, around=raw)]
-    if len(names) != len(table.names):
-        return [length_fault(raw, len(names), f"the table has {counted(len(table.names), 'column')}", number, raw, 0)]
-    return [
-        Fault(f"the header has '{visible(name, 40)}' there", f"column {place} '{wanted.decode()}'", number)
-        for place, (name, wanted) in enumerate(zip(names, table.names), 1)
-        if name != wanted
-    ]
+    return list(header.faults_of(number, raw, reason))
 
 
 def key_pattern(key: Columns) -> re.Pattern[bytes]:
@@ -327,30 +287,11 @@ def bound_faults(command: Command, table: Trees) -> Iterator[Fault]:
         elif reasons := record_reasons(line):
             yield Fault(reasons[0], line=line.number, around=line.text, at=len(line.word) + 1)
         elif table.has_tree(tree):
-            yield from bound_field_faults(line, table.key_of(tree), tree.decode())
+            yield from Records(table, b"scan %b\n" % tree, b"\ngo\n", tree=tree).faults([(line.number, line.text)])
         numbers.setdefault(line.word, line.number)
 
 
-def bound_field_faults(line: Line, columns: Columns, tree: str) -> list[Fault]:
-    record, _ = record_of_line(line.rest or b"")
-    count, offset = len(fields(record)), len(line.text) - len(record)
-    if count > len(columns):
-        wanted = f"a bound of {tree} has at most {len(columns)} ({spelled(name for name, _ in columns)})"
-        return [length_fault(record, count, wanted, line.number, line.text, offset)]
-    return field_faults(record, columns, line.number, line.text, offset)
-
-
 # ---- refusals of one line ----
-
-
-def get_faults(command: Command, table: Trees) -> list[Fault]:
-    head = command.head
-    record, _ = record_of_line(head.rest or b"")
-    count, offset = len(fields(record)), len(head.text) - len(record)
-    if count != len(table.key):
-        wanted = f"a get has {len(table.key)} ({spelled(name for name, _ in table.key)})"
-        return [length_fault(record, count, wanted, None, head.text, offset)]
-    return field_faults(record, table.key, None, head.text, offset)
 
 
 def sums_faults(command: Command, table: Trees) -> Iterator[Fault]:
@@ -385,7 +326,7 @@ def index_faults(command: Command, table: Trees) -> Iterator[Fault]:
             yield Fault(f"'{name.decode()}' is no column: {spelled(table.names)}")
     if condition and condition[0] in table.names:
         place = table.names.index(condition[0])
-        if reason := KINDS[table.kinds[place]].fault(condition[2]):
+        if reason := value_fault(table.kinds[place].decode(), condition[2]):
             more = "; an index has one condition" if re.search(rb"(?i) (?:and|or) ", condition[2]) else ""
             yield Fault(reason + more, column_place(table.columns, place))
 
@@ -427,7 +368,7 @@ def tree_faults(command: Command, table: Trees) -> Iterator[Fault]:
 def block_faults(command: Command, table: Trees) -> Iterable[Fault]:
     """The faults of the lines of a block, in order."""
     if command.head.word == b"batch":
-        return batch_faults(command, table)
+        return batch_faults(command.messages(), table)
     return bound_faults(command, table) if command.closing == b"go" else []
 
 
@@ -452,7 +393,7 @@ def faults_of_refusal(command: Command, number: int, table: Trees) -> Iterable[F
     if word == b"load":
         return header_faults(command, table) if number == 5 else load_faults(command, table) if number in (6, 7) else []
     if word == b"get":
-        return get_faults(command, table)
+        return Records(table, b"", b"\n").faults([(None, command.head.text)])
     if word == b"index":
         return index_faults(command, table)
     too_many = number_faults(command) if word == b"batch" else []
@@ -465,10 +406,10 @@ COMMAND_LINE = re.compile(rb"\n( *(?:%b)(?:[ \r][^\n]*)?)$" % b"|".join(FORMS), 
 def swallowed_line(command: Command, table: Trees) -> Line | None:
     """The first line of a block that looks like a command, and of a load is no record of the table."""
     text, number, at = b"\n" + command.block, command.head.number, 0
-    sure = re.compile(SurePatterns(table, command.block).record()) if table and command.head.word == b"load" else None
+    records = load_records(table) if table and command.head.word == b"load" else None
     for found in COMMAND_LINE.finditer(text):
         number, at = number + text.count(b"\n", at, found.start(1)), found.start(1)
         line = Line(number, found[1])
-        if line.begins_command() and not (sure and sure.fullmatch(line.raw.removesuffix(b"\r"))):
+        if line.begins_command() and (records is None or records.reason([line.raw.removesuffix(b"\r")])):
             return line
     return None

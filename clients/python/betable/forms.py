@@ -6,8 +6,7 @@ from typing import Iterable
 
 from .advice import instead_of, reason_for_more_words
 from .language import (
-    BLOCK_WORDS, BUFFER, CLOSING, COMMANDS, FORMS, KINDS, Line, MARK, MOST_DIGITS, MOST_NAME_BYTES, NAME, NUMBER, OF_TREES, OPERATORS, any_of, fault_of_int,
-    fields, int_of, record_of_line, visible,
+    BLOCK_WORDS, BUFFER, CLOSING, COMMANDS, FORMS, INT, KINDS, Line, MARK, MOST_DIGITS, MOST_NAME_BYTES, NAME, NUMBER, OF_TREES, OPERATORS, any_of, fields, int_of, record_of_line, visible,
 )  # fmt: skip
 
 TAB = b"\t"
@@ -209,7 +208,7 @@ def where_faults(line: Line, words: list[bytes]) -> list[str | None]:
     if len(words) == 1:
         return [*found, "OP and the record are missing: an operator is =, < or >="]
     if words[1] not in OPERATORS:
-        number = int_of(words[2]) if len(words) == 3 and fault_of_int(words[2]) is None else None
+        number = int_of(words[2]) if len(words) == 3 and INT.fullmatch(words[2]) else None
         following = {b">": f"of ints '> {number}' is '>= {(number or 0) + 1}'", b"<=": f"of ints '<= {number}' is '< {(number or 0) + 1}'"}.get(words[1])
         advice = f"; {following}" if following and number is not None else ""
         return [*found, f"'{visible(words[1], 40)}' is no operator: =, < or >={advice}"]

@@ -8,10 +8,10 @@ Bytes stay bytes: a script, a line, a name, a kind and a field are bytes, and wh
 
 import re
 from functools import cached_property
-from typing import Callable, Iterable, Iterator, Literal, NamedTuple, TypeAlias
+from itertools import islice
+from typing import Callable, Iterable, Iterator, Literal, NamedTuple, Sequence, TypeAlias
 
 from .limits import *  # noqa: F403
-from .limits import MOST_TEXT_BYTES
 
 # The names and kinds of columns, in order.
 Columns: TypeAlias = list[tuple[bytes, bytes]]
@@ -56,13 +56,13 @@ CHANGING = {word for word, form in COMMANDS.items() if form.changes != "nothing"
 OF_TREES = [word for word, form in COMMANDS.items() if form.names == "a tree"]
 OF_INDEXES = [word for word, form in COMMANDS.items() if form.names == "an index"]
 
-# The words of an upsert's operations, those of them that only an int takes, and the operators of `where`.
+# The words of an upsert's operations, and the operators of `where`.
 OPERATIONS = (b"set", b"add", b"max", b"min")
-INT_OPERATIONS = OPERATIONS[1:]
 OPERATORS = (b"=", b"<", b">=")
 
 NAME = re.compile(rb"[a-z][a-z0-9_]{0,31}")
 NUMBER = re.compile(rb"[0-9]{1,9}")
+INT = re.compile(rb"-?[0-9]+")  # the form of an int of any size
 BUFFER = re.compile(rb"[0-9]{1,9}b?")
 INDEX = re.compile(rb"index +\S+ +on +(\S+)(?: +include +(\S+))?(?: +where +(\S+) +(=|<|>=) (.*))? *\Z", re.DOTALL)
 
@@ -121,20 +121,6 @@ def counted(number: int, one: str, many: str | None = None) -> str:
 # ---- kinds ----
 
 
-def fault_of_int(field: bytes) -> str | None:
-    """Why a field is no int, or None."""
-    digits = field.removeprefix(b"-")
-    if not (digits.isdigit() and digits.isascii()):
-        return reason_for_no_number(field)
-    is_negative = field.startswith(b"-")
-    # Thirty digits are too many in any case, and a field may have millions.
-    size = int_of(digits.lstrip(b"0")[:30])
-    if size <= (-LEAST_INT if is_negative else GREATEST_INT):
-        return None
-    limit = f"below the smallest int, {LEAST_INT}" if is_negative else f"over the largest int, {GREATEST_INT}"
-    return f"'{visible(field, 40)}' is {limit}"
-
-
 def int_of(field: bytes) -> int:
     """The value of an int. A field may have any number of zeros, and Python reads at most 4,300 digits."""
     size = int(field.removeprefix(b"-").lstrip(b"0") or b"0")
@@ -154,9 +140,9 @@ def reason_for_no_number(field: bytes) -> str:
         return "the field is empty, and there is no null: write a number for it, as 0 or -1"
     text = f"'{visible(field, 40)}'"
     inside = field.removeprefix(MARK).strip(b" \t\xc2\xa0")
-    if inside != field and fault_of_int(inside) is None:
+    if inside != field and INT.fullmatch(inside):
         return f"{text} has {blanks_named(field, inside)}, and nothing is trimmed"
-    if field.startswith(b"+") and fault_of_int(field[1:]) is None:
+    if field.startswith(b"+") and INT.fullmatch(field[1:]):
         return f"{text} has a '+', which an int has not"
     if re.fullmatch(rb"-?[0-9]+[.,][0-9]+", field):
         return f"{text} is no whole number: decimals are stored as ints of a fixed unit, as 1250 for 12.50"
@@ -164,7 +150,7 @@ def reason_for_no_number(field: bytes) -> str:
         return f"{text} is no whole number, and there is no null: write a number for it, as 0 or -1"
     if field.startswith(b"'") and field.endswith(b"'"):
         return f"{text} is no whole number: single quotes are letters"
-    if field.endswith(b";") and fault_of_int(field[:-1]) is None:
+    if field.endswith(b";") and INT.fullmatch(field[:-1]):
         return f"{text} ends with a semicolon, which no line has"
     return f"{text} is no whole number"
 
@@ -176,73 +162,19 @@ def blanks_named(field: bytes, inside: bytes) -> str:
     return " and ".join(name for blank, name in names if blank in around) + (" before it" if field.endswith(inside) else " after it")
 
 
-def fault_of_text(field: bytes) -> str | None:
-    """Why a field is no text, or None."""
-    if len(field) > MOST_TEXT_BYTES:
-        return f"{len(field):,} bytes, and a text has at most {MOST_TEXT_BYTES}: '{visible(field, 40)}'"
-    try:
-        field.decode("utf-8")
-    except UnicodeDecodeError as fault:
-        return f"byte {fault.start + 1} of '{visible(field, 40, fault.start)}' is {field[fault.start]:02X}, which is no UTF-8 there"
-    return None
+class Kind(NamedTuple):
+    """A kind of a column: `printed` gives a field as it is printed, and `as_printed` is a pattern of fields that are printed as they are."""
+
+    printed: Callable[[bytes], bytes]
+    as_printed: bytes
 
 
-def fault_of_flag(field: bytes) -> str | None:
-    """Why a field is no flag, or None."""
-    if field.lower() in (b"true", b"false"):
-        return None
-    if not field:
-        return "the field is empty, and a flag is true or false"
-    return f"'{visible(field, 40)}' is neither true nor false"
-
-
-def fault_of_bytes(field: bytes) -> str | None:
-    """Why a field is no bytes, or None."""
-    wrong = next((place for place, byte in enumerate(field) if byte not in HEXADECIMAL), None)
-    if wrong is not None:
-        return f"letter {wrong + 1} of '{visible(field, 40, wrong)}' is no hexadecimal digit"
-    if len(field) % 2:
-        return f"'{visible(field, 40)}' has {counted(len(field), 'digit')}, and bytes have two each"
-    if len(field) > 2 * MOST_TEXT_BYTES:
-        return f"{len(field) // 2:,} bytes, and a value has at most {MOST_TEXT_BYTES}: '{visible(field, 40)}'"
-    return None
-
-
-HEXADECIMAL = b"0123456789abcdefABCDEF"
-
-
-class Kind:
-    """A kind of a column.
-
-    `fault` gives the reason why a field is no value of it, or None, `printed` a field as it is printed. `spelled` is a pattern of
-    fields that are surely values of it, with or without quotes, and `as_printed` one of fields that are printed as they are.
-    """
-
-    def __init__(
-        self, name: str, fault: Callable[[bytes], str | None], printed: Callable[[bytes], bytes], spelled: bytes, as_printed: bytes
-    ) -> None:
-        self.name, self.as_printed = name, as_printed
-        self.fault, self.printed = fault, printed
-        self.spelled = rb'(?:%b|"%b")' % (spelled, spelled)
-
-
-# Bytes of a text need not be UTF-8: `text_pattern` says of a block which are surely texts.
 KINDS = {
-    b"int": Kind("int", fault_of_int, lambda field: b"%d" % int_of(field), rb"-?[0-9]{1,18}", rb"(?:0|-?[1-9][0-9]{0,17})"),
-    b"text": Kind("text", fault_of_text, lambda field: field, rb"[a-z]{0,255}", rb'[^",\r\n]*'),
-    b"flag": Kind("flag", fault_of_flag, lambda field: field.lower(), rb"(?i:true|false)", rb"(?:true|false)"),
-    b"bytes": Kind("bytes", fault_of_bytes, lambda field: field.lower(), rb"(?:[0-9a-fA-F]{2}){0,255}", rb"(?:[0-9a-f]{2})*"),
+    b"int": Kind(lambda field: b"%d" % int_of(field), rb"(?:0|-?[1-9][0-9]{0,17})"),
+    b"text": Kind(lambda field: field, rb'[^",\r\n]*'),
+    b"flag": Kind(lambda field: field.lower(), rb"(?:true|false)"),
+    b"bytes": Kind(lambda field: field.lower(), rb"(?:[0-9a-f]{2})*"),
 }
-
-
-def text_pattern(block: bytes, breaks: bytes) -> bytes:
-    """A pattern of texts: of a block that is UTF-8 any bytes make one, and else only those of ASCII. `breaks` are not in quotes."""
-    try:
-        block.decode("utf-8")
-        high = b""
-    except UnicodeDecodeError:
-        high = rb"\x80-\xff"
-    return rb'(?:"[^"%b%b]{0,255}"|(?!")[^,\r\n%b]{0,255})' % (breaks, high, high)
 
 
 def any_of(names: Iterable[bytes]) -> str:
@@ -286,22 +218,6 @@ def matched(pattern: re.Pattern[bytes], text: bytes, at: int = 0) -> re.Match[by
     return found
 
 
-class Record:
-    """A record: the number of the line in which it begins, and its bytes as they are."""
-
-    def __init__(self, number: int, raw: bytes) -> None:
-        self.number, self.raw = number, raw
-
-    @cached_property
-    def spans(self) -> list[tuple[int, int]]:
-        """Where each field begins and ends, with its quotes."""
-        return spans(self.raw)
-
-    @cached_property
-    def fields(self) -> list[bytes]:
-        return fields(self.raw)
-
-
 def spans(raw: bytes) -> list[tuple[int, int]]:
     """Where each field of a record begins and ends, with its quotes."""
     found, start = [], 0
@@ -335,6 +251,12 @@ def records(text: bytes, number: int = 1) -> Iterator[tuple[int, bytes]]:
         number += text.count(b"\n", at, found.start())
         at = found.start()
         yield number, found[0]
+
+
+def has_line_breaks(records: Sequence[bytes]) -> bool:
+    """Whether a text of a record has a line break."""
+    together = b"".join(records)
+    return b"\n" in together or b"\r" in together
 
 
 def record_of_line(rest: bytes) -> tuple[bytes, str | None]:
@@ -436,6 +358,14 @@ class Command:
     def records(self) -> Iterator[tuple[int, bytes]]:
         """The records of the block of a load, as (line, bytes), the header first."""
         return records(self.block, self.head.number + 1)
+
+    def line_of(self, item: int | None) -> int:
+        """The line of the item that a refusal names: of a message, or of a record after the header, and otherwise the first line."""
+        if item is not None and self.head.word == b"batch":
+            return self.messages()[item - 1].number
+        if item is not None and self.head.word == b"load":
+            return next((number for number, _ in islice(self.records(), item, None)), self.head.number)
+        return self.head.number
 
     def broken_quotes(self) -> Iterable[BrokenQuote]:
         """What looks broken among the quotes of a load's block, or of the lines of a batch."""

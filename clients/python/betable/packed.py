@@ -21,9 +21,9 @@ TREE = struct.Struct("<B2Q")
 MOST_ROWS = 2**32 - 1
 KINDS = {0: "int", 1: "text", 2: "flag", 4: "bytes"}
 # The refusals of changes, by their numbers, and those whose reply has the number of an item.
-REFUSALS = {1: b"Syntax", 3: b"NoTable", 6: b"BadField", 7: b"BadLength", 15: b"NoSuchColumn", 16: b"NotInt", 18: b"Failed"}
-BAD_FIELD, BAD_LENGTH = 6, 7
-WITH_ITEM = (BAD_FIELD, BAD_LENGTH)
+REFUSALS = {1: b"Syntax", 3: b"NoTable", 6: b"BadField", 7: b"BadLength", 10: b"TooMany", 15: b"NoSuchColumn", 16: b"NotInt", 18: b"Failed"}
+BAD_FIELD = 6
+WITH_ITEM = (BAD_FIELD, 7)
 CODES = {kind: code for code, kind in KINDS.items()}
 
 

@@ -9,6 +9,7 @@ from typing import Any, Protocol, TypeVar
 
 from .calls import Bound, Calls, Row
 from .packed import Usage
+from .reasons import Reason
 from .rows import ColumnValues
 from .schema import TreeColumn, Trees
 from .session import ScriptSession
@@ -63,6 +64,9 @@ class Reads(Calls):
 
     def check(self, script: str | bytes) -> list[int]:
         return self._read(lambda reader: reader.check(script))
+
+    def explain(self, script: str | bytes) -> Reason | None:
+        return self._read(lambda reader: reader.explain(script))
 
 
 class Runner(Protocol):

@@ -20,7 +20,8 @@ from collections.abc import Callable, Iterator, Mapping, Sequence, Set
 from typing import Any, TypeAlias, TypeVar
 
 from .errors import RowTypeError, RowValueError
-from .language import GREATEST_INT, KINDS, LEAST_INT, counted, int_of
+from .language import GREATEST_INT, LEAST_INT, counted, int_of
+from .reasons import value_fault
 from .schema import TreeColumn
 
 T = TypeVar("T")
@@ -418,10 +419,9 @@ def line_field(value: Any, column: TreeColumn, row: int | None, taken: int = 0) 
 
 def value_of_field(field: str, column: TreeColumn) -> Value:
     """The value of a field of a column. A ValueError says why it is none."""
-    kind, given = KINDS[column.kind.encode()], field.encode()
-    if reason := kind.fault(given):
+    if reason := value_fault(column.kind, field.encode()):
         raise ValueError(f"column '{column.name}' ({column.kind}): {reason}")
-    return VALUES[column.kind](kind.printed(given).decode())
+    return values_of_fields([field], column.kind)[0]
 
 
 def values_of_fields(fields: Sequence[str], kind: str) -> list[Value]:

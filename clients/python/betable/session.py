@@ -26,6 +26,7 @@ from .errors import OutOfMemory
 from .language import DEFINING, counted
 from .messages import Message, Shape
 from .packed import BAD_FIELD, HEADER_OF_NONE, Usage, columns_of_reply, description, name_bytes, refusal_reply, trees_of_reply, usage_of_reply
+from .reasons import Problem, Reason
 from .replies import Place
 from .rows import ColumnValues, plain_key
 from .schema import UNKNOWN, Tree, TreeColumn, Trees
@@ -59,6 +60,10 @@ class _Fault(ctypes.Structure):
     _fields_ = [("refusal", ctypes.c_uint64), ("item", ctypes.c_uint64), ("column", ctypes.c_uint64)]
 
 
+class _Reason(ctypes.Structure):
+    _fields_ = [("refusal", ctypes.c_uint64), ("item", ctypes.c_uint64), ("field", ctypes.c_uint64), ("problem", ctypes.c_uint32)]
+
+
 class _ReplyPlace(ctypes.Structure):
     _fields_ = [("offset", ctypes.c_uint64), ("length", ctypes.c_uint64), ("kind", ctypes.c_uint32)]
 
@@ -88,6 +93,7 @@ def _loaded_library() -> ctypes.CDLL:
         ("betable_open", [handle], ctypes.c_uint),
         ("betable_run", [handle, ctypes.c_char_p, size], ctypes.c_uint),
         ("betable_check", [handle, ctypes.c_char_p, size], ctypes.c_uint),
+        ("betable_explain", [handle, ctypes.c_char_p, size, ctypes.POINTER(_Reason)], ctypes.c_uint),
         ("betable_apply", of_packed, ctypes.c_uint),
         ("betable_columns", of_packed, ctypes.c_uint),
         ("betable_usage", of_packed, ctypes.c_uint),
@@ -206,6 +212,17 @@ class ScriptSession(Calls):
         if status != DONE:
             self._raise_out_of_memory()
         return [number for number, (_, _, is_refused) in enumerate(places) if is_refused]
+
+    def explain(self, script: str | bytes) -> Reason | None:
+        """Why the first command of a script would be refused because of its records, on the table as it is: the lines of a batch, the key of a get, the text of
+        a load, or the bounds of a scan or of sums. None if it would not be. Of several faults it is that of the refusal in the reply, and of these the first.
+        The command is not carried out, and the replies are kept."""
+        given, reason = as_script(script), _Reason()
+        with self._calls():
+            status = self._library.betable_explain(self._open_handle(), given, len(given), reason)
+        if status == OUT_OF_MEMORY:
+            self._raise_out_of_memory()
+        return Reason(reason.refusal, reason.item, reason.field, Problem(reason.problem)) if status == REFUSED else None
 
     def _replies_with_places(self, script: bytes) -> tuple[bytes, list[Place] | None]:
         return self._ran(script, True)

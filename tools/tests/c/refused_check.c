@@ -1,4 +1,5 @@
-/* Refuses each allocation of a check, one per session, alone and with all that follow it, and checks what it keeps and the state of the table.
+/* Refuses each allocation of a check, one per session, alone and with all that follow it, and checks what it keeps and the state of the table. Then those of
+ * betable_explain, which keeps the replies too.
  *
  * Linked with -Wl,--wrap=malloc,--wrap=realloc,--wrap=free. A check ends as it does with enough memory, or with OUT_OF_MEMORY and no command. The table is as
  * it was in both cases, and a check that is made again with enough memory ends as it should. A table that is lost, because memory ran out while it was changed,
@@ -42,7 +43,7 @@ static const request REQUEST[] = {
 static const char INDEX[] = "index begun on ok\n";
 static const char IMAGES_OF_ALL[] = "image primary\nimage by_city\nimage large\nimage begun\nimage new\n";
 
-static long unchanged = 0, ended_as_ever = 0;
+static long unchanged = 0, ended_as_ever = 0, unexplained = 0;
 
 static int fail(const char *name, long number, const char *what) {
     printf("%s, request %ld: %s\n", name, number, what);
@@ -176,6 +177,33 @@ static int try_lost_table(void) {
     return fail("a lost table", 0, "none was lost");
 }
 
+/* All refusals of an explanation: it keeps the table and the replies, and frees its memory. */
+static int try_explain(const char *script) {
+    static message images, found;
+    betable_session session = session_from(FILLED);
+    betable_reason reason;
+    run(&session, IMAGES_OF_ALL, &images);
+    long in_use = blocks;
+    for (is_one = 0; is_one < 2; is_one++) {
+        for (long number = 0, is_reached = 1; is_reached; number++) {
+            refuse(number);
+            betable_status status = betable_explain(&session, (const unsigned char *)script, strlen(script), &reason);
+            is_reached = end_refusals();
+            found.length = betable_copy_replies(&session, 0, found.at, sizeof found.at);
+            if (status != BETABLE_REFUSED && !(is_reached && status == BETABLE_OUT_OF_MEMORY)) {
+                return fail(script, number, "an explanation with another status");
+            }
+            if (blocks != in_use || !is_same(&found, &images)) {
+                return fail(script, number, "memory that is not freed, or other replies");
+            }
+            unexplained += status == BETABLE_OUT_OF_MEMORY;
+        }
+    }
+    int is_kept = has_images(&session, &images);
+    betable_close(&session);
+    return is_kept ? 0 : fail(script, 0, "another table than before");
+}
+
 int main(void) {
     betable_session closed = BETABLE_CLOSED;
     if (check(&closed, "get 1\n") != BETABLE_NOT_OPEN || !has_kinds(&closed, "")) {
@@ -186,9 +214,10 @@ int main(void) {
             return 1;
         }
     }
-    if (try_lost_table() != 0) {
+    if (try_lost_table() != 0 || try_explain("get \"x\"\n") != 0 || try_explain("batch\nput 1,\"a, b\",true,0,9\nend\n") != 0 ||
+        try_explain("load\nid,city,ok,raw,qty\n1,\"a, b\",true,,x\n.\n") != 0 || try_explain("scan by_city\nfrom \"a, b\",x\ngo\n") != 0) {
         return 1;
     }
-    printf("%ld checks without memory, %ld that ended as ever\n", unchanged, ended_as_ever);
-    return unchanged > 0 ? 0 : 5;
+    printf("%ld checks without memory, %ld that ended as ever, and %ld explanations without memory\n", unchanged, ended_as_ever, unexplained);
+    return unchanged > 0 && unexplained > 0 ? 0 : 5;
 }

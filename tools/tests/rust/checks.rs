@@ -3,10 +3,10 @@
 //!     checks SCRIPT PLACE .. [-- SCRIPT PLACE ..] ..
 //!
 //! PLACE .. are the places at which the commands of a script begin, and its end. A check of a command says that it would be refused exactly if the run refuses
-//! it. At the end the whole script is checked in one call, which says the same as checks of its commands. Prints how many commands were refused, and how many
-//! were not.
+//! it. At the end the whole script is checked in one call, which says the same as checks of its commands. The reason of a command is that of its refusal, and a
+//! record of another length has one. Prints how many commands were refused, and how many were not.
 
-use betable::{OutOfMemory, Reply, Session};
+use betable::{OutOfMemory, Problem, Reply, Session};
 
 /// The places of the replies that are refusals.
 fn places_refused(replies: impl Iterator<Item = Reply>) -> Vec<usize> {
@@ -21,7 +21,16 @@ fn check(words: &[String]) -> Result<(usize, usize), OutOfMemory> {
     let commands: Vec<&[u8]> = places.windows(2).map(|place| &script[place[0]..place[1]]).collect();
     for command in &commands {
         let would_be = session.check(command)?;
+        let reason = session.explain(command)?;
         let replies = session.run(command)?;
+        match replies.iter().next() {
+            Some(Reply::Refused(refusal)) => {
+                assert!(reason.is_some() || refusal.number != 7);
+                assert!(reason.map_or(true, |reason| reason.refusal == refusal.number.into() && refusal.item.map_or(true, |item| item == reason.item)));
+                assert_eq!(refusal.number == 7, reason.is_some_and(|reason| reason.field.is_none() && reason.problem == Problem::FieldCount && reason.refusal != 5));
+            }
+            _ => assert_eq!(reason, None),
+        }
         assert_eq!(would_be, places_refused(replies.iter()), "{}: {}", words[0], String::from_utf8_lossy(command));
         assert_eq!(would_be.len(), replies.refused_count());
         refused += would_be.len();

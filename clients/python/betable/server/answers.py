@@ -71,13 +71,13 @@ def _json_replies(script: bytes, answer: Answer, trees: Trees, refused: int) -> 
 
 def _explained(command: Command, reply: bytes, trees: Trees) -> dict[str, Any]:
     fault = refusal(command, reply, trees, [])
-    return {**refusal_fields(fault), "line": line_at_fault(command, fault.item), "reason": fault.reason}
+    return {**refusal_fields(fault), "line": command.line_of(fault.item), "reason": fault.reason}
 
 
 def _unexplained(command: Command, reply: bytes) -> dict[str, Any]:
     _, number, name, *item = reply.decode().split()
     known = {"item": int(item[0])} if item else {}
-    return {"number": int(number), "name": name, "line": line_at_fault(command, known.get("item")), **known}
+    return {"number": int(number), "name": name, "line": command.line_of(known.get("item")), **known}
 
 
 def _blocks_of_lines(reply: bytes) -> Iterator[list[str]]:
@@ -109,19 +109,10 @@ def refusal_of_batch(batch: Batch, replies: bytes, trees: Trees) -> Problem:
     fault = refusal(command, replies, trees, [])
     problem = problem_of(fault)
     if fault.item is not None:
-        problem.fields[batch.unit] = line_at_fault(command, fault.item) - 1 if batch.places is None else batch.places[fault.item - 1]
+        problem.fields[batch.unit] = command.line_of(fault.item) - 1 if batch.places is None else batch.places[fault.item - 1]
     if batch.value is not None:
         problem.fields["value"] = batch.value.decode(errors="replace")
     return problem
-
-
-def line_at_fault(command: Command, item: int | None) -> int:
-    """The line of the script that is at fault in a command that was refused with this item: that of the message or the record, or the first."""
-    if item is not None and command.head.word == b"batch":
-        return command.messages()[item - 1].number
-    if item is not None and command.head.word == b"load":
-        return next((number for number, _ in islice(command.records(), item, None)), command.head.number)
-    return command.head.number
 
 
 def first_reason(script: bytes, replies: bytes, trees: Trees) -> str:
@@ -129,7 +120,7 @@ def first_reason(script: bytes, replies: bytes, trees: Trees) -> str:
     for command, reply, is_refused in answered(commands(script), replies):
         if is_refused:
             fault = refusal(command, reply, trees, [])
-            reason = " ".join(f"line {line_at_fault(command, fault.item)}: {fault.reason}".split())
+            reason = " ".join(f"line {command.line_of(fault.item)}: {fault.reason}".split())
             return reason.encode("ascii", "backslashreplace").decode()[:MOST_REASON]
         trees = trees_after(trees, command, reply)
     return ""

@@ -4,16 +4,17 @@ from __future__ import annotations
 
 import json
 import re
-from collections.abc import Iterable, Iterator, Sequence
+from collections.abc import Iterable, Sequence
 from typing import Any, NamedTuple
 
 from aiohttp import web
 
 from ..batches import WORDS, operations_of as packed_operations_of
-from ..language import KINDS, MARK, MOST_MESSAGES, QUOTED_FIELD, RECORD, SOUND_FIELD, broken_quotes, fields, matched, visible
-from ..packed import BAD_FIELD, BAD_LENGTH, HEADER, MAGIC, VALUE_BYTES, refusal_reply
-from ..rows import JSON_TYPES, value_of_field
-from ..schema import Tree, TreeColumn
+from ..language import MARK, QUOTED_FIELD, RECORD, SOUND_FIELD, broken_quotes, fields, matched, visible
+from ..packed import HEADER, MAGIC, VALUE_BYTES, refusal_reply
+from ..reasons import SPACES_OF_BREAKS, Reason, empty_session
+from ..rows import JSON_TYPES, values_of_fields
+from ..schema import Tree, TreeColumn, Trees
 from .requests import Problem, checked_name
 
 BLANK_LINES = re.compile(rb"^\r?\n|\n\r?\n")
@@ -155,7 +156,7 @@ class Form:
 
     def __init__(self, word: str, columns: Sequence[TreeColumn], there: Tree, operations: Sequence[Operation] = ()) -> None:
         self.word, self.columns, self.operations = word, columns, operations
-        self._key_length = len(columns) - len(operations)
+        self._key_length, self._there = len(columns) - len(operations), there
         # The operations of packed changes, or None if the library refuses them whatever their arguments are.
         self._packed_operations = packed_operations_of(tuple((one.word, one.column) for one in operations), there)
 
@@ -177,29 +178,18 @@ class Form:
         script = self.script([value.translate(SPACES_OF_BREAKS) for value in values] for values in messages)
         if self._packed_operations is None:
             return Batch(script, places, unit)
-        if len(messages) > MOST_MESSAGES:
-            return Batch(script, places, unit, refusal=b"refused 10 TooMany\n")
-        # Of several faults a script is refused for the one with the lowest number.
-        if wrong := min(self._faults(messages), key=lambda fault: fault[:2], default=None):
-            number, item, value = wrong
-            return Batch(script, places, unit, refusal=refusal_reply(number, item), value=value)
+        if reason := empty_session(Trees([self._there])).explain(script):
+            return Batch(script, places, unit, refusal=refusal_reply(reason.refusal, reason.item), value=self._value(messages, reason))
         return Batch(script, places, unit, HEADER.pack(MAGIC, len(messages)) + b"".join(map(self._packed, messages)))
 
-    def _faults(self, messages: Sequence[Sequence[bytes]]) -> Iterator[tuple[int, int, bytes | None]]:
-        """The refusals of messages that are wrong: their numbers, those of the messages, and the values at fault."""
-        kinds = [KINDS[column.kind.encode()] for column in self.columns]
-        for item, values in enumerate(messages, 1):
-            if len(values) != len(kinds):
-                yield BAD_LENGTH, item, None
-                continue
-            for value, kind in zip(values, kinds):
-                if kind.fault(value):
-                    yield BAD_FIELD, item, value
-                    break
+    def _value(self, messages: Sequence[Sequence[bytes]], reason: Reason) -> bytes | None:
+        """The value at fault, if it is one: the fields of an operation are its word, its column and its value."""
+        key, place = self._key_length, reason.field - 1
+        return messages[reason.item - 1][place if place < key or not self.operations else key + (place - key) // 3] if reason.field else None
 
     def _packed(self, values: Sequence[bytes]) -> bytes:
         """A message as a packed change."""
-        found = [VALUE_BYTES[column.kind](value_of_field(value.decode(), column)) for value, column in zip(values, self.columns)]
+        found = [VALUE_BYTES[column.kind](values_of_fields([value.decode()], column.kind)[0]) for value, column in zip(values, self.columns)]
         head, operations = bytes([WORDS[self.word]]), self._packed_operations
         if self.word != "ups" or operations is None:
             return head + b"".join(found)
@@ -208,7 +198,6 @@ class Form:
         return b"".join([head, *found[:count], bytes([len(arguments)]), *arguments])
 
 
-SPACES_OF_BREAKS = bytes.maketrans(b"\n\r", b"  ")
 # The lines of a text in which each record has a line, and no quote looks broken.
 ONE_LINE_RECORDS = re.compile(rb'(?>[^"\n]*+\n|(?>%b)?+%b(?>,%b)*+\r?\n)*+' % (MARK, SOUND_FIELD, SOUND_FIELD))
 

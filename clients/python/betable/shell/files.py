@@ -11,12 +11,13 @@ from pathlib import Path
 from typing import BinaryIO, NamedTuple
 
 from ..calls import Calls, ends_load
-from ..csv_input import Part, has_line_breaks, rows_of_records, wrong_records
+from ..csv_input import Part, rows_of_records, wrong_records
 from ..errors import RowValueError
 from ..faults import MEANINGS, header_faults
 from ..language import (
-    CLOSING, KINDS, MARK, MOST_MESSAGES, MOST_SCRIPT_BYTES, NAME, RECORD, Command, Line, counted, fields, printed_record, records,
+    CLOSING, MARK, MOST_MESSAGES, MOST_SCRIPT_BYTES, NAME, RECORD, Command, Line, counted, fields, has_line_breaks, printed_record, records,
 )  # fmt: skip
+from ..reasons import problem_of
 from ..replies import line_blocks
 from ..schema import Tree, Trees
 
@@ -200,9 +201,9 @@ def suggested_table(path: str) -> str:
         raise FileFault(f"{path}: its first record has no names that a table can have, as id or city_name: tools/from_csv --csv writes a file with such names")
     columns = []
     for name, *values in zip(*found):
-        kind = next(kind for kind in (b"int", b"flag", b"text") if kind == b"text" or all(KINDS[kind].fault(value) is None for value in values))
-        columns.append(b"%b:%b" % (name, kind))
-    return f"table 16 1024 256 1 {b' '.join(columns).decode()}"
+        kind = next(kind for kind in ("int", "flag", "text") if kind == "text" or not any(problem_of(kind, value) for value in values))
+        columns.append(f"{name.decode()}:{kind}")
+    return f"table 16 1024 256 1 {' '.join(columns)}"
 
 
 # ---- CSV out ----

@@ -22,7 +22,7 @@ from .. import durable
 from ..advice import warnings
 from ..calls import Calls
 from ..errors import OutOfMemory
-from ..faults import MEANINGS, WITH_ADVICE, Fault, MessageFaults, bound_faults
+from ..faults import MEANINGS, WITH_ADVICE, Fault, batch_faults, bound_faults
 from ..forms import head_faults
 from ..language import (
     BLOCK_WORDS, CLOSING, FORMS, KINDS, MOST_SCRIPT_BYTES, OPERATIONS, Command, Definitions, Line, any_of, commands, counted, index_of, visible,
@@ -173,7 +173,7 @@ class Shell:
         if not line.text or word not in BLOCK_WORDS:
             return []
         if word == b"batch":
-            return MessageFaults(self.table.trees()).of(line)
+            return list(batch_faults([line], self.table.trees()))
         command = Command(Line(1, self.block[0]), CLOSING[word], b"".join(one + b"\n" for one in [*self.block[1:], raw]), True)
         return [fault for fault in bound_faults(command, self.table.trees()) if fault.line == line.number]
 
