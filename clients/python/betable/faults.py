@@ -213,7 +213,7 @@ def batch_faults(lines: Iterable[Line], table: Trees) -> Iterator[Fault]:
         else:
             others.append((line.number, line.text))
     found = Records(table, b"batch\n", b"\nend\n").faults(others) if table else []
-    return merge(wrong, found, key=lambda fault: fault.line or 0)
+    return iter(merge(wrong, found, key=lambda fault: fault.line or 0))
 
 
 def number_faults(command: Command) -> Iterator[Fault]:

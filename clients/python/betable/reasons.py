@@ -117,5 +117,4 @@ def reason_of_value(problem: Problem, kind: str, field: bytes) -> str:
         case Problem.NO_HEX:
             place = len(field) - len(field.lstrip(HEXADECIMAL))
             return f"letter {place + 1} of '{visible(field, 40, place)}' is no hexadecimal digit"
-        case _:
-            return f"{shown} has {counted(len(field), 'digit')}, and bytes have two each"
+    return f"{shown} has {counted(len(field), 'digit')}, and bytes have two each"
