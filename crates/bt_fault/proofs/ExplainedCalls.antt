@@ -53,7 +53,7 @@ batch_explained schema items within =
     let many = nat_lt most_messages (length items) in
     lower_explained (lowest_reason (line_reasons schema 1 items)) (many_reason (length items))
     ∙ ap (λ (f : Option Refusal). lowest_from f (option_to_list (refusal_of (many_reason (length items)))))
-        (lowest_explained (line_reasons schema 1 items) ∙ ap lowest (lines_explained schema 1 items within))
+    (lowest_explained (line_reasons schema 1 items) ∙ ap lowest (lines_explained schema 1 items within))
     ∙ ap (lowest_from (lowest (record_refusals schema items))) (many_explained many)
     ∙ sym (lowest_from-append None (record_refusals schema items) (one_if many TooMany))
 

@@ -95,10 +95,11 @@ if_found : (state : TableState) (asked : Command) (found : Option Reason) → Ha
 if_found state asked None few is = tt
 if_found state asked (Some reason) few is = refused_like state asked reason few (sym is)
 
-pub command_explained : {E : Type 0} (state : TableState) (asked : Command) (result : Result (Option Reason) E) → HasFewKeys state → IfOk result (λ found. found ≡ command_reason state asked)
+pub command_explained : {E : Type 0} (state : TableState) (asked : Command) (result : Result (Option Reason) E)
+    → IfOk result (λ found. found ≡ command_reason state asked) → IfOk result (λ _. HasFewKeys state)
     → IfOk result (λ found. IfSome found (λ reason. IsRefused state asked reason.refusal))
-command_explained state asked (Ok found) few is = if_found state asked found few is
-command_explained state asked (Err error) few is = tt
+command_explained state asked (Ok found) is few = if_found state asked found few is
+command_explained state asked (Err error) is few = tt
 
 -- ---- the columns of a table
 

@@ -60,7 +60,6 @@ fn reason_of(
 
 /// Why a command is refused on a table because of its records: the lines of a batch, the key of a get, the text of a load, or the bounds of a scan or of sums.
 /// `None` if its records have no fault. The table and the command are as they were.
-#[tactic(auto, using(crate::proofs::ExplainedCommands::command_explained))]
 pub fn command_reason(
     alloc: Global,
     table: &Table,
