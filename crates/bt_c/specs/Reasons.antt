@@ -1,5 +1,5 @@
 -- Why the first command of a script is refused because of its records, and how C sees it.
-use Rattle.std.specs.Prelude.{ℕ, ◌≡◌, ⊥, List, [], ◌∷◌, Option, Some, None, Ok, Err}
+use Rattle.std.specs.Prelude.{ℕ, ◌≡◌, List, [], ◌∷◌, Option, Some, None, Ok, Err}
 use Rattle.bt_value.specs.Refusals.{number_of}
 use Rattle.bt_value.specs.declared.refusal.Refusal.{Refusal}
 use Rattle.bt_script.specs.Commands.{Answer}

@@ -1,5 +1,5 @@
 -- Why a command is refused because of its records.
-use Rattle.std.specs.Prelude.{◌≡◌, ◌≤◌, ⊥, Option, Some, None, Result, Ok, Err, length, take}
+use Rattle.std.specs.Prelude.{◌≡◌, ◌≤◌, Option, Some, None, Result, Ok, Err, length, take}
 use Rattle.bt_value.specs.declared.refusal.Refusal.{Refusal}
 use Rattle.bt_row.specs.Schemas.{Schema}
 use Rattle.bt_script.specs.declared.command.Bounds.{Bounds}
