@@ -1,15 +1,17 @@
 -- A command with a reason is refused like its reason: its reply is the refusal, and the table stays as it is.
-use Rattle.std.proofs.Common.{◌≡◌, Option, Some, None, Result, Ok, Err, ap}
+use Rattle.std.proofs.Common.{◌≡◌, ◌∷◌, List, Option, Some, None, Result, Ok, Err, ap, subst, sym}
 use Rattle.std.specs.Prelude.{IfOk, IfSome}
 use Rattle.bt_value.specs.Results.{map_ok}
 use Rattle.bt_value.specs.declared.refusal.Refusal.{Refusal}
+use Rattle.bt_script.specs.Commands.{Answer}
 use Rattle.bt_script.specs.declared.command.Command.{Command}
 use Rattle.bt_script.specs.declared.command.Command.TheVariants as command
 use Rattle.bt_table.specs.Tables.{TableState}
 use Rattle.bt_fault.specs.Commands.{IsRefused}
 use Rattle.bt_fault.specs.declared.reason.Reason.{Reason}
 use Rattle.bt_shell.specs.Replies.{refused_text, scan_reply, sums_reply}
-use Rattle.bt_shell.specs.Steps.{call_outcome, done_or_refused, read_outcome, turn}
+use Rattle.bt_shell.specs.Steps.{State, call_outcome, done_or_refused, read_outcome, turn}
+use Rattle.bt_c.specs.Reasons.{FirstIsRefused}
 
 pub turn_refused : (table : TableState) (asked : Command) (refusal : Refusal) → IsRefused table asked refusal → turn (Some table) (Ok asked) ≡ (Some table, refused_text refusal)
 turn_refused table (command.Batch items) refusal is = ap (λ after. done_or_refused (Some table) (call_outcome after)) is
@@ -30,7 +32,14 @@ found_refused : (table : TableState) (asked : Command) (found : Option Reason) �
 found_refused table asked None is = tt
 found_refused table asked (Some reason) is = turn_refused table asked reason.refusal is
 
-pub result_refused : {E : Type 0} (table : TableState) (asked : Command) (result : Result (Option Reason) E) → IfOk result (λ found. IfSome found (λ reason. IsRefused table asked reason.refusal))
+result_refused : {E : Type 0} (table : TableState) (asked : Command) (result : Result (Option Reason) E) → IfOk result (λ found. IfSome found (λ reason. IsRefused table asked reason.refusal))
     → IfOk result (λ found. IfSome found (λ reason. turn (Some table) (Ok asked) ≡ (Some table, refused_text reason.refusal)))
 result_refused table asked (Ok found) is = found_refused table asked found is
 result_refused table asked (Err error) is = tt
+
+pub first_refused : {E : Type 0} (state : State) (table : TableState) (answers more : List Answer) (asked : Command) (result : Result (Option Reason) E)
+    → state ≡ Some table → answers ≡ Ok asked ∷ more → IfOk result (λ found. IfSome found (λ reason. IsRefused table asked reason.refusal))
+    → IfOk result (λ found. IfSome found (λ reason. FirstIsRefused state answers reason.refusal))
+first_refused state table answers more asked result is-table is-first is =
+    subst (λ s. IfOk result (λ found. IfSome found (λ reason. FirstIsRefused s answers reason.refusal))) (sym is-table)
+    (subst (λ a. IfOk result (λ found. IfSome found (λ reason. FirstIsRefused (Some table) a reason.refusal))) (sym is-first) (result_refused table asked result is))

@@ -171,7 +171,6 @@ impl Session {
     }
 
     /// Why the first command of a script would be refused because of its records, on the table as it is.
-    #[tactic(auto, using(crate::proofs::Refusals::result_refused))]
     pub fn explain(&self, alloc: Global, script: &[u8]) -> Result<Option<Reason>, AllocError>
         ensures reason { IfOk result (λ reason. reason ≡ first_reason self.now.table (commands script.now)) }
         ensures refused { IfOk result (λ reason. IfSome reason (λ r. FirstIsRefused self.now.table (commands script.now) r.refusal)) }
