@@ -93,9 +93,9 @@ def batches_in_pieces() -> Lines:
         return [dice.choice(["", "  ", "\r"]) if dice.random() < 0.1 else dice.choices(changes, (6, 3, 1))[0](dice.randrange(9_000)) + dice.choice(["", "\r"]) for _ in range(count)]
 
     yield "table 16 256 64 1 id:int t:text"
-    for count, wrong in ((5_000, []), (9_000, []), (9_000, [" end", "del 1"]), (5_000, ["put"]), (6_000, [])):
+    for count, wrong in ((9_000, []), (16_000, []), (16_000, [" end", "del 1"]), (9_000, ["put"]), (10_000, [])):
         yield from ["batch", *lines(count), *wrong, "end\r"]
-    yield from ["scan primary", "go", "image primary", "batch", *lines(6_000)]
+    yield from ["scan primary", "go", "image primary", "batch", *lines(10_000)]
 
 
 def dressed(dice: random.Random, kind: str) -> str:

@@ -16,8 +16,8 @@ use std::marker::PhantomData;
 use std::sync::Wait;
 use std::thread::Threads;
 
-/// The least number of bytes of a piece. Starting a thread takes about 30 µs, and reading the lines of a piece of this size two to three times as long.
-const LEAST_BYTES: usize = 32_768;
+/// The least number of bytes of a piece. Starting a thread takes about 30 µs, and reading the lines of a piece of this size four to six times as long.
+const LEAST_BYTES: usize = 65_536;
 
 // The messages of a text of whole lines, or `None` if a line is wrong.
 fn read_lines<'a>(alloc: Global, text: &'a [u8]) -> Result<Option<Items<'a>>, AllocError>
