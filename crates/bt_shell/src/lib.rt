@@ -21,7 +21,6 @@ mod program_run;
 mod replies;
 mod reply_text;
 mod script_run;
-mod sizes;
 mod turn;
 mod workforce;
 

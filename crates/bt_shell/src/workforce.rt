@@ -10,18 +10,14 @@ ghost use Rattle.bt_shell.specs.Replies.{row_line};
 ghost use Rattle.bt_shell.specs.inside.Lines.{with_line};
 
 use crate::replies::Lines;
-use crate::sizes::has_fewer_rows;
 use bt_gang::{Context, Crew, Gate, NoGate};
 use bt_script::{Bounds, Parsed, SumsForm, parse_by_crew, parse_command};
 use bt_table::{Alone, Table, Workforce};
 use bt_value::{Refusal, Sequence, Text};
-use bt_view::{Sum, scan, scan_alone, sums, sums_alone};
+use bt_view::{Sum, has_few_rows, scan, scan_alone, sums, sums_alone};
 use std::alloc::{AllocError, Global};
 use std::sync::Wait;
 use std::thread::Threads;
-
-// A crew leaves a tree with fewer rows to the caller, because starting threads would take longer than the workers gain.
-const FEW_ROWS: usize = 49_152;
 
 /// Who works on a script: a [`Workforce`] that also parses and reads. The type of the visitor of the rows is named here, because a crew passes it to threads, and inside
 /// an `impl` it is not known that a thread may have the value of a type parameter. The calls have the same clauses for either.
@@ -137,7 +133,7 @@ impl<T: Threads + Wait + Sync> ScriptWorkforce<T> for Crew<NoGate> {
         lines: Lines,
     ) -> Result<Lines, Refusal> {
         let Bounds { from, to } = bounds;
-        if has_fewer_rows(table, name, FEW_ROWS) {
+        if has_few_rows(table, name) {
             return scan_alone(alloc, table, name, from.as_ref(), to.as_ref(), lines);
         }
         let context = Context {
@@ -156,7 +152,7 @@ impl<T: Threads + Wait + Sync> ScriptWorkforce<T> for Crew<NoGate> {
         form: &SumsForm<'_>,
     ) -> Result<Sequence<Sum>, Refusal> {
         let Bounds { from, to } = &form.bounds;
-        if has_fewer_rows(table, &form.tree, FEW_ROWS) {
+        if has_few_rows(table, &form.tree) {
             return sums_alone(
                 alloc,
                 table,

@@ -5,7 +5,6 @@ use Rattle.bt_value.specs.declared.value.Value.{Value}
 use Rattle.bt_keycode.specs.Keys.{Key}
 use Rattle.bt_form.specs.Messages.{Rows}
 use Rattle.bt_show.specs.inside.Entries.{after_entry, rows_of_entries}
-use Rattle.bt_show.specs.inside.EntryParts.{shown}
 use Rattle.bt_view.specs.inside.Shown.{rows_shown}
 use Rattle.bt_view.specs.declared.shown.Shown.{Shown}
 use Rattle.bt_show.proofs.offered.SelectedRows.{gone-along}

@@ -1,9 +1,6 @@
 -- Groups of the rows of a tree of a table.
 use Rattle.std.specs.Prelude.{ℕ, List, Option, Result}
 use Rattle.bt_value.specs.declared.refusal.Refusal.{Refusal}
-use Rattle.bt_value.specs.declared.value.Kind.TheVariants as kind
-use Rattle.bt_value.specs.declared.value.Value.TheVariants as value
-use Rattle.bt_keycode.specs.Keys.{Key}
 use Rattle.bt_table.specs.Calls.{NamedTree, tree_named}
 use Rattle.bt_table.specs.Tables.{TableState}
 use Rattle.bt_value.specs.Results.{and_then}

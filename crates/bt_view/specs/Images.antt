@@ -1,10 +1,7 @@
 -- A tree of a table as text.
-use Rattle.std.specs.Prelude.{ℕ, List, map, Result}
+use Rattle.std.specs.Prelude.{ℕ, List, Result}
 use Rattle.bt_value.specs.declared.refusal.Refusal.{Refusal}
 use Rattle.bt_row.specs.declared.rows.schema.Column.{Column}
-use Rattle.bt_value.specs.declared.value.Value.TheVariants as value
-use Rattle.bt_message.specs.declared.message.Message.TheVariants as message
-use Rattle.bt_form.specs.Trees.{Tree}
 use Rattle.bt_value.specs.Results.{map_ok}
 use Rattle.bt_table.specs.Calls.{NamedTree, Primary, Secondary, tree_named}
 use Rattle.bt_table.specs.Indexes.{EntryTree}

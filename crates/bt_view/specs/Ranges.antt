@@ -1,11 +1,9 @@
 -- The rows of a tree of a table, and those of a range.
-use Rattle.std.specs.Prelude.{ℕ, List, T, map, reverse, take, Option, Result, Ok}
+use Rattle.std.specs.Prelude.{ℕ, List, map, reverse, take, Option, Result, Ok}
 use Rattle.bt_value.specs.Results.{and_then, map_ok}
 use Rattle.bt_row.specs.Schemas.{Schema}
 use Rattle.bt_value.specs.declared.refusal.Refusal.{Refusal}
-use Rattle.bt_value.specs.declared.value.Kind.TheVariants as kind
 use Rattle.bt_value.specs.declared.value.Value.{Value}
-use Rattle.bt_keycode.specs.Keys.{Key}
 use Rattle.bt_form.specs.Messages.{Rows, between}
 use Rattle.bt_fanout.specs.Selections.{select}
 use Rattle.bt_table.specs.Calls.{NamedTree, Primary, Secondary, tree_named}

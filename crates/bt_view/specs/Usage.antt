@@ -2,7 +2,6 @@
 use Rattle.std.specs.Prelude.{ℕ, List, Result}
 use Rattle.bt_value.specs.Results.{map_ok}
 use Rattle.bt_value.specs.declared.refusal.Refusal.{Refusal}
-use Rattle.bt_form.specs.Trees.{Tree}
 use Rattle.bt_table.specs.Calls.{NamedTree, Primary, Secondary, tree_named}
 use Rattle.bt_table.specs.Tables.{TableState}
 use Rattle.bt_show.specs.declared.tree_usage.TreeUsage.{TreeUsage}

@@ -11,8 +11,8 @@
 //! let rows = page(alloc, &table, &name, &range, 100, RowList::new(alloc))?;               // the first 100 rows of a range of keys
 //! let rows = last_page(alloc, &table, &name, &range, 100, RowList::new(alloc))?;          // the last 100 rows, from the last one back
 //! let sums = sums(&context, &table, &name, 1, &column, None, None)?;                      // one Sum for each value of the first column
-//! let sums = sums_between(alloc, &table, &name, &range, 1, &column)?;                     // the same for a range of keys
-//! let count = sums_between(alloc, &table, &name, &range, 0, &Text::empty())?;             // one Sum, with the number of all its rows
+//! let sums = sums_between(&context, &table, &name, range, 1, &column)?;                   // the same for a range of keys
+//! let count = sums_between_alone(alloc, &table, &name, range, 0, &Text::empty())?;        // one Sum, with the number of all its rows
 //! let text = image(alloc, &table, &name)?;                                                // the nodes of the tree, line by line
 //! ```
 //!
@@ -25,10 +25,13 @@ mod pages;
 mod range_sums;
 mod shown;
 mod shown_columns;
+mod sizes;
 mod view;
 
 pub use bt_show::{KeyRange, RecordText, RowList, Sum, TreeUsage};
 pub use shown_columns::{TreeColumns, tree_columns};
+pub use sizes::has_few_rows;
 pub use view::{
-    check_scan, image, last_page, page, scan, scan_alone, sums, sums_alone, sums_between, usage,
+    check_scan, image, last_page, page, scan, scan_alone, sums, sums_alone, sums_between,
+    sums_between_alone, usage,
 };

@@ -56,8 +56,8 @@ pub(crate) struct Summed<'a> {
     pub(crate) groups: Grouping,
 }
 
-/// Shows the rows of a table in a range, without workers.
-pub(crate) fn show_rows<S: Visitor<Row>>(
+// Shows the rows of a table in a range, without workers.
+fn show_rows<S: Visitor<Row>>(
     alloc: Global,
     tree: &Tree<Row>,
     range: &KeyRange,
@@ -202,8 +202,8 @@ fn index_range(
     }
 }
 
-// The entries of an index in a range.
-fn entries_in<'a>(
+/// The entries of an index in a range.
+pub(crate) fn entries_in<'a>(
     alloc: Global,
     schema: &Schema,
     index: IndexRef<'a>,

@@ -10,10 +10,11 @@ ghost use Rattle.bt_view.specs.RangeSums as ranged;
 ghost use Rattle.bt_view.specs.Ranges as spec;
 ghost use Rattle.bt_view.specs.Usage as usages;
 ghost use Rattle.bt_view.specs.inside.Orders as orders;
+ghost use Rattle.bt_view.specs.inside.Shown.{AnswersGroups};
 
 use crate::pages::{RowOrder, page_of_index, page_of_rows};
-use crate::range_sums::{sums_of_index, sums_of_rows};
-use crate::shown::{rows_to_show, rows_to_sum, show, show_alone, sum, sum_alone};
+use crate::range_sums::{range_sums, rows_of_index, rows_of_table};
+use crate::shown::{Summed, rows_to_show, rows_to_sum, show, show_alone, sum, sum_alone};
 use bt_gang::{Context, Crew, Gate};
 use bt_node::{ForkVisitor, Visitor};
 use bt_record::RecordLine;
@@ -180,31 +181,66 @@ pub fn sums_alone(
     sum_alone(alloc, summed)?.finish()
 }
 
-/// The groups of the rows of the tree of this name whose keys are in a range, in order, by the caller without workers. The rows are grouped by their first
-/// `grouping` columns, with the sum of the column of this name. Without columns they are one group, even if there are no rows. If the name is empty, no column is
-/// summed, and each sum is 0.
+// The rows of the tree of this name in a range that are grouped.
+fn rows_to_group<'a>(
+    alloc: Global,
+    table: &'a Table,
+    name: &Text,
+    range: KeyRange,
+    grouping: u32,
+    column: &Text,
+) -> Result<Summed<'a>, Refusal>
+    ensures answer { AnswersGroups grouping (ranged.sums_between table.now name.now grouping column.now range) result }
+    ensures certain { IfErr (ranged.sums_between table.now name.now grouping column.now range) (λ refusal. refusal ≢ Refusal.TooMany → IsErrOf result refusal) }
+{
+    match table.tree(name) {
+        Ok(TreeRef::Rows { schema, tree }) => {
+            rows_of_table(alloc, schema, tree, range, grouping, column)
+        }
+        Ok(TreeRef::Index { schema, index }) => {
+            rows_of_index(alloc, schema, index, range, grouping, column)
+        }
+        Err(refusal) => {
+            drop(range);
+            Err(refusal)
+        }
+    }
+}
+
+/// The groups of the rows of the tree of this name whose keys are in a range, in order, by a crew. The rows are grouped by their first `grouping` columns, with the
+/// sum of the column of this name. Without columns they are one group, even if there are no rows. If the name is empty, no column is summed, and each sum is 0.
 ///
 /// Refused with the first that applies: `Failed`, `NoSuchTree`, `Building`, `NoSuchColumn` if a group has more columns than the key, or if there is no column of
 /// this name, `NotInt` if it is not int, and `TooMany` if a group has more than 2^64 - 1 rows. All but the last come before anything is allocated.
-pub fn sums_between(
-    alloc: Global,
+pub fn sums_between<G: Gate + Sync, T: Threads + Wait + Sync>(
+    context: &Context<'_, T, Crew<G>>,
     table: &Table,
     name: &Text,
-    range: &KeyRange,
+    range: KeyRange,
     grouping: u32,
     column: &Text,
 ) -> Result<Sequence<Sum>, Refusal>
-    ensures answer { Answers (ranged.sums_between table.now name.now grouping column.now range.now) result }
-    ensures certain { IfErr (ranged.sums_between table.now name.now grouping column.now range.now) (λ refusal. refusal ≢ Refusal.TooMany → IsErrOf result refusal) }
+    ensures answer { Answers (ranged.sums_between table.now name.now grouping column.now range) result }
+    ensures certain { IfErr (ranged.sums_between table.now name.now grouping column.now range) (λ refusal. refusal ≢ Refusal.TooMany → IsErrOf result refusal) }
 {
-    match table.tree(name)? {
-        TreeRef::Rows { schema, tree } => {
-            sums_of_rows(alloc, schema, tree, range, grouping, column)
-        }
-        TreeRef::Index { schema, index } => {
-            sums_of_index(alloc, schema, index, range, grouping, column)
-        }
-    }
+    let summed = rows_to_group(context.alloc, table, name, range, grouping, column)?;
+    range_sums(sum(context, summed)?, grouping)
+}
+
+/// The same, by the caller without workers.
+pub fn sums_between_alone(
+    alloc: Global,
+    table: &Table,
+    name: &Text,
+    range: KeyRange,
+    grouping: u32,
+    column: &Text,
+) -> Result<Sequence<Sum>, Refusal>
+    ensures answer { Answers (ranged.sums_between table.now name.now grouping column.now range) result }
+    ensures certain { IfErr (ranged.sums_between table.now name.now grouping column.now range) (λ refusal. refusal ≢ Refusal.TooMany → IsErrOf result refusal) }
+{
+    let summed = rows_to_group(alloc, table, name, range, grouping, column)?;
+    range_sums(sum_alone(alloc, summed)?, grouping)
 }
 
 /// How much the tree of this name holds. All its nodes are read. Refused with the first that applies: `Failed`, `NoSuchTree`. Allocates nothing.

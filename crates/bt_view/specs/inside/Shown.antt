@@ -1,6 +1,6 @@
 -- The results before rows are shown.
 use Rattle.std.specs.Prelude.{ℕ, zero, suc, pos, ◌≡◌, ◌≢◌, List, [], ◌∷◌, fold, Result, Ok, Err}
-use Rattle.bt_value.specs.Results.{or_refused}
+use Rattle.bt_value.specs.Results.{map_ok, or_refused}
 use Rattle.bt_value.specs.declared.refusal.Refusal.{Refusal}
 use Rattle.bt_value.specs.declared.refusal.Refusal.TheVariants.{OutOfMemory, TooMany}
 use Rattle.bt_value.specs.declared.value.Value.{Value}
@@ -34,3 +34,8 @@ abbrev pub with_whole : ℕ → List Sum → List Sum
 with_whole zero [] = record { group = []; count = 0; total = pos 0 } ∷ []
 with_whole zero (group ∷ groups) = group ∷ groups
 with_whole (suc columns) groups = groups
+
+-- the same, where rows that are grouped by no columns make one group, even if there are none
+abbrev pub AnswersGroups : ℕ → Result (List Sum) Refusal → Result Summed Refusal → Type 0
+AnswersGroups columns answer (Ok summed) = answer ≡ map_ok (with_whole columns) (or_refused TooMany (fold after_row summed.groups (rows_shown summed.shown)).2)
+AnswersGroups columns answer (Err refusal) = refusal ≢ OutOfMemory → answer ≡ Err refusal

@@ -7,8 +7,8 @@ use Rattle.bt_shell.specs.inside.Lines.{with_line}
 use Rattle.bt_shell.specs.Replies.{row_line}
 use Rattle.bt_shell.proofs.workforce.CrewNoGateScriptWorkforce.scan.Goals as goal
 
-pub returns-then-has_fewer_rows-clause-answer : goal.returns-then-has_fewer_rows-clause-answer
-returns-then-has_fewer_rows-clause-answer g c =
+pub returns-then-has_few_rows-clause-answer : goal.returns-then-has_few_rows-clause-answer
+returns-then-has_few_rows-clause-answer g c =
     let shown : Answers (map_ok (fold (with_line (λ (row : Key × List Value). row_line row.1)) c.args.lines) _) c.scan_alone.result = c.scan_alone.ensures.answer in
     search rules
 
