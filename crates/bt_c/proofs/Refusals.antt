@@ -1,5 +1,5 @@
 -- A command with a reason is refused like its reason: its reply is the refusal, and the table stays as it is.
-use Rattle.std.proofs.Common.{◌≡◌, ◌∷◌, List, Option, Some, None, Result, Ok, Err, ap, subst, sym}
+use Rattle.std.proofs.Common.{◌≡◌, ◌∷◌, List, [], Option, Some, None, Result, Ok, Err, ap}
 use Rattle.std.specs.Prelude.{IfOk, IfSome}
 use Rattle.bt_value.specs.Results.{map_ok}
 use Rattle.bt_value.specs.declared.refusal.Refusal.{Refusal}
@@ -7,6 +7,7 @@ use Rattle.bt_script.specs.Commands.{Answer}
 use Rattle.bt_script.specs.declared.command.Command.{Command}
 use Rattle.bt_script.specs.declared.command.Command.TheVariants as command
 use Rattle.bt_table.specs.Tables.{TableState}
+use Rattle.bt_fault.specs.Commands as fault
 use Rattle.bt_fault.specs.Commands.{IsRefused}
 use Rattle.bt_fault.specs.declared.reason.Reason.{Reason}
 use Rattle.bt_shell.specs.Replies.{refused_text, scan_reply, sums_reply}
@@ -27,19 +28,18 @@ turn_refused table (command.Drop name) refusal is = absurd is
 turn_refused table (command.Drain tree) refusal is = absurd is
 turn_refused table (command.Rebuild tree) refusal is = absurd is
 
-found_refused : (table : TableState) (asked : Command) (found : Option Reason) → IfSome found (λ reason. IsRefused table asked reason.refusal)
-    → IfSome found (λ reason. turn (Some table) (Ok asked) ≡ (Some table, refused_text reason.refusal))
-found_refused table asked None is = tt
-found_refused table asked (Some reason) is = turn_refused table asked reason.refusal is
+first_turn_refused : (state : State) (answers : List Answer) (refusal : Refusal) → fault.FirstIsRefused state answers refusal → FirstIsRefused state answers refusal
+first_turn_refused None answers refusal is = absurd is
+first_turn_refused (Some table) [] refusal is = absurd is
+first_turn_refused (Some table) (Err other ∷ answers) refusal is = absurd is
+first_turn_refused (Some table) (Ok asked ∷ answers) refusal is = turn_refused table asked refusal is
 
-result_refused : {E : Type 0} (table : TableState) (asked : Command) (result : Result (Option Reason) E) → IfOk result (λ found. IfSome found (λ reason. IsRefused table asked reason.refusal))
-    → IfOk result (λ found. IfSome found (λ reason. turn (Some table) (Ok asked) ≡ (Some table, refused_text reason.refusal)))
-result_refused table asked (Ok found) is = found_refused table asked found is
-result_refused table asked (Err error) is = tt
+found_refused : (state : State) (answers : List Answer) (found : Option Reason) → IfSome found (λ reason. fault.FirstIsRefused state answers reason.refusal)
+    → IfSome found (λ reason. FirstIsRefused state answers reason.refusal)
+found_refused state answers None is = tt
+found_refused state answers (Some reason) is = first_turn_refused state answers reason.refusal is
 
-pub first_refused : {E : Type 0} (state : State) (table : TableState) (answers more : List Answer) (asked : Command) (result : Result (Option Reason) E)
-    → state ≡ Some table → answers ≡ Ok asked ∷ more → IfOk result (λ found. IfSome found (λ reason. IsRefused table asked reason.refusal))
-    → IfOk result (λ found. IfSome found (λ reason. FirstIsRefused state answers reason.refusal))
-first_refused state table answers more asked result is-table is-first is =
-    subst (λ s. IfOk result (λ found. IfSome found (λ reason. FirstIsRefused s answers reason.refusal))) (sym is-table)
-    (subst (λ a. IfOk result (λ found. IfSome found (λ reason. FirstIsRefused (Some table) a reason.refusal))) (sym is-first) (result_refused table asked result is))
+pub first_refused : {E : Type 0} (state : State) (answers : List Answer) (result : Result (Option Reason) E)
+    → IfOk result (λ found. IfSome found (λ reason. fault.FirstIsRefused state answers reason.refusal)) → IfOk result (λ found. IfSome found (λ reason. FirstIsRefused state answers reason.refusal))
+first_refused state answers (Ok found) is = found_refused state answers found is
+first_refused state answers (Err error) is = tt

@@ -2,17 +2,12 @@
 use Rattle.std.specs.Prelude.{ℕ, ◌≡◌, ◌≢◌, ◌⊎◌, Bool, true, false, List, [], Option, Some, None, Result, Ok, Err, IfSome, is_some}
 use Rattle.std.specs.Option.{MatchOption}
 use Rattle.bt_value.specs.Refusals.{number_of}
-use Rattle.bt_value.specs.declared.refusal.Refusal.TheVariants.{NoTable}
-use Rattle.bt_table.specs.Calls.{StaysOrIsLost}
 use Rattle.bt_table.specs.Tables.{Intact, Lost, TableState}
-use Rattle.bt_packed.specs.Calls.{applied, columns_reply, get_reply, last_page_reply, on_ok, page_reply, sums_reply, trees_reply, usage_reply}
-use Rattle.bt_packed.specs.Layout.{fault_at}
+use Rattle.bt_packed.specs.Questions.{KeepsOrLoses, reply_from}
 use Rattle.bt_packed.specs.declared.fault.Fault.{Fault}
 use Rattle.bt_shell.specs.Steps.{State}
 use Rattle.bt_c.specs.declared.fault.FaultInC.{FaultInC}
 use Rattle.bt_c.specs.declared.handle.Handle.{Handle}
-use Rattle.bt_c.specs.declared.session.Question.{Question}
-use Rattle.bt_c.specs.declared.session.Question.TheVariants.{Columns, LastPage, Page, Row, Sums, Trees, Usage}
 use Rattle.bt_c.specs.declared.session.Session.{Session}
 use Rattle.bt_c.specs.declared.status.Status.{Status}
 use Rattle.bt_c.specs.declared.status.Status.TheVariants.{AlreadyOpen, Done, NotOpen, OutOfMemory, Refused, ReplyCut}
@@ -42,30 +37,6 @@ code_of Refused = 5
 
 -- ---- calls on packed bytes
 
--- there is no table
-abbrev pub no_table : Fault
-no_table = fault_at NoTable 0 0
-
--- the table after packed changes, or the fault
-abbrev pub applied_to : State → List ℕ → Result State Fault
-applied_to None bytes = Err no_table
-applied_to (Some table) bytes = on_ok Some (applied table bytes)
-
--- what a table replies to a question in packed bytes
-abbrev pub answer_of : Question → TableState → List ℕ → Result (List ℕ) Fault
-answer_of Row = get_reply
-answer_of Page = page_reply
-answer_of LastPage = last_page_reply
-answer_of Sums = sums_reply
-answer_of Columns = columns_reply
-answer_of Usage = usage_reply
-answer_of Trees = trees_reply
-
--- the reply of a table to a question in packed bytes, or the fault
-abbrev pub reply_from : (TableState → List ℕ → Result (List ℕ) Fault) → State → List ℕ → Result (List ℕ) Fault
-reply_from answer None bytes = Err no_table
-reply_from answer (Some table) bytes = answer table bytes
-
 -- a fault as C sees it
 abbrev pub fault_of : Fault → FaultInC
 fault_of fault = record { refusal = number_of fault.refusal; item = fault.item; column = fault.column }
@@ -80,7 +51,7 @@ IsUnmarked session = (session.refused ≡ 0) × (session.marks.items ≡ [])
 
 -- a session keeps its table, or has lost it
 abbrev pub StaysOrIsLostIn : Session → Session → Type 0
-StaysOrIsLostIn old new = MatchOption old.table (new.table ≡ None) (λ before. MatchOption new.table ⊥ (StaysOrIsLost before))
+StaysOrIsLostIn old new = KeepsOrLoses old.table new.table
 
 -- What a call does that asks the table of a session a question in packed bytes: which code it returns, the reply or the fault, and what it leaves. Without a
 -- session it returns `NotOpen`, and the handle stays closed. Otherwise it returns `Done`, `OutOfMemory` or `Refused`, and the session keeps its table. After any

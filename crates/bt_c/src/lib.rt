@@ -21,9 +21,11 @@ ghost use Rattle.bt_shell.specs.Steps.{State};
 ghost use Rattle.bt_table.specs.Standing.{IsConsistent, IsSound};
 ghost use Rattle.bt_table.specs.Tables.{Lost};
 ghost use Rattle.bt_packed.specs.Calls.{columns_reply, get_reply, last_page_reply, page_reply, sums_reply, trees_reply, usage_reply};
-ghost use Rattle.bt_c.specs.Reasons.{IsReason, first_reason};
+ghost use Rattle.bt_c.specs.Reasons.{IsReason};
+ghost use Rattle.bt_fault.specs.Commands.{first_reason};
 ghost use Rattle.bt_c.specs.Replies.{checked_marks, marks_of, reply_at};
-ghost use Rattle.bt_c.specs.Sessions.{IsAnswered, IsFault, IsUnmarked, StaysOpen, StaysOrIsLostIn, answer_of, applied_to, code_of, fault_of, is_lost, reply_from, session_of};
+ghost use Rattle.bt_packed.specs.Questions.{answer_of, applied_to, reply_from};
+ghost use Rattle.bt_c.specs.Sessions.{IsAnswered, IsFault, IsUnmarked, StaysOpen, StaysOrIsLostIn, code_of, fault_of, is_lost, session_of};
 ghost use Rattle.bt_c.specs.declared.status.Status.TheVariants as status;
 
 mod fault;
@@ -36,14 +38,14 @@ mod slot;
 mod status;
 
 use crate::reply::reply_at;
-use bt_packed::Fault;
+use bt_packed::{Fault, Question};
 use bt_script::RunFault;
 use bt_value::Refusal;
 pub use fault::FaultInC;
 pub use handle::Handle;
 pub use reason::ReasonInC;
 pub use reply::{ReplyInC, ReplyMark};
-pub use session::{Question, Session};
+pub use session::Session;
 pub use status::Status;
 use std::alloc::{AllocError, Global};
 

@@ -1,8 +1,8 @@
 //! Why a command is refused because of its records, as C sees it.
 ghost use Rattle.std.specs.Prelude.{◌≡◌};
-ghost use Rattle.bt_c.specs.Reasons.{code_of_problem, reason_in_c};
+ghost use Rattle.bt_c.specs.Reasons.{reason_in_c};
 
-use bt_fault::{Problem, Reason};
+use bt_fault::Reason;
 
 /// Why a command is refused because of its records: the refusal, the item and the field at fault, and what is wrong with it. C has it as `betable_reason`.
 #[repr(C)]
@@ -18,30 +18,6 @@ pub struct ReasonInC {
     pub problem: u32,
 }
 
-// The code in C for what is wrong with a field.
-fn code_of_problem(problem: Problem) -> u32
-    ensures { result ≡ code_of_problem problem }
-{
-    match problem {
-        Problem::FieldCount => 1,
-        Problem::NoInt => 2,
-        Problem::IntRange => 3,
-        Problem::TooLong => 4,
-        Problem::NoText => 5,
-        Problem::NoFlag => 6,
-        Problem::NoHex => 7,
-        Problem::OddDigits => 8,
-        Problem::NoOperation => 9,
-        Problem::NoColumn => 10,
-        Problem::KeyColumn => 11,
-        Problem::NoIntColumn => 12,
-        Problem::ManyMessages => 13,
-        Problem::SecondMark => 14,
-        Problem::NoHeader => 15,
-        Problem::OtherName => 16,
-    }
-}
-
 impl ReasonInC {
     /// A reason in C.
     pub fn of(reason: Reason) -> ReasonInC
@@ -51,7 +27,7 @@ impl ReasonInC {
             refusal: reason.refusal.number() as u64,
             item: reason.item,
             field: reason.field,
-            problem: code_of_problem(reason.problem),
+            problem: reason.problem.number(),
         }
     }
 }

@@ -5,17 +5,16 @@ ghost use Rattle.bt_shell.specs.Faults.{StopsBetweenReplies, StopsWithinReply, l
 ghost use Rattle.bt_shell.specs.Runs.{after_commands, refused_count, replies};
 ghost use Rattle.bt_table.specs.Standing.{IsConsistent, IsSound};
 ghost use Rattle.bt_table.specs.Tables.{Lost};
-ghost use Rattle.bt_c.specs.Reasons.{FirstIsRefused, first_reason};
+ghost use Rattle.bt_c.specs.Reasons.{FirstIsRefused};
+ghost use Rattle.bt_fault.specs.Commands.{first_reason};
 ghost use Rattle.bt_c.specs.Replies.{checked_marks, marks_of};
-ghost use Rattle.bt_c.specs.Sessions.{StaysOrIsLostIn, answer_of, applied_to, is_lost, no_table, reply_from};
+ghost use Rattle.bt_packed.specs.Questions.{KeepsOrLoses, answer_of, applied_to, no_table, reply_from};
+ghost use Rattle.bt_c.specs.Sessions.{is_lost};
 
 use crate::reply::{ReplyMark, ReplyMarks};
-use bt_fault::{Reason, command_reason};
-use bt_packed::{
-    Fault, ReplyRoom, apply_packed, columns_packed, get_packed, last_page_packed, page_packed,
-    sums_packed, trees_packed, usage_packed,
-};
-use bt_script::{Counted, Parsed, RunFault, parse_command};
+use bt_fault::{Reason, script_reason};
+use bt_packed::{Fault, Question, ReplyRoom, apply, ask};
+use bt_script::{Counted, RunFault};
 use bt_shell::{Context, check_commands, run_commands};
 use bt_table::{Alone, Table};
 use bt_value::Refusal;
@@ -29,6 +28,15 @@ pub struct Session {
     pub text: Vec<u8>,
     pub refused: usize,
     pub marks: Vec<ReplyMark>,
+}
+
+// The caller works alone.
+fn alone<'a>(alloc: Global) -> Context<'a, (), Alone> {
+    Context {
+        rt: &(),
+        alloc,
+        crew: &Alone,
+    }
 }
 
 // Carries out the commands of a script on a table, appends their replies to a text, and returns the number of refused commands.
@@ -51,55 +59,9 @@ fn run_into(
     ensures kept { IfSome table.old IsSound → OnOk result (IfSome table.new IsSound) }
 {
     let mut writer = Counted::new(mem::replace(text, Vec::new(alloc)));
-    let context = Context {
-        rt: &(),
-        alloc,
-        crew: &Alone,
-    };
-    let counted = run_commands(&context, script, table, &mut writer, marks);
+    let counted = run_commands(&alone(alloc), script, table, &mut writer, marks);
     *text = writer.into_inner();
     counted
-}
-
-/// A question to a table in packed bytes.
-#[derive(Clone, Copy, Drop)]
-pub enum Question {
-    /// Which row has a key?
-    Row,
-    /// Which rows are on a page?
-    Page,
-    /// Which rows are on a page from the end?
-    LastPage,
-    /// Which sums have the groups of a range?
-    Sums,
-    /// Which columns have the rows of a tree?
-    Columns,
-    /// How much does a tree hold?
-    Usage,
-    /// Which trees are there?
-    Trees,
-}
-
-// The reply to a question.
-fn answer(
-    alloc: Global,
-    table: &Table,
-    question: Question,
-    bytes: &[u8],
-    room: ReplyRoom,
-) -> Result<Vec<u8>, Fault>
-    ensures done { IfOk result (λ reply. answer_of question table.now bytes.now ≡ Ok reply.items) }
-    ensures fault { IfErr result (λ fault. fault.refusal ≢ Refusal.OutOfMemory → answer_of question table.now bytes.now ≡ Err fault) }
-{
-    match question {
-        Question::Row => get_packed(alloc, table, bytes, room),
-        Question::Page => page_packed(alloc, table, bytes, room),
-        Question::LastPage => last_page_packed(alloc, table, bytes, room),
-        Question::Sums => sums_packed(alloc, table, bytes, room),
-        Question::Columns => columns_packed(alloc, table, bytes, room),
-        Question::Usage => usage_packed(alloc, table, bytes, room),
-        Question::Trees => trees_packed(alloc, table, bytes, room),
-    }
 }
 
 impl Session {
@@ -175,20 +137,14 @@ impl Session {
         ensures reason { IfOk result (λ reason. reason ≡ first_reason self.now.table (commands script.now)) }
         ensures refused { IfOk result (λ reason. IfSome reason (λ r. FirstIsRefused self.now.table (commands script.now) r.refusal)) }
     {
-        let Some(table) = &self.table else {
-            return Ok(None);
-        };
-        match parse_command(alloc, script, 0)? {
-            Parsed::Good { command, .. } => command_reason(alloc, table, &command),
-            _ => Ok(None),
-        }
+        script_reason(alloc, &self.table, script)
     }
 
     /// Applies packed changes to the table. The replies are emptied.
     pub fn apply(&mut self, alloc: Global, changes: &[u8]) -> Result<(), Fault>
         ensures done { OnOk result (applied_to self.old.table changes.now ≡ Ok self.new.table) }
         ensures fault { IfErr result (λ fault. fault.refusal ≢ Refusal.OutOfMemory → (applied_to self.old.table changes.now ≡ Err fault) × (self.new.table ≡ self.old.table)) }
-        ensures memory { IfErr result (λ fault. fault.refusal ≡ Refusal.OutOfMemory → StaysOrIsLostIn self.old self.new) }
+        ensures memory { IfErr result (λ fault. fault.refusal ≡ Refusal.OutOfMemory → KeepsOrLoses self.old.table self.new.table) }
         ensures certain { self.old.table ≡ None → IsErrOf result no_table }
         ensures text { self.new.text.items ≡ [] }
         ensures refused { self.new.refused ≡ 0 }
@@ -196,10 +152,7 @@ impl Session {
         ensures consistent { IfSome self.new.table IsConsistent }
     {
         self.clear();
-        match &mut self.table {
-            None => Err(Fault::of_call(Refusal::NoTable)),
-            Some(table) => apply_packed(alloc, table, changes),
-        }
+        apply(&alone(alloc), &mut self.table, changes)
     }
 
     // Takes the memory of the replies, into which the next one is written.
@@ -225,10 +178,7 @@ impl Session {
         ensures marks { self.new.marks.items ≡ [] }
     {
         let room = self.take_room(alloc);
-        let Some(table) = &self.table else {
-            return Err(Fault::of_call(Refusal::NoTable));
-        };
-        self.text = answer(alloc, table, question, bytes, room)?;
+        self.text = ask(&alone(alloc), &self.table, question, bytes, room)?;
         Ok(())
     }
 

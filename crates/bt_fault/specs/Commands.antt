@@ -1,7 +1,8 @@
 -- Why a command is refused because of its records.
-use Rattle.std.specs.Prelude.{◌≡◌, ◌≤◌, Option, Some, None, Result, Ok, Err, length, take}
+use Rattle.std.specs.Prelude.{◌≡◌, ◌≤◌, List, [], ◌∷◌, Option, Some, None, Result, Ok, Err, length, take}
 use Rattle.bt_value.specs.declared.refusal.Refusal.{Refusal}
 use Rattle.bt_row.specs.Schemas.{Schema}
+use Rattle.bt_script.specs.Commands.{Answer}
 use Rattle.bt_script.specs.declared.command.Bounds.{Bounds}
 use Rattle.bt_script.specs.declared.command.Command.{Command}
 use Rattle.bt_script.specs.declared.command.Command.TheVariants.{Batch, Get, Load, Scan, Sums}
@@ -42,3 +43,17 @@ IsRefused state other refusal = ⊥
 abbrev pub HasFewKeys : TableState → Type 0
 HasFewKeys Lost = Unit {0}
 HasFewKeys (Intact table) = table.schema.keys ≤ length table.schema.columns
+
+-- why the first command of a script is refused because of its records; none if there is no table, or no command
+abbrev pub first_reason : Option TableState → List Answer → Option Reason
+first_reason None answers = None
+first_reason (Some table) [] = None
+first_reason (Some table) (Err refusal ∷ answers) = None
+first_reason (Some table) (Ok command ∷ answers) = command_reason table command
+
+-- the first command of a script reads records, and is refused like this
+abbrev pub FirstIsRefused : Option TableState → List Answer → Refusal → Type 0
+FirstIsRefused None answers refusal = ⊥
+FirstIsRefused (Some table) [] refusal = ⊥
+FirstIsRefused (Some table) (Err other ∷ answers) refusal = ⊥
+FirstIsRefused (Some table) (Ok command ∷ answers) refusal = IsRefused table command refusal

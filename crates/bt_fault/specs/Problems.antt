@@ -8,7 +8,8 @@ use Rattle.bt_value.specs.Texts.{most_value_bytes}
 use Rattle.bt_value.specs.declared.value.Kind.{Kind}
 use Rattle.bt_value.specs.declared.value.Kind.TheVariants as kind
 use Rattle.bt_fault.specs.declared.problem.Problem.{Problem}
-use Rattle.bt_fault.specs.declared.problem.Problem.TheVariants.{IntRange, NoFlag, NoHex, NoInt, NoText, OddDigits, TooLong}
+use Rattle.bt_fault.specs.declared.problem.Problem.TheVariants.{FieldCount, IntRange, KeyColumn, ManyMessages, NoColumn, NoFlag, NoHeader, NoHex}
+use Rattle.bt_fault.specs.declared.problem.Problem.TheVariants.{NoInt, NoIntColumn, NoOperation, NoText, OddDigits, OtherName, SecondMark, TooLong}
 
 -- one or more digits, after a minus sign if there is one
 abbrev pub is_signed_numeral : List ℕ → Bool
@@ -37,3 +38,22 @@ problem_in kind.Bytes field = bytes_problem field
 -- what is wrong with a field as a value of a kind, if it is none
 abbrev pub field_problem : Kind → List ℕ → Option Problem
 field_problem kind field = if is_some (value_of kind field) then None else Some (problem_in kind field)
+
+-- the number that a caller sees for what is wrong with a field
+abbrev pub problem_number : Problem → ℕ
+problem_number FieldCount = 1
+problem_number NoInt = 2
+problem_number IntRange = 3
+problem_number TooLong = 4
+problem_number NoText = 5
+problem_number NoFlag = 6
+problem_number NoHex = 7
+problem_number OddDigits = 8
+problem_number NoOperation = 9
+problem_number NoColumn = 10
+problem_number KeyColumn = 11
+problem_number NoIntColumn = 12
+problem_number ManyMessages = 13
+problem_number SecondMark = 14
+problem_number NoHeader = 15
+problem_number OtherName = 16

@@ -1,13 +1,14 @@
 //! Why a command is refused because of its records.
 ghost use Rattle.std.specs.Prelude.{◌≡◌, IfOk, IfSome};
 ghost use Rattle.bt_fault.specs.Commands as spec;
+ghost use Rattle.bt_script.specs.Commands.{commands};
 ghost use Rattle.bt_view.specs.Ranges.{tree_columns as columns_of_tree};
 
 use crate::batch::{batch_reason, key_reason};
 use crate::bounds::range_reason;
 use crate::load::text_reason;
 use crate::reason::Reason;
-use bt_script::{Bounds, Command};
+use bt_script::{Bounds, Command, Parsed, parse_command};
 use bt_table::Table;
 use bt_value::{Refusal, Text};
 use bt_view::tree_columns;
@@ -69,4 +70,22 @@ pub fn command_reason(
     ensures refused { IfOk result (λ reason. IfSome reason (λ r. spec.IsRefused table.now command.now r.refusal)) }
 {
     reason_of(alloc, table, command)
+}
+
+/// Why the first command of a script is refused on a table because of its records. `None` if there is no table or no command, or if its records have no fault.
+pub fn script_reason(
+    alloc: Global,
+    table: &Option<Table>,
+    script: &[u8],
+) -> Result<Option<Reason>, AllocError>
+    ensures reason { IfOk result (λ reason. reason ≡ spec.first_reason table.now (commands script.now)) }
+    ensures refused { IfOk result (λ reason. IfSome reason (λ r. spec.FirstIsRefused table.now (commands script.now) r.refusal)) }
+{
+    let Some(table) = table else {
+        return Ok(None);
+    };
+    match parse_command(alloc, script, 0)? {
+        Parsed::Good { command, .. } => command_reason(alloc, table, &command),
+        _ => Ok(None),
+    }
 }

@@ -27,7 +27,7 @@ mod upsert;
 
 pub use batch::{batch_reason, key_reason};
 pub use bounds::range_reason;
-pub use command::command_reason;
+pub use command::{command_reason, script_reason};
 pub use load::text_reason;
 pub use problem::{Problem, field_problem};
 pub use reason::Reason;

@@ -43,6 +43,32 @@ pub enum Problem {
     OtherName,
 }
 
+impl Problem {
+    /// The number that a caller of the library for C or of the engine sees.
+    pub fn number(self) -> u32
+        ensures { result ≡ spec.problem_number self }
+    {
+        match self {
+            Problem::FieldCount => 1,
+            Problem::NoInt => 2,
+            Problem::IntRange => 3,
+            Problem::TooLong => 4,
+            Problem::NoText => 5,
+            Problem::NoFlag => 6,
+            Problem::NoHex => 7,
+            Problem::OddDigits => 8,
+            Problem::NoOperation => 9,
+            Problem::NoColumn => 10,
+            Problem::KeyColumn => 11,
+            Problem::NoIntColumn => 12,
+            Problem::ManyMessages => 13,
+            Problem::SecondMark => 14,
+            Problem::NoHeader => 15,
+            Problem::OtherName => 16,
+        }
+    }
+}
+
 fn is_digit(byte: u8) -> bool
     ensures { result ≡ ints.is_digit byte }
 {

@@ -1,3 +1,4 @@
 mod FirstFaults
 mod PageReplies
+mod PieceReadings
 mod WorkedRows

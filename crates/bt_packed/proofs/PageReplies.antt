@@ -2,8 +2,8 @@
 use Rattle.std.proofs.Common.{◌≡◌, Result, Ok, Err, ap}
 use Rattle.bt_value.specs.Results.{map_ok}
 use Rattle.bt_value.specs.declared.refusal.Refusal.{Refusal}
-use Rattle.bt_packed.specs.Calls.{of_call, on_ok}
-use Rattle.bt_packed.specs.Layout.{fault_at}
+use Rattle.bt_packed.specs.Calls.{of_call}
+use Rattle.bt_packed.specs.Layout.{fault_at, on_ok}
 
 module _ {A B : Type 0} (make : A → B) where
   pub replied : (answer : Result A Refusal) (reply : B) → map_ok make answer ≡ Ok reply → on_ok make (of_call answer) ≡ Ok reply

@@ -12,9 +12,7 @@ use Rattle.bt_row.specs.Schemas.{Schema}
 use Rattle.bt_row.specs.declared.rows.schema.Column.{Column}
 use Rattle.bt_keycode.specs.Codes.{code_of}
 use Rattle.bt_keycode.specs.Keys.{Key, key_cmp}
-use Rattle.bt_message.specs.Messages.{sorted_batch}
 use Rattle.bt_form.specs.Messages.{Rows}
-use Rattle.bt_batch.specs.Batches.{RowMessages}
 use Rattle.bt_table.specs.Calls.{primary}
 use Rattle.bt_table.specs.Indexes.{Index, is_complete}
 use Rattle.bt_table.specs.Tables.{Intact, Lost, PlainTable, TableState, after_batch}
@@ -24,14 +22,9 @@ use Rattle.bt_view.specs.Usage.{usage, usage_of}
 use Rattle.bt_show.specs.declared.groups.Sum.{Sum}
 use Rattle.bt_show.specs.declared.range.KeyRange.{KeyRange}
 use Rattle.bt_show.specs.declared.tree_usage.TreeUsage.{TreeUsage}
-use Rattle.bt_packed.specs.Changes.{key_at, packed_changes}
-use Rattle.bt_packed.specs.Layout.{Read, bad_bytes, fault_at, header_at, magic, no_header, or_fault, row_bytes, then_read, value_at, values_at}
+use Rattle.bt_packed.specs.Changes.{key_at, packed_messages}
+use Rattle.bt_packed.specs.Layout.{Read, bad_bytes, fault_at, header_at, magic, no_header, on_ok, or_fault, row_bytes, then_read, value_at, values_at}
 use Rattle.bt_packed.specs.declared.fault.Fault.{Fault}
-
--- the result of a function on the value, if there is one
-abbrev pub on_ok : {A B : Type 0} → (A → B) → Result A Fault → Result B Fault
-on_ok make (Ok value) = Ok (make value)
-on_ok make (Err fault) = Err fault
 
 -- the next step on the value, if there is one
 abbrev pub then_do : {A B : Type 0} → (A → Result B Fault) → Result A Fault → Result B Fault
@@ -44,10 +37,6 @@ of_call (Ok x) = Ok x
 of_call (Err refusal) = Err (fault_at refusal 0 0)
 
 -- ---- changes
-
--- the messages of packed changes, sorted by key, those of one key in order
-abbrev pub packed_messages : Schema → List ℕ → Result RowMessages Fault
-packed_messages schema bytes = on_ok (λ changes. sorted_batch changes.messages) (packed_changes schema bytes)
 
 -- a table after it has applied packed changes, or the fault, and then it does not change
 abbrev pub applied : TableState → List ℕ → Result TableState Fault

@@ -11,8 +11,10 @@ use Rattle.bt_row.specs.declared.operations.op.Arithmetic.TheVariants as arithme
 use Rattle.bt_row.specs.declared.operations.op.Op.{Op}
 use Rattle.bt_row.specs.declared.operations.op.Op.TheVariants as op
 use Rattle.bt_row.specs.declared.rows.schema.Column.{Column}
+use Rattle.bt_message.specs.Messages.{sorted_batch}
+use Rattle.bt_batch.specs.Batches.{RowMessages}
 use Rattle.bt_batch.specs.Changes.{Changes, after_del, after_put, after_ups, next_item, no_changes}
-use Rattle.bt_packed.specs.Layout.{Read, bad_bytes, fault_at, header_at, int_at, no_header, or_fault, then_read, value_at, values_at}
+use Rattle.bt_packed.specs.Layout.{Read, bad_bytes, fault_at, header_at, int_at, no_header, on_ok, or_fault, then_read, value_at, values_at}
 use Rattle.bt_packed.specs.declared.fault.Fault.{Fault}
 
 -- ---- operations
@@ -109,3 +111,7 @@ changes_under schema (Some read) = changes_from read.0 (no_changes schema, read.
 -- the changes that packed bytes encode, or the first fault
 abbrev pub packed_changes : Schema → List ℕ → Result Changes Fault
 packed_changes schema bytes = changes_under schema (header_at bytes)
+
+-- the messages of packed changes, sorted by key, those of one key in order
+abbrev pub packed_messages : Schema → List ℕ → Result RowMessages Fault
+packed_messages schema bytes = on_ok (λ changes. sorted_batch changes.messages) (packed_changes schema bytes)

@@ -81,6 +81,11 @@ abbrev pub then_read : {X Y : Type 0} → (Read X → Result Y Fault) → Result
 then_read next (Ok read) = next read
 then_read next (Err fault) = Err fault
 
+-- the result of a function on the value, if there is one
+abbrev pub on_ok : {A B : Type 0} → (A → B) → Result A Fault → Result B Fault
+on_ok make (Ok value) = Ok (make value)
+on_ok make (Err fault) = Err fault
+
 -- what was read, or this fault if there is nothing
 abbrev pub or_fault : {X : Type 0} → Fault → Option X → Result X Fault
 or_fault fault None = Err fault

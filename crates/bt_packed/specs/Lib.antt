@@ -1,3 +1,5 @@
 pub mod Layout
 pub mod Changes
+pub mod Pieces
 pub mod Calls
+pub mod Questions

@@ -1,6 +1,5 @@
 //! The calls of a table on packed bytes.
 ghost use Rattle.std.specs.Prelude.{◌≡◌, ◌≢◌, Err, IfErr, IfOk, IsErrOf, None, OnOk, Ok};
-ghost use Rattle.bt_batch.specs.Changes.{AreOfSchema};
 ghost use Rattle.bt_table.specs.Calls.{StaysOrIsLost};
 ghost use Rattle.bt_table.specs.Standing.{IsConsistent};
 ghost use Rattle.bt_table.specs.Tables.{Lost};
@@ -8,7 +7,7 @@ ghost use Rattle.bt_value.specs.declared.refusal.Refusal.TheVariants.{Failed};
 ghost use Rattle.bt_packed.specs.Layout.{fault_at, header_at as bytes_header, no_header};
 ghost use Rattle.bt_packed.specs.Calls as spec;
 
-use crate::changes::{key_at, read_changes};
+use crate::changes::key_at;
 use crate::columns::packed_columns;
 use crate::counts::{packed_sums, packed_usage};
 use crate::fault::Fault;
@@ -16,37 +15,34 @@ use crate::page::{name_at, range_at};
 use crate::reading::header_at;
 use crate::rows::{PackedRows, ReplyRoom};
 use crate::trees::packed_trees;
+use crate::workforce::PackedWorkforce;
+use bt_gang::Context;
 use bt_keycode::encode_row;
-use bt_messages::Packet;
 use bt_row::{Row, Schema};
-use bt_table::{Alone, Reply, Table};
+use bt_table::{Reply, Table};
 use bt_value::{Refusal, Text};
-use bt_view::{KeyRange, last_page, page, sums_between, tree_columns, usage};
+use bt_view::{KeyRange, last_page, page, tree_columns, usage};
 use std::alloc::Global;
 
-// The messages of packed changes of a table.
-fn read_messages(alloc: Global, schema: &Schema, bytes: &[u8]) -> Result<Packet<Row>, Fault>
-    ensures done { IfOk result (λ packet. spec.packed_messages schema.now bytes.now ≡ Ok packet) }
-    ensures fault { IfErr result (λ fault. fault.refusal ≢ Refusal.OutOfMemory → spec.packed_messages schema.now bytes.now ≡ Err fault) }
-    ensures of_schema { IfOk result (AreOfSchema schema.now) }
-{
-    let changes = read_changes(alloc, schema, bytes)?;
-    Ok(changes.into_packet(alloc)?)
-}
-
 /// Applies packed changes in order. If one is refused, none is applied. After `OutOfMemory` the table is as it was, or lost.
-pub fn apply_packed(alloc: Global, table: &mut Table, bytes: &[u8]) -> Result<(), Fault>
+pub fn apply_packed<T, W: PackedWorkforce<T>>(
+    context: &Context<'_, T, W>,
+    table: &mut Table,
+    bytes: &[u8],
+) -> Result<(), Fault>
+    requires ready { W.accepts context.now.crew.now }
     ensures done { OnOk result (spec.applied table.old bytes.now ≡ Ok table.new) }
     ensures failed { table.old ≡ Lost → IsErrOf result (fault_at Failed 0 0) }
     ensures fault { IfErr result (λ fault. fault.refusal ≢ Refusal.OutOfMemory → (spec.applied table.old bytes.now ≡ Err fault) × (table.new ≡ table.old)) }
     ensures memory { IfErr result (λ fault. fault.refusal ≡ Refusal.OutOfMemory → StaysOrIsLost table.old table.new) }
     ensures consistent { IsConsistent table.new }
 {
+    let Context { rt, alloc, crew } = *context;
     let packet = match table.schema() {
-        Ok(schema) => read_messages(alloc, schema, bytes)?,
+        Ok(schema) => crew.read_messages(rt, alloc, schema, bytes)?,
         Err(refusal) => return Err(Fault::of_call(refusal)),
     };
-    match table.apply_messages(&(), alloc, packet, &Alone) {
+    match table.apply_messages(rt, alloc, packet, crew) {
         Ok(reply) => {
             drop(reply);
             Ok(())
@@ -247,31 +243,34 @@ pub fn usage_packed(
 }
 
 // The packed groups of a range of the tree of this name.
-fn groups_between(
-    alloc: Global,
+fn groups_between<T, W: PackedWorkforce<T>>(
+    context: &Context<'_, T, W>,
     table: &Table,
     name: &Text,
     grouping: u32,
     column: &Text,
-    range: &KeyRange,
+    range: KeyRange,
     room: ReplyRoom,
 ) -> Result<Vec<u8>, Fault>
-    ensures done { IfOk result (λ reply. spec.groups_between table.now name.now grouping column.now range.now ≡ Ok reply.items) }
-    ensures fault { IfErr result (λ fault. fault.refusal ≢ Refusal.OutOfMemory → spec.groups_between table.now name.now grouping column.now range.now ≡ Err fault) }
+    requires ready { W.accepts context.now.crew.now }
+    ensures done { IfOk result (λ reply. spec.groups_between table.now name.now grouping column.now range ≡ Ok reply.items) }
+    ensures fault { IfErr result (λ fault. fault.refusal ≢ Refusal.OutOfMemory → spec.groups_between table.now name.now grouping column.now range ≡ Err fault) }
 {
-    match sums_between(alloc, table, name, range, grouping, column) {
+    let Context { rt, alloc, crew } = *context;
+    match crew.sums_between(rt, alloc, table, name, range, grouping, column) {
         Ok(sums) => Ok(packed_sums(sums.as_slice(), room)?),
         Err(refusal) => Err(Fault::of_call(refusal)),
     }
 }
 
 /// The packed groups that packed bytes ask for.
-pub fn sums_packed(
-    alloc: Global,
+pub fn sums_packed<T, W: PackedWorkforce<T>>(
+    context: &Context<'_, T, W>,
     table: &Table,
     bytes: &[u8],
     room: ReplyRoom,
 ) -> Result<Vec<u8>, Fault>
+    requires ready { W.accepts context.now.crew.now }
     ensures done { IfOk result (λ reply. spec.sums_reply table.now bytes.now ≡ Ok reply.items) }
     ensures headless { bytes_header bytes.now ≡ None → IsErrOf result no_header }
     ensures fault { IfErr result (λ fault. fault.refusal ≢ Refusal.OutOfMemory → spec.sums_reply table.now bytes.now ≡ Err fault) }
@@ -279,10 +278,10 @@ pub fn sums_packed(
     let Some((grouping, rest)) = header_at(bytes) else {
         return Err(Fault::no_header());
     };
-    let (name, rest) = name_at(alloc, rest)?;
-    let (column, rest) = name_at(alloc, rest)?;
-    let range = read_range(alloc, table, &name, rest)?;
-    groups_between(alloc, table, &name, grouping, &column, &range, room)
+    let (name, rest) = name_at(context.alloc, rest)?;
+    let (column, rest) = name_at(context.alloc, rest)?;
+    let range = read_range(context.alloc, table, &name, rest)?;
+    groups_between(context, table, &name, grouping, &column, range, room)
 }
 
 // Whether packed bytes ask for how much each tree holds, beside its columns.

@@ -1,11 +1,13 @@
 //! Reading packed changes.
 ghost use Rattle.std.specs.Prelude.{◌≡◌, ◌≢◌, Err, IfErr, IfOk, Ok};
+ghost use Rattle.bt_batch.specs.Changes.{AreOfSchema};
 ghost use Rattle.bt_packed.specs.Changes as spec;
 
 use crate::fault::Fault;
 use crate::operations::ops_at;
 use crate::reading::{header_at, values_at};
 use bt_batch::Changes;
+use bt_messages::Packet;
 use bt_row::{Row, Schema};
 use bt_value::Refusal;
 use std::alloc::Global;
@@ -66,8 +68,8 @@ fn ups_at<'b>(alloc: Global, changes: &mut Changes<'_>, bytes: &'b [u8]) -> Resu
     }
 }
 
-// Adds the change at the front of bytes, and returns the bytes after it. An `Err` changes nothing.
-fn change_at<'b>(
+/// Adds the change at the front of bytes, and returns the bytes after it. An `Err` changes nothing.
+pub(crate) fn change_at<'b>(
     alloc: Global,
     changes: &mut Changes<'_>,
     bytes: &'b [u8],
@@ -128,4 +130,18 @@ pub fn read_changes<'s>(
     let mut changes = Changes::new(alloc, schema);
     add_changes(alloc, &mut changes, count, rest)?;
     Ok(changes)
+}
+
+/// The messages that packed bytes encode, as a packet. Refused like [`read_changes`].
+pub(crate) fn read_messages(
+    alloc: Global,
+    schema: &Schema,
+    bytes: &[u8],
+) -> Result<Packet<Row>, Fault>
+    ensures done { IfOk result (λ packet. spec.packed_messages schema.now bytes.now ≡ Ok packet) }
+    ensures fault { IfErr result (λ fault. fault.refusal ≢ Refusal.OutOfMemory → spec.packed_messages schema.now bytes.now ≡ Err fault) }
+    ensures of_schema { IfOk result (AreOfSchema schema.now) }
+{
+    let changes = read_changes(alloc, schema, bytes)?;
+    Ok(changes.into_packet(alloc)?)
 }

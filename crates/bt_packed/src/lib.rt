@@ -25,10 +25,13 @@
 //! - Rows (the replies to a key and to pages): after the first four bytes, the values of each row, one row after the other, to the end of the bytes.
 //!
 //! ```text
-//! apply_packed(alloc, &mut table, b"BTV\x01\x01\0\0\0\0...")?;      // one put
+//! let context = Context { rt: &rt, alloc, crew: &crew };             // or &(), alloc and &Alone
+//! apply_packed(&context, &mut table, b"BTV\x01\x01\0\0\0\0...")?;   // one put
 //! let room = ReplyRoom::of(Vec::new(alloc));                        // or the bytes of an earlier reply
 //! let reply = get_packed(alloc, &table, b"BTV\x01\x01\0\0\0...", room)?;
 //! ```
+//!
+//! [`apply`] and [`ask`] take a table that may not be there yet. Changes and sums are worked on by a crew or by the caller alone ([`PackedWorkforce`]).
 //!
 //! A [`Fault`] says why bytes are refused, and where. The definitions are in `specs`.
 #![tactic(auto)]
@@ -40,9 +43,12 @@ mod counts;
 mod fault;
 mod operations;
 mod page;
+mod pieces;
+mod question;
 mod reading;
 mod rows;
 mod trees;
+mod workforce;
 
 pub use calls::{
     apply_packed, columns_packed, get_packed, last_page_packed, page_packed, sums_packed,
@@ -50,4 +56,6 @@ pub use calls::{
 };
 pub use changes::read_changes;
 pub use fault::Fault;
+pub use question::{Question, apply, ask};
 pub use rows::{PackedRows, ReplyRoom};
+pub use workforce::PackedWorkforce;

@@ -72,8 +72,8 @@ fn bit_at(bytes: &[u8]) -> Option<(bool, &[u8])>
     }
 }
 
-// The content of a form at the front of bytes, and the bytes after it.
-fn content_at(form: Form, bytes: &[u8]) -> Option<(Content<'_>, &[u8])>
+/// The content of a form at the front of bytes, and the bytes after it.
+pub(crate) fn content_at(form: Form, bytes: &[u8]) -> Option<(Content<'_>, &[u8])>
     ensures { option_map (λ read. (content_of_ref read.0, read.1.now)) result ≡ spec.content_at form bytes.now }
 {
     match form {
