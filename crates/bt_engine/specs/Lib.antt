@@ -1,0 +1,5 @@
+pub mod Requests
+pub mod Payloads
+pub mod Exchanges
+pub mod Options
+pub mod Runs

@@ -1,0 +1,210 @@
+//! A table as a service: requests are carried out on it.
+ghost use Rattle.std.specs.Prelude.{◌≡◌, IfOk, None, OnOk};
+ghost use Rattle.bt_script.specs.Commands.{commands};
+ghost use Rattle.bt_shell.specs.Runs.{after_commands};
+ghost use Rattle.bt_engine.specs.Exchanges as exchanges;
+ghost use Rattle.bt_engine.specs.Payloads as payloads;
+
+use crate::marks::Marks;
+use crate::reply::{done, fault_reply, invalid};
+use crate::request::{Request, request_of};
+use bt_fault::script_reason;
+use bt_frame::{Arrival, Reply, Service, number_bytes};
+use bt_packed::{PackedWorkforce, Question, ReplyRoom, apply, ask};
+use bt_script::Counted;
+use bt_shell::{Context, ScriptWorkforce, check_commands, run_commands};
+use bt_table::Table;
+use std::alloc::{AllocError, Global};
+use std::marker::Model;
+
+// The payload of the reply to a script, which is carried out, in the memory of some bytes.
+fn run_script<T, C: ScriptWorkforce<T>>(
+    context: &Context<'_, T, C>,
+    table: &mut Option<Table>,
+    script: &[u8],
+    room: Vec<u8>,
+) -> Result<Vec<u8>, AllocError>
+    requires ready { C.accepts context.now.crew.now }
+    ensures payload { IfOk result (λ payload. payload.items ≡ payloads.script_payload table.old script.now) }
+    ensures state { OnOk result (table.new ≡ after_commands table.old (commands script.now)) }
+{
+    let mut text = room;
+    text.clear();
+    let mut marks = Marks::new(context.alloc);
+    let mut writer = Counted::new(text);
+    match run_commands(context, script, table, &mut writer, &mut marks) {
+        Ok(_refused) => {
+            let mut payload = writer.into_inner();
+            marks.add_to(&mut payload)?;
+            Ok(payload)
+        }
+        // A vector takes all bytes if there is memory for them.
+        Err(_fault) => Err(AllocError),
+    }
+}
+
+// The payload of the reply to a script that is checked.
+fn check_script(
+    alloc: Global,
+    table: &Option<Table>,
+    script: &[u8],
+    room: Vec<u8>,
+) -> Result<Vec<u8>, AllocError>
+    ensures { IfOk result (λ payload. payload.items ≡ payloads.check_payload table.now script.now) }
+{
+    let mut marks = Marks::new(alloc);
+    check_commands(alloc, script, table, &mut marks)?;
+    let mut payload = room;
+    payload.clear();
+    marks.add_to(&mut payload)?;
+    Ok(payload)
+}
+
+// The reply to packed changes, which are applied.
+fn apply_changes<T, C: PackedWorkforce<T>>(
+    context: &Context<'_, T, C>,
+    table: &mut Option<Table>,
+    changes: &[u8],
+    room: Vec<u8>,
+) -> Result<Reply, AllocError>
+    requires ready { C.accepts context.now.crew.now }
+    ensures state { OnOk result (table.new ≡ (exchanges.carried_out table.old Request.Apply changes.now).0) }
+    ensures reply { IfOk result (λ reply. (reply.kind, reply.payload.items) ≡ (exchanges.carried_out table.old Request.Apply changes.now).1) }
+{
+    match apply(context, table, changes) {
+        Ok(()) => {
+            let mut payload = room;
+            payload.clear();
+            Ok(done(payload))
+        }
+        Err(fault) => Ok(fault_reply(fault, room)?),
+    }
+}
+
+// The reply to a question in packed bytes.
+fn ask_table<T, C: PackedWorkforce<T>>(
+    context: &Context<'_, T, C>,
+    table: &Option<Table>,
+    question: Question,
+    bytes: &[u8],
+    room: Vec<u8>,
+) -> Result<Reply, AllocError>
+    requires ready { C.accepts context.now.crew.now }
+    ensures { IfOk result (λ reply. (reply.kind, reply.payload.items) ≡ (exchanges.carried_out table.now (Request.Ask question) bytes.now).1) }
+{
+    match ask(context, table, question, bytes, ReplyRoom::of(room)) {
+        Ok(payload) => Ok(done(payload)),
+        Err(fault) => Ok(fault_reply(fault, Vec::new(context.alloc))?),
+    }
+}
+
+// The payload of the reply to a script whose first command is explained.
+fn explain_script(
+    alloc: Global,
+    table: &Option<Table>,
+    script: &[u8],
+    room: Vec<u8>,
+) -> Result<Vec<u8>, AllocError>
+    ensures { IfOk result (λ payload. payload.items ≡ payloads.explain_payload table.now script.now) }
+{
+    let mut payload = room;
+    payload.clear();
+    if let Some(reason) = script_reason(alloc, table, script)? {
+        payload.extend_from_slice(&number_bytes(reason.refusal.number() as u64))?;
+        payload.extend_from_slice(&number_bytes(reason.item))?;
+        payload.extend_from_slice(&number_bytes(reason.field))?;
+        payload.extend_from_slice(&number_bytes(reason.problem.number() as u64))?;
+    }
+    Ok(payload)
+}
+
+// The reply to a request, which is carried out.
+fn carry_out<T, C: ScriptWorkforce<T> + PackedWorkforce<T>>(
+    context: &Context<'_, T, C>,
+    table: &mut Option<Table>,
+    request: Request,
+    payload: &[u8],
+    room: Vec<u8>,
+) -> Result<Reply, AllocError>
+    requires ready { C.accepts context.now.crew.now }
+    ensures state { OnOk result (table.new ≡ (exchanges.carried_out table.old request payload.now).0) }
+    ensures reply { IfOk result (λ reply. (reply.kind, reply.payload.items) ≡ (exchanges.carried_out table.old request payload.now).1) }
+{
+    match request {
+        Request::Script => Ok(done(run_script(context, table, payload, room)?)),
+        Request::Check => Ok(done(check_script(context.alloc, table, payload, room)?)),
+        Request::Explain => Ok(done(explain_script(context.alloc, table, payload, room)?)),
+        Request::Apply => Ok(apply_changes(context, table, payload, room)?),
+        Request::Ask(question) => Ok(ask_table(context, table, question, payload, room)?),
+    }
+}
+
+// The reply to what arrived, which is carried out.
+fn exchange<T, C: ScriptWorkforce<T> + PackedWorkforce<T>>(
+    context: &Context<'_, T, C>,
+    table: &mut Option<Table>,
+    arrival: Arrival,
+    payload: &[u8],
+    room: Vec<u8>,
+) -> Result<Reply, AllocError>
+    requires ready { C.accepts context.now.crew.now }
+    ensures state { OnOk result (table.new ≡ exchanges.after table.old arrival payload.now) }
+    ensures reply { IfOk result (λ reply. (reply.kind, reply.payload.items) ≡ exchanges.reply table.old arrival payload.now) }
+{
+    match arrival {
+        Arrival::Frame(kind) => match request_of(kind) {
+            None => Ok(invalid("UnknownKind", room)?),
+            Some(request) => Ok(carry_out(context, table, request, payload, room)?),
+        },
+        Arrival::TooLong => Ok(invalid("TooLong", room)?),
+        Arrival::NoFrame => Ok(invalid("NoFrame", room)?),
+        Arrival::CutOff => Ok(invalid("CutOff", room)?),
+    }
+}
+
+/// A table, or none so far, that answers requests. A contract sees the table.
+#[derive(Drop)]
+pub(crate) struct TableService {
+    table: Option<Table>,
+}
+
+impl Model for TableService {
+    ghost use Rattle.std.specs.Prelude.{Option};
+    ghost use Rattle.std.specs.Coded.{coded_option};
+    ghost use Rattle.bt_table.specs.Tables.{TableState};
+    ghost use Rattle.bt_table.specs.contracts.table.Table.{the_row as table_row};
+
+    ghost Value = { Option TableState };
+
+    ghost coded = { coded_option table_row.coded };
+
+    ghost view = { λ s. s.table };
+}
+
+impl TableService {
+    /// No table.
+    pub(crate) fn new() -> Self
+        ensures { result ≡ None }
+    {
+        TableService { table: None }
+    }
+}
+
+impl<'a, T, C: ScriptWorkforce<T> + PackedWorkforce<T>> Service<Context<'a, T, C>>
+    for TableService {
+    ghost accepts = { λ context. C.accepts context.crew.now };
+
+    ghost after = { exchanges.after };
+
+    ghost reply = { exchanges.reply };
+
+    fn exchange(
+        &mut self,
+        context: &Context<'a, T, C>,
+        arrival: Arrival,
+        payload: &[u8],
+        room: Vec<u8>,
+    ) -> Result<Reply, AllocError> {
+        exchange(context, &mut self.table, arrival, payload, room)
+    }
+}

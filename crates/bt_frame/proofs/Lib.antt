@@ -1,0 +1,3 @@
+pub mod Exchanges
+pub mod WorkedRows
+pub mod offered

@@ -1,0 +1,82 @@
+-- What a service writes for what arrives.
+use Rattle.std.specs.Prelude.{ℕ, ◌≡◌, ◌≤◌, ◌-◌, ◌^◌, ◌++◌, List, [], ◌∷◌, length, take, Option, IfSome}
+use Rattle.bt_script.specs.Streams.{Took, TookPrefix}
+use Rattle.bt_script.specs.declared.counted.Counted.{Counted}
+use Rattle.bt_frame.specs.Frames.{arrivals, frame}
+use Rattle.bt_frame.specs.Receipts.{Receives, ReceivesNothing}
+use Rattle.bt_frame.specs.declared.arrival.Arrival.{Arrival}
+use Rattle.bt_frame.specs.declared.arrival.Arrival.TheVariants.{CutOff, NoFrame}
+use Rattle.bt_frame.specs.declared.service.Next.{Next}
+use Rattle.bt_frame.specs.declared.service.Next.TheVariants.{End, Last, More}
+
+-- bytes that a reader may have had: its bytes, if they are known
+abbrev pub IsInputOf : Option (List ℕ) → List ℕ → Type 0
+IsInputOf known input = IfSome known (λ bytes. bytes ≡ input)
+
+-- an input has more arrivals than are counted
+abbrev pub HasTooMany : ℕ → Option (List ℕ) → Type 0
+HasTooMany most known = (input : List ℕ) × IsInputOf known input × (2 ^ 64 - 1 ≤ length (arrivals most input))
+
+-- after this arrival no other can be found
+abbrev pub IsLast : Arrival → Type 0
+IsLast NoFrame = Unit {0}
+IsLast CutOff = Unit {0}
+IsLast other = ⊥
+
+-- whether more may arrive
+abbrev pub IsNext : Arrival → Next → Type 0
+IsNext arrival More = IsLast arrival → ⊥
+IsNext arrival Last = IsLast arrival
+IsNext arrival End = ⊥
+
+-- a service: what it is after something arrived with a payload, and the kind and the payload of its reply
+module _ {S : Type 0} (after : S → Arrival → List ℕ → S) (reply : S → Arrival → List ℕ → ℕ × List ℕ) where
+  -- the frame of its reply
+  abbrev pub reply_frame : S → Arrival × List ℕ → List ℕ
+  reply_frame service arrived = frame (reply service arrived.0 arrived.1).0 (reply service arrived.0 arrived.1).1
+
+  -- the replies to arrivals one after the other
+  unfoldable pub answers : S → List (Arrival × List ℕ) → List ℕ
+  answers service [] = []
+  answers service (arrived ∷ more) = reply_frame service arrived ++ answers (after service arrived.0 arrived.1) more
+
+  -- the service after them
+  unfoldable pub after_arrivals : S → List (Arrival × List ℕ) → S
+  after_arrivals service [] = service
+  after_arrivals service (arrived ∷ more) = after_arrivals (after service arrived.0 arrived.1) more
+
+  -- what it writes for an input, in which a payload has at most a number of bytes
+  abbrev pub served : ℕ → S → List ℕ → List ℕ
+  served most service input = answers service (arrivals most input)
+
+  module _ {W : Type 0} (contents : W → Option (List ℕ)) (most : ℕ) (begin : S) (known : Option (List ℕ)) (old new : Counted W) where
+    -- a writer took all replies to an input
+    abbrev pub WritesAnswers : Type 0
+    WritesAnswers = (input : List ℕ) × IsInputOf known input × Took contents old new (served most begin input)
+
+    -- a prefix of them
+    abbrev pub WritesSomeAnswers : Type 0
+    WritesSomeAnswers = (input : List ℕ) × IsInputOf known input × TookPrefix contents old new (served most begin input)
+
+    -- the whole replies to the first arrivals
+    abbrev pub WritesWholeAnswers : Type 0
+    WritesWholeAnswers = (input : List ℕ) × IsInputOf known input × ((n : ℕ) × Took contents old new (answers begin (take n (arrivals most input))))
+
+  module _ {R W : Type 0} (remaining : R → Option (List ℕ)) (contents : W → Option (List ℕ)) (most : ℕ) (reader read : Counted R) (writer written : Counted W) (before : S) where
+    -- what arrived has its reply
+    abbrev pub Exchanged : S → Next → Type 0
+    Exchanged now next =
+        (arrival : Arrival) × (payload : List ℕ) × IsNext arrival next × Receives remaining reader read most arrival payload
+        × (now ≡ after before arrival payload) × Took contents writer written (reply_frame before (arrival, payload))
+
+    -- one exchange, or the end
+    abbrev pub Exchanges : S → Next → Type 0
+    Exchanges now End = ReceivesNothing remaining reader read × (now ≡ before) × (written ≡ writer)
+    Exchanges now More = Exchanged now More
+    Exchanges now Last = Exchanged now Last
+
+    -- a part of the reply to what arrived is written
+    abbrev pub BreaksOff : Type 0
+    BreaksOff =
+        (arrival : Arrival) × (payload : List ℕ) × Receives remaining reader read most arrival payload
+        × TookPrefix contents writer written (reply_frame before (arrival, payload))
