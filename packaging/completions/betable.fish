@@ -6,6 +6,7 @@ complete -c betable -l grain -x -d 'Divides packets of G messages or more into j
 complete -c betable -l help -d 'Print help'
 complete -c betable -l version -d 'Print the version and what was proved'
 complete -c betable -n __fish_use_subcommand -a shell -d 'A prompt for commands'
+complete -c betable -n __fish_use_subcommand -a engine -d 'Serve requests of other programs on standard input'
 complete -c betable -n __fish_use_subcommand -a serve -d 'Serve a durable table by HTTP'
 complete -c betable -n __fish_use_subcommand -a restore -d 'Put a backup in the place of a durable table'
 complete -c betable -n __fish_use_subcommand -a copy -d 'Copy a durable table with other columns'
