@@ -23,12 +23,17 @@
 //! }
 //! ```
 //!
+//! An [`Engine`] has the same calls. It is a process of its own, which works on each call by several threads: docs/ENGINE.md says when to use which.
+//!
 //! A call takes a session by `&mut`, so one call at a time uses it. It is `Send`, so it goes from thread to thread, and `Mutex<Session>` is used by several. It
 //! is closed when it is dropped. Cargo builds this crate with Cargo.toml; clients/rust/build uses only rustc. Both link the libbt_c.a of the folder that
 //! BETABLE_LIBRARY names.
 
 mod changes;
+mod engine;
 mod fault;
+mod library;
+mod link;
 mod packed;
 mod reason;
 mod rows;
@@ -38,7 +43,10 @@ mod usage;
 mod values;
 
 pub use changes::{Changes, Op};
+pub use engine::{EngineOptions, Process};
 pub use fault::Fault;
+pub use library::{Library, OutOfMemory};
+pub use link::Link;
 pub use reason::{Problem, Reason};
 pub use rows::{Row, Rows};
 pub use sums::{Group, Sums};
@@ -46,76 +54,13 @@ pub use trees::Tree;
 pub use usage::Usage;
 pub use values::{Column, FromValue, Kind, Packer, ToValue, Value, Values};
 
-use packed::CallFault;
-use reason::CallReason;
 use std::error::Error;
 use std::fmt;
 use std::ops::Range;
-use std::ptr::null_mut;
 
-#[repr(C)]
-struct Handle {
-    at: *mut u8,
-    is_open: bool,
-}
-
-#[repr(C)]
-struct ReplyPlace {
-    offset: u64,
-    length: u64,
-    kind: u32,
-}
-
-#[link(name = "bt_c", kind = "static")]
-extern "C" {
-    fn betable_open(session: *mut Handle) -> u32;
-    fn betable_run(session: *mut Handle, script: *const u8, length: usize) -> u32;
-    fn betable_check(session: *mut Handle, script: *const u8, length: usize) -> u32;
-    fn betable_explain(session: *mut Handle, script: *const u8, length: usize, reason: *mut CallReason) -> u32;
-    fn betable_apply(session: *mut Handle, changes: *const u8, length: usize, fault: *mut CallFault) -> u32;
-    fn betable_get(session: *mut Handle, key: *const u8, length: usize, fault: *mut CallFault) -> u32;
-    fn betable_page(session: *mut Handle, page: *const u8, length: usize, fault: *mut CallFault) -> u32;
-    fn betable_last_page(session: *mut Handle, page: *const u8, length: usize, fault: *mut CallFault) -> u32;
-    fn betable_sums(session: *mut Handle, sums: *const u8, length: usize, fault: *mut CallFault) -> u32;
-    fn betable_usage(session: *mut Handle, name: *const u8, length: usize, fault: *mut CallFault) -> u32;
-    fn betable_trees(session: *mut Handle, request: *const u8, length: usize, fault: *mut CallFault) -> u32;
-    fn betable_replies_length(session: *mut Handle) -> usize;
-    fn betable_copy_replies(session: *mut Handle, from: usize, out: *mut u8, room: usize) -> usize;
-    fn betable_refused_count(session: *mut Handle) -> usize;
-    fn betable_reply_count(session: *mut Handle) -> usize;
-    fn betable_reply(session: *mut Handle, place: usize, reply: *mut ReplyPlace) -> bool;
-    fn betable_is_lost(session: *mut Handle) -> bool;
-    fn betable_close(session: *mut Handle) -> u32;
-}
-
-const DONE: u32 = 0;
-const REPLY_CUT: u32 = 2;
-const REFUSED: u32 = 5;
-/// What became of a command that was refused, or would be.
-const COMMAND_REFUSED: u32 = 2;
-
-/// The library ran out of memory.
-#[derive(Debug)]
-pub struct OutOfMemory {
-    /// The replies of the first commands, which were carried out.
-    pub replies: Replies,
-    /// Whether the last of them is not whole.
-    pub is_cut: bool,
-    /// Whether the table is lost: then each command on it is refused.
-    pub is_lost: bool,
-}
-
-impl fmt::Display for OutOfMemory {
-    fn fmt(&self, out: &mut fmt::Formatter<'_>) -> fmt::Result {
-        out.write_str(if self.is_lost { "out of memory, and the table is lost" } else { "out of memory" })
-    }
-}
-
-impl Error for OutOfMemory {}
-
-/// A table, or none so far, that lives between scripts.
-pub struct Session {
-    handle: Handle,
+/// A table, or none so far, that lives between scripts: that of a [`Session`] or of an [`Engine`].
+pub struct Table<L> {
+    link: L,
     /// The trees, if a typed call has read them since the last script.
     trees: Vec<Tree>,
     /// The packed bytes of a typed call.
@@ -126,80 +71,37 @@ pub struct Session {
     ends: Vec<usize>,
 }
 
-// SAFETY: as include/betable.h says, a session may go from one thread to another between two calls, if something orders them, as all that sends a value to
-// another thread does. Calls take the session by `&mut`, so no two threads use it at the same time.
-unsafe impl Send for Session {}
+/// A table in the memory of this process. Its calls run on the thread of the caller. A script or a check fails with [`OutOfMemory`].
+pub type Session = Table<Library>;
 
-impl Session {
-    pub fn new() -> Result<Session, OutOfMemory> {
-        let mut handle = Handle { at: null_mut(), is_open: false };
-        if unsafe { betable_open(&mut handle) } != DONE {
-            return Err(OutOfMemory { replies: Replies::default(), is_cut: false, is_lost: false });
-        }
-        Ok(Session { handle, trees: Vec::new(), packed: Vec::new(), reply: Vec::new(), ends: Vec::new() })
+/// A table in a process of its own, which works on each call by several threads. A script or a check fails with a [`Fault`].
+pub type Engine = Table<Process>;
+
+impl<L> Table<L> {
+    pub(crate) fn of(link: L) -> Table<L> {
+        Table { link, trees: Vec::new(), packed: Vec::new(), reply: Vec::new(), ends: Vec::new() }
     }
+}
 
+impl<L: Link> Table<L> {
     /// Carries out the commands of a script, and returns their replies.
-    pub fn run(&mut self, script: &[u8]) -> Result<Replies, OutOfMemory> {
+    pub fn run(&mut self, script: &[u8]) -> Result<Replies, L::Failure> {
         self.trees.clear();
-        let status = unsafe { betable_run(&mut self.handle, script.as_ptr(), script.len()) };
-        let mut bytes = vec![0; unsafe { betable_replies_length(&mut self.handle) }];
-        let count = unsafe { betable_copy_replies(&mut self.handle, 0, bytes.as_mut_ptr(), bytes.len()) };
-        bytes.truncate(count);
-        let replies = Replies { bytes, parts: self.parts(), refused_count: unsafe { betable_refused_count(&mut self.handle) } };
-        if status != DONE {
-            return Err(OutOfMemory { replies, is_cut: status == REPLY_CUT, is_lost: self.is_lost() });
-        }
-        Ok(replies)
+        self.link.run(script)
     }
 
     /// The places of the commands of a script that would be refused, counted from 0 as in the replies of `run`. Each is judged by itself on the table as it is:
     /// none is carried out, and nothing changes. So no command is judged with the effects of those before it.
-    pub fn check(&mut self, script: &[u8]) -> Result<Vec<usize>, OutOfMemory> {
-        let status = unsafe { betable_check(&mut self.handle, script.as_ptr(), script.len()) };
-        if status != DONE {
-            return Err(self.out_of_memory());
-        }
-        Ok(self.parts().iter().enumerate().filter(|(_, part)| part.is_refused).map(|(place, _)| place).collect())
+    pub fn check(&mut self, script: &[u8]) -> Result<Vec<usize>, L::Failure> {
+        let parts = self.link.check(script)?;
+        Ok(parts.iter().enumerate().filter(|(_, part)| part.is_refused).map(|(place, _)| place).collect())
     }
 
     /// Why the first command of a script would be refused because of its records, on the table as it is: the lines of a batch, the key of a get, the text of a
-    /// load, or the bounds of a scan or of sums. None if it would not be. It is not carried out. Of several faults the reason is that of the refusal in the reply,
-    /// and of these the first.
-    pub fn explain(&mut self, script: &[u8]) -> Result<Option<Reason>, OutOfMemory> {
-        let mut reason = CallReason::default();
-        match unsafe { betable_explain(&mut self.handle, script.as_ptr(), script.len(), &mut reason) } {
-            DONE => Ok(None),
-            REFUSED => Ok(Some(reason.reason())),
-            _ => Err(self.out_of_memory()),
-        }
-    }
-
-    fn out_of_memory(&mut self) -> OutOfMemory {
-        OutOfMemory { replies: Replies::default(), is_cut: false, is_lost: self.is_lost() }
-    }
-
-    /// Where the replies to the last script are, which was done or checked. None if it was not.
-    fn parts(&mut self) -> Vec<Part> {
-        let mut place = ReplyPlace { offset: 0, length: 0, kind: 0 };
-        let count = unsafe { betable_reply_count(&mut self.handle) };
-        let mut parts = Vec::with_capacity(count);
-        while unsafe { betable_reply(&mut self.handle, parts.len(), &mut place) } {
-            let bytes = place.offset as usize..(place.offset + place.length) as usize;
-            parts.push(Part { bytes, is_refused: place.kind == COMMAND_REFUSED });
-        }
-        parts
-    }
-
-    /// Whether the table was lost when memory ran out.
-    pub fn is_lost(&mut self) -> bool {
-        unsafe { betable_is_lost(&mut self.handle) }
-    }
-}
-
-impl Drop for Session {
-    fn drop(&mut self) {
-        unsafe { betable_close(&mut self.handle) };
+    /// load, or the bounds of a scan or of sums. None if it would not be. It is not carried out. Of several faults the reason is that of the refusal in the
+    /// reply, and of these the first.
+    pub fn explain(&mut self, script: &[u8]) -> Result<Option<Reason>, L::Failure> {
+        self.link.explain(script)
     }
 }
 
@@ -213,7 +115,7 @@ pub struct Replies {
 
 /// Where a reply is, and whether its command was refused.
 #[derive(Debug)]
-struct Part {
+pub struct Part {
     bytes: Range<usize>,
     is_refused: bool,
 }

@@ -1,10 +1,11 @@
 //! Changes of rows by values.
 
 use crate::fault::Fault;
-use crate::packed::{MAGIC, PRIMARY};
+use crate::link::Link;
+use crate::packed::{MAGIC, PRIMARY, Request};
 use crate::trees::Tree;
 use crate::values::{Value, Values, append, pack_all, pack_value};
-use crate::{Session, betable_apply};
+use crate::{Library, Table};
 
 /// An operation of an upsert, with the name of its column.
 #[derive(Clone, Copy, Debug, PartialEq, Eq)]
@@ -24,18 +25,18 @@ pub enum Op<'a> {
 /// changes.apply()?;
 /// ```
 #[must_use = "no change is applied before the call of `apply`"]
-pub struct Changes<'s> {
-    session: &'s mut Session,
+pub struct Changes<'s, L = Library> {
+    pub(crate) owner: &'s mut Table<L>,
     table: usize,
     count: u32,
 }
 
-impl Session {
+impl<L: Link> Table<L> {
     /// Starts changes of rows.
-    pub fn changes(&mut self) -> Result<Changes<'_>, Fault> {
+    pub fn changes(&mut self) -> Result<Changes<'_, L>, Fault> {
         let table = self.tree(PRIMARY)?;
         self.begin(0)?;
-        Ok(Changes { session: self, table, count: 0 })
+        Ok(Changes { owner: self, table, count: 0 })
     }
 
     /// Puts rows: all of them, or none. A row replaces the one with its key.
@@ -60,7 +61,7 @@ impl Session {
     }
 }
 
-impl Changes<'_> {
+impl<L: Link> Changes<'_, L> {
     /// Adds the put of a row.
     pub fn put<R: Values + ?Sized>(&mut self, row: &R) -> Result<(), Fault> {
         self.add(PUT, |out, table, item| pack_all(out, item, &table.columns, row))
@@ -82,14 +83,18 @@ impl Changes<'_> {
     }
 
     /// Applies the changes.
-    pub fn apply(self) -> Result<(), Fault> {
-        self.session.packed[MAGIC.len()..][..4].copy_from_slice(&self.count.to_le_bytes());
-        self.session.call(betable_apply)
+    pub fn apply(mut self) -> Result<(), Fault> {
+        self.pack_count();
+        self.owner.call(Request::Apply)
+    }
+
+    pub(crate) fn pack_count(&mut self) {
+        self.owner.packed[MAGIC.len()..][..4].copy_from_slice(&self.count.to_le_bytes());
     }
 
     // Adds a change. An `Err` leaves those before it.
     fn add(&mut self, code: u8, pack: impl FnOnce(&mut Vec<u8>, &Tree, u64) -> Result<(), Fault>) -> Result<(), Fault> {
-        let Session { packed, trees, .. } = &mut *self.session;
+        let Table { packed, trees, .. } = &mut *self.owner;
         let (start, count) = (packed.len(), self.count.checked_add(1).ok_or(Fault::TooLarge)?);
         let result = append(packed, &[code]).and_then(|()| pack(packed, &trees[self.table], count.into()));
         match result {

@@ -4,6 +4,8 @@ use crate::values::Kind;
 use crate::{OutOfMemory, Refusal};
 use std::error::Error;
 use std::fmt;
+use std::io;
+use std::process::ExitStatus;
 
 /// Why a typed call failed. It has changed nothing, unless the table is lost. Items and columns are counted from 1. An item is one of several changes, the key,
 /// or 1 for the lower bound of a scan and 2 for the upper one.
@@ -20,12 +22,18 @@ pub enum Fault {
     TooLong { item: u64, column: u64, name: String, length: usize },
     /// An operation names a column that the table does not have.
     NoSuchColumn { item: u64, name: String },
-    /// More changes than a call takes, which is 4,294,967,295, or more bytes of them than a buffer holds.
+    /// More changes than a call takes, which is 4,294,967,295, or more bytes of them than a buffer holds. Or more bytes of a request than the engine takes.
     TooLarge,
     /// A request for memory was refused.
     OutOfMemory { is_lost: bool },
-    /// The reply of the library is in another layout than the one that this crate reads: the two are of different versions.
+    /// The reply of the library or of the engine is in another layout than the one that this crate reads: the two are of different versions. An engine was
+    /// killed if what arrived is no reply.
     OtherVersion,
+    /// The engine has ended, or was killed, before the whole reply arrived. Its table is gone, and later calls fail in the same way. The status is that of its
+    /// process, or `None` if it is not known.
+    Ended { status: Option<ExitStatus> },
+    /// The program of the engine could not be started.
+    NotStarted { kind: io::ErrorKind },
 }
 
 impl Fault {
@@ -77,7 +85,10 @@ impl fmt::Display for Fault {
             Fault::TooLarge => out.write_str("more changes than one call takes"),
             Fault::OutOfMemory { is_lost: true } => out.write_str("out of memory, and the table is lost"),
             Fault::OutOfMemory { is_lost: false } => out.write_str("out of memory"),
-            Fault::OtherVersion => out.write_str("the library is of another version than the crate"),
+            Fault::OtherVersion => out.write_str("the library or the engine is of another version than the crate"),
+            Fault::Ended { status: Some(status) } => write!(out, "the engine has ended: {status}"),
+            Fault::Ended { status: None } => out.write_str("the engine has ended"),
+            Fault::NotStarted { kind } => write!(out, "the engine was not started: {kind}"),
         }
     }
 }

@@ -1,8 +1,9 @@
 //! Calls on packed bytes.
 
+use crate::Table;
 use crate::fault::Fault;
-use crate::values::{append, reserve};
-use crate::{DONE, Handle, REFUSED, Session, betable_copy_replies, betable_replies_length};
+use crate::link::Link;
+use crate::values::append;
 
 /// What packed bytes begin with: the version is 1.
 pub(crate) const MAGIC: [u8; 4] = *b"BTV\x01";
@@ -10,18 +11,19 @@ pub(crate) const MAGIC: [u8; 4] = *b"BTV\x01";
 /// The name of the tree of rows.
 pub(crate) const PRIMARY: &str = "primary";
 
-/// Why the library refused a call, and where. 0 is no item, and no column.
-#[repr(C)]
-#[derive(Default)]
-pub(crate) struct CallFault {
-    refusal: u64,
-    item: u64,
-    column: u64,
+/// What a call on packed bytes asks for: the kind of its frame, if it goes to an engine.
+#[derive(Clone, Copy)]
+pub enum Request {
+    Apply = 3,
+    Get = 4,
+    Page = 5,
+    LastPage = 6,
+    Sums = 7,
+    Usage = 9,
+    Trees = 10,
 }
 
-type Call = unsafe extern "C" fn(*mut Handle, *const u8, usize, *mut CallFault) -> u32;
-
-impl Session {
+impl<L: Link> Table<L> {
     /// Begins packed bytes with a number.
     pub(crate) fn begin(&mut self, number: u32) -> Result<(), Fault> {
         self.packed.clear();
@@ -47,28 +49,14 @@ impl Session {
         }
     }
 
-    /// Makes a call on the packed bytes.
-    pub(crate) fn call(&mut self, call: Call) -> Result<(), Fault> {
-        let mut fault = CallFault::default();
-        // SAFETY: the session is open, and `call` reads these bytes and writes this fault, none of which overlap.
-        match unsafe { call(&mut self.handle, self.packed.as_ptr(), self.packed.len(), &mut fault) } {
-            DONE => Ok(()),
-            REFUSED => Err(Fault::refused(fault.refusal, fault.item, fault.column)),
-            _ => Err(Fault::OutOfMemory { is_lost: self.is_lost() }),
-        }
+    /// Makes a call on the packed bytes. Its reply has rows or other packed bytes, or nothing if the call changes rows.
+    pub(crate) fn call(&mut self, request: Request) -> Result<(), Fault> {
+        self.link.call(request, &self.packed, &mut self.reply)
     }
 
-    /// Makes a call on the packed bytes, and copies its reply.
-    pub(crate) fn call_with_reply(&mut self, call: Call) -> Result<(), Fault> {
-        self.reply.clear();
-        self.call(call)?;
-        let length = unsafe { betable_replies_length(&mut self.handle) };
-        reserve(&mut self.reply, length)?;
-        // SAFETY: there is room for `length` bytes, and the first `count` of them are written.
-        unsafe {
-            let count = betable_copy_replies(&mut self.handle, 0, self.reply.as_mut_ptr(), length);
-            self.reply.set_len(count);
-        }
+    /// Makes a call on the packed bytes that has packed bytes as its reply.
+    pub(crate) fn call_with_reply(&mut self, request: Request) -> Result<(), Fault> {
+        self.call(request)?;
         if self.reply.starts_with(&MAGIC) { Ok(()) } else { Err(Fault::OtherVersion) }
     }
 }

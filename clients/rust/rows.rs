@@ -1,9 +1,10 @@
 //! Reading rows by values.
 
 use crate::fault::Fault;
-use crate::packed::{MAGIC, PRIMARY};
+use crate::link::Link;
+use crate::packed::{MAGIC, PRIMARY, Request};
 use crate::values::{Column, FromValue, Kind, Value, Values, append, for_each_tuple, pack_all, pack_first};
-use crate::{Session, betable_get, betable_last_page, betable_page};
+use crate::{Library, Table};
 
 /// The rows that a scan reads at a time.
 const ROWS_OF_PAGE: u32 = 1024;
@@ -74,9 +75,9 @@ enum Order {
 }
 
 /// The rows of a range of a tree, which are read page by page. A row is borrowed until the next one is read.
-pub struct Rows<'s> {
+pub struct Rows<'s, L = Library> {
     // Its packed bytes ask for the next page.
-    session: &'s mut Session,
+    owner: &'s mut Table<L>,
     tree: usize,
     order: Order,
     most: u32,
@@ -88,13 +89,13 @@ pub struct Rows<'s> {
     left: u32,
 }
 
-impl Session {
+impl<L: Link> Table<L> {
     /// The row of a key.
     pub fn get<K: Values + ?Sized>(&mut self, key: &K) -> Result<Option<Row<'_>>, Fault> {
         let table = self.tree(PRIMARY)?;
         self.begin(1)?;
         pack_all(&mut self.packed, 1, self.trees[table].key(), key)?;
-        self.call_with_reply(betable_get)?;
+        self.call_with_reply(Request::Get)?;
         if self.reply.len() == MAGIC.len() {
             return Ok(None);
         }
@@ -104,7 +105,7 @@ impl Session {
 
     /// The rows of a tree, in ascending order of its key, from a lower bound on and before an upper one. A bound is values of the first key columns of the
     /// tree: of one or more, or `&()` for no bound. The first page is read by the first call of `next`.
-    pub fn scan<F, T>(&mut self, tree: &str, from: &F, to: &T) -> Result<Rows<'_>, Fault>
+    pub fn scan<F, T>(&mut self, tree: &str, from: &F, to: &T) -> Result<Rows<'_, L>, Fault>
     where
         F: Values + ?Sized,
         T: Values + ?Sized,
@@ -113,7 +114,7 @@ impl Session {
     }
 
     /// A scan that reads at most this many rows at a time, and at least one.
-    pub fn pages<F, T>(&mut self, tree: &str, from: &F, to: &T, most: u32) -> Result<Rows<'_>, Fault>
+    pub fn pages<F, T>(&mut self, tree: &str, from: &F, to: &T, most: u32) -> Result<Rows<'_, L>, Fault>
     where
         F: Values + ?Sized,
         T: Values + ?Sized,
@@ -121,8 +122,8 @@ impl Session {
         self.rows_in_order(Order::Ascending, tree, from, to, most)
     }
 
-    /// The rows of [`scan`](Session::scan) from the last one back, in descending order of the tree's key.
-    pub fn scan_newest_first<F, T>(&mut self, tree: &str, from: &F, to: &T) -> Result<Rows<'_>, Fault>
+    /// The rows of [`scan`](Table::scan) from the last one back, in descending order of the tree's key.
+    pub fn scan_newest_first<F, T>(&mut self, tree: &str, from: &F, to: &T) -> Result<Rows<'_, L>, Fault>
     where
         F: Values + ?Sized,
         T: Values + ?Sized,
@@ -131,7 +132,7 @@ impl Session {
     }
 
     /// A scan from the last row back that reads at most this many rows at a time, and at least one.
-    pub fn pages_newest_first<F, T>(&mut self, tree: &str, from: &F, to: &T, most: u32) -> Result<Rows<'_>, Fault>
+    pub fn pages_newest_first<F, T>(&mut self, tree: &str, from: &F, to: &T, most: u32) -> Result<Rows<'_, L>, Fault>
     where
         F: Values + ?Sized,
         T: Values + ?Sized,
@@ -139,7 +140,7 @@ impl Session {
         self.rows_in_order(Order::NewestFirst, tree, from, to, most)
     }
 
-    fn rows_in_order<F, T>(&mut self, order: Order, tree: &str, from: &F, to: &T, most: u32) -> Result<Rows<'_>, Fault>
+    fn rows_in_order<F, T>(&mut self, order: Order, tree: &str, from: &F, to: &T, most: u32) -> Result<Rows<'_, L>, Fault>
     where
         F: Values + ?Sized,
         T: Values + ?Sized,
@@ -158,7 +159,7 @@ impl Session {
             Order::Ascending => (start, upper),
             Order::NewestFirst => (end, Vec::new()),
         };
-        Ok(Rows { session: self, tree, order, most, head, rest, at: 0, left: 0 })
+        Ok(Rows { owner: self, tree, order, most, head, rest, at: 0, left: 0 })
     }
 
     fn row(&self, tree: usize, start: usize, end: usize) -> Row<'_> {
@@ -178,31 +179,31 @@ impl Session {
     }
 }
 
-impl Rows<'_> {
+impl<L: Link> Rows<'_, L> {
     /// The next row, or `None` after the last one. After an `Err` a further call tries again.
     #[allow(clippy::should_implement_trait)]
     pub fn next(&mut self) -> Result<Option<Row<'_>>, Fault> {
         if self.left == 0 {
-            self.session.call_with_reply(match self.order {
-                Order::Ascending => betable_page,
-                Order::NewestFirst => betable_last_page,
+            self.owner.call_with_reply(match self.order {
+                Order::Ascending => Request::Page,
+                Order::NewestFirst => Request::LastPage,
             })?;
             (self.at, self.left) = (MAGIC.len(), self.most);
         }
-        if self.at == self.session.reply.len() {
+        if self.at == self.owner.reply.len() {
             return Ok(None);
         }
-        let (start, end) = (self.at, self.session.read_ends(self.tree, self.at)?);
+        let (start, end) = (self.at, self.owner.read_ends(self.tree, self.at)?);
         if self.left == 1 {
             self.ask_for_rows_beyond(start)?;
         }
         (self.at, self.left) = (end, self.left - 1);
-        Ok(Some(self.session.row(self.tree, start, end)))
+        Ok(Some(self.owner.row(self.tree, start, end)))
     }
 
     // Packs the page beyond the row at a place of the reply, whose first values are the key. The bound of the whole key is directly before the row.
     fn ask_for_rows_beyond(&mut self, start: usize) -> Result<(), Fault> {
-        let Session { packed, reply, ends, trees, .. } = &mut *self.session;
+        let Table { packed, reply, ends, trees, .. } = &mut *self.owner;
         let count = trees[self.tree].key().len();
         packed.truncate(self.head);
         match self.order {

@@ -1,10 +1,11 @@
 //! Sums of the rows of a tree, by groups.
 
+use crate::Table;
 use crate::fault::Fault;
-use crate::packed::MAGIC;
+use crate::link::Link;
+use crate::packed::{MAGIC, Request};
 use crate::rows::{Row, end_of_value, pack_bound};
 use crate::values::{Column, Values, reserve};
-use crate::{Session, betable_sums};
 
 /// A group of rows that have the same first values.
 #[derive(Clone, Copy)]
@@ -26,9 +27,9 @@ pub struct Sums<'r> {
     ends: &'r [usize],
 }
 
-impl Session {
+impl<L: Link> Table<L> {
     /// Groups the rows of a tree by the values of that many of its first key columns, and gives the number of rows in each group and the sum of a column. The
-    /// bounds are those of [`scan`](Session::scan). Without columns all rows are one group, even if there are none, and without a name no column is summed.
+    /// bounds are those of [`scan`](Table::scan). Without columns all rows are one group, even if there are none, and without a name no column is summed.
     pub fn sums<F, T>(&mut self, tree: &str, columns: u32, column: &str, from: &F, to: &T) -> Result<Sums<'_>, Fault>
     where
         F: Values + ?Sized,
@@ -41,13 +42,13 @@ impl Session {
         let key = self.trees[tree].key();
         pack_bound(&mut self.packed, 1, key, from)?;
         pack_bound(&mut self.packed, 2, key, to)?;
-        self.call_with_reply(betable_sums)?;
+        self.call_with_reply(Request::Sums)?;
         let columns = self.trees[tree].key().get(..columns as usize).ok_or(Fault::OtherVersion)?;
         read_groups(columns, &self.reply[MAGIC.len()..], &mut self.ends)?;
         Ok(Sums { columns, bytes: &self.reply[MAGIC.len()..], ends: &self.ends })
     }
 
-    /// The number of rows of a tree between bounds, which are those of [`scan`](Session::scan). The library gives no row.
+    /// The number of rows of a tree between bounds, which are those of [`scan`](Table::scan). The library gives no row.
     pub fn count<F, T>(&mut self, tree: &str, from: &F, to: &T) -> Result<u64, Fault>
     where
         F: Values + ?Sized,

@@ -1,9 +1,10 @@
 //! The trees of a table, as the library describes them.
 
+use crate::Table;
 use crate::fault::Fault;
-use crate::packed::MAGIC;
+use crate::link::Link;
+use crate::packed::{MAGIC, Request};
 use crate::values::{Column, Kind};
-use crate::{Session, betable_trees};
 
 /// A tree of a table.
 #[derive(Debug)]
@@ -39,7 +40,7 @@ impl Tree {
 const NO_TABLE: u32 = 3;
 const NO_SUCH_TREE: u64 = 8;
 
-impl Session {
+impl<L: Link> Table<L> {
     /// The trees of the table: that of its rows, and then its indexes in the order in which they were made. There are none before the table is made.
     pub fn trees(&mut self) -> Result<&[Tree], Fault> {
         match self.read_trees() {
@@ -59,7 +60,7 @@ impl Session {
     fn read_trees(&mut self) -> Result<(), Fault> {
         if self.trees.is_empty() {
             self.begin(0)?;
-            self.call_with_reply(betable_trees)?;
+            self.call_with_reply(Request::Trees)?;
             self.trees = trees_of_reply(&self.reply[MAGIC.len()..]).ok_or(Fault::OtherVersion)?;
         }
         Ok(())

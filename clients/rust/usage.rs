@@ -1,8 +1,9 @@
 //! How much a tree holds.
 
+use crate::Table;
 use crate::fault::Fault;
-use crate::packed::MAGIC;
-use crate::{Session, betable_usage};
+use crate::link::Link;
+use crate::packed::{MAGIC, Request};
 
 /// How much a tree holds.
 #[derive(Clone, Copy, Debug, PartialEq, Eq)]
@@ -15,12 +16,12 @@ pub struct Usage {
     pub height: u64,
 }
 
-impl Session {
+impl<L: Link> Table<L> {
     /// How much a tree holds, which may be an index that is not complete.
     pub fn usage(&mut self, tree: &str) -> Result<Usage, Fault> {
         self.begin(1)?;
         self.pack_name(tree)?;
-        self.call_with_reply(betable_usage)?;
+        self.call_with_reply(Request::Usage)?;
         let numbers = &self.reply[MAGIC.len()..];
         let number = |place: usize| numbers.get(8 * place..)?.get(..8)?.try_into().ok().map(u64::from_le_bytes);
         match (number(0), number(1), number(2), numbers.len()) {

@@ -148,7 +148,7 @@ static void add_changes(message *to, uint32_t count) {
 /* ---- the state of a table ---- */
 
 /* Runs a script, and copies its replies. */
-static void run(betable_session *session, const char *script, message *found) {
+static inline void run(betable_session *session, const char *script, message *found) {
     if (betable_run(session, (const unsigned char *)script, strlen(script)) != BETABLE_DONE) {
         exit(4);
     }
@@ -158,6 +158,6 @@ static void run(betable_session *session, const char *script, message *found) {
     }
 }
 
-static int is_same(const message *one, const message *other) { return one->length == other->length && memcmp(one->at, other->at, one->length) == 0; }
+static inline int is_same(const message *one, const message *other) { return one->length == other->length && memcmp(one->at, other->at, one->length) == 0; }
 
 #endif

@@ -6,7 +6,10 @@
 //! it. At the end the whole script is checked in one call, which says the same as checks of its commands. The reason of a command is that of its refusal, and a
 //! record of another length has one. Prints how many commands were refused, and how many were not.
 
-use betable::{OutOfMemory, Problem, Reply, Session};
+mod opened;
+
+use betable::{Fault, Library, Problem, Process, Reply};
+use opened::{Open, is_engine, replies};
 
 /// The places of the replies that are refusals.
 fn places_refused(replies: impl Iterator<Item = Reply>) -> Vec<usize> {
@@ -14,20 +17,23 @@ fn places_refused(replies: impl Iterator<Item = Reply>) -> Vec<usize> {
 }
 
 /// The numbers of commands that were refused, and that were not.
-fn check(words: &[String]) -> Result<(usize, usize), OutOfMemory> {
+fn check<L: Open>(words: &[String]) -> Result<(usize, usize), Fault> {
     let script = std::fs::read(&words[0]).expect("a script");
     let places: Vec<usize> = words[1..].iter().map(|word| word.parse().expect("a place")).collect();
-    let (mut session, mut refused, mut counts) = (Session::new()?, 0, Vec::new());
+    let (mut session, mut refused, mut counts) = (L::open()?, 0, Vec::new());
     let commands: Vec<&[u8]> = places.windows(2).map(|place| &script[place[0]..place[1]]).collect();
     for command in &commands {
-        let would_be = session.check(command)?;
-        let reason = session.explain(command)?;
-        let replies = session.run(command)?;
+        let would_be = session.check(command).map_err(Into::into)?;
+        let reason = session.explain(command).map_err(Into::into)?;
+        let replies = replies(&mut session, command)?;
         match replies.iter().next() {
             Some(Reply::Refused(refusal)) => {
                 assert!(reason.is_some() || refusal.number != 7);
                 assert!(reason.map_or(true, |reason| reason.refusal == refusal.number.into() && refusal.item.map_or(true, |item| item == reason.item)));
-                assert_eq!(refusal.number == 7, reason.is_some_and(|reason| reason.field.is_none() && reason.problem == Problem::FieldCount && reason.refusal != 5));
+                assert_eq!(
+                    refusal.number == 7,
+                    reason.is_some_and(|reason| reason.field.is_none() && reason.problem == Problem::FieldCount && reason.refusal != 5)
+                );
             }
             _ => assert_eq!(reason, None),
         }
@@ -38,18 +44,18 @@ fn check(words: &[String]) -> Result<(usize, usize), OutOfMemory> {
     }
     let (mut alone, mut count) = (Vec::new(), 0);
     for (command, of_command) in commands.iter().zip(counts) {
-        alone.extend(session.check(command)?.iter().map(|place| count + place));
+        alone.extend(session.check(command).map_err(Into::into)?.iter().map(|place| count + place));
         count += of_command;
     }
-    assert_eq!(session.check(&script)?, alone, "{}", words[0]);
+    assert_eq!(session.check(&script).map_err(Into::into)?, alone, "{}", words[0]);
     Ok((refused, count - refused))
 }
 
-fn main() -> Result<(), OutOfMemory> {
+fn main() -> Result<(), Fault> {
     let words: Vec<String> = std::env::args().skip(1).collect();
     let (mut refused, mut done) = (0, 0);
     for script in words.split(|word| word == "--") {
-        let (of_script, others) = check(script)?;
+        let (of_script, others) = if is_engine() { check::<Process>(script)? } else { check::<Library>(script)? };
         refused += of_script;
         done += others;
     }

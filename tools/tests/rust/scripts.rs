@@ -3,13 +3,15 @@
 //!     scripts SCRIPT PLACE .. [-- SCRIPT PLACE ..] ..
 //!
 //! PLACE .. are the places at which the commands of a script begin, and its end. A batch, a get, a scan or sums whose lines are plain, and say values of their
-//! columns, are a typed call in one session; every other command is run as it is. After each command both sessions have the same replies, and the same images
-//! of all trees. Prints the number of typed calls of each kind.
+//! columns, are a typed call in one session, or in an engine if opened.rs says so; every other command is run as it is. After each command both sessions have
+//! the same replies, and the same images of all trees. Prints the number of typed calls of each kind.
 
 mod fields;
+mod opened;
 
-use betable::{Fault, Op, Reply, Row, Session, Sum, Value};
+use betable::{Fault, Library, Link, Op, Process, Reply, Row, Session, Sum, Value};
 use fields::field;
+use opened::{Open, is_engine, replies};
 use std::collections::BTreeSet;
 
 /// The columns of a table, as its line says.
@@ -161,7 +163,7 @@ fn op<'a>((word, name, value): &'a (&str, &str, Owned)) -> Op<'a> {
     }
 }
 
-fn apply(session: &mut Session, found: &[Change<'_>]) -> Result<(), Fault> {
+fn apply<L: Link>(session: &mut betable::Table<L>, found: &[Change<'_>]) -> Result<(), Fault> {
     let mut changes = session.changes()?;
     for change in found {
         match change {
@@ -174,7 +176,7 @@ fn apply(session: &mut Session, found: &[Change<'_>]) -> Result<(), Fault> {
 }
 
 /// The reply that a script gives to a typed call, but for the numbers in that of a batch.
-fn reply(session: &mut Session, call: &Call<'_>) -> Result<Reply, Fault> {
+fn reply<L: Link>(session: &mut betable::Table<L>, call: &Call<'_>) -> Result<Reply, Fault> {
     match call {
         Call::Batch(changes) => apply(session, changes).map(|()| Reply::Line("batch".to_string())),
         Call::Get(key) => Ok(session.get(&values(key))?.map_or(Reply::None, |row| Reply::Row(record(row)))),
@@ -192,16 +194,16 @@ fn reply(session: &mut Session, call: &Call<'_>) -> Result<Reply, Fault> {
     }
 }
 
-fn images(session: &mut Session, trees: &BTreeSet<&str>) -> Result<Vec<u8>, Fault> {
+fn images<L: Link>(session: &mut betable::Table<L>, trees: &BTreeSet<&str>) -> Result<Vec<u8>, Fault> {
     let script: String = trees.iter().map(|tree| format!("image {tree}\n")).collect();
-    Ok(session.run(script.as_bytes())?.as_bytes().to_vec())
+    Ok(replies(session, script.as_bytes())?.as_bytes().to_vec())
 }
 
 /// Counts the typed calls: batches, gets, scans, sums, and those of them that are refused.
-fn check(path: &str, places: &[String], counts: &mut [usize; 5]) -> Result<(), Fault> {
+fn check<L: Open>(path: &str, places: &[String], counts: &mut [usize; 5]) -> Result<(), Fault> {
     let script = std::fs::read(path).expect("a script");
     let places: Vec<usize> = places.iter().map(|place| place.parse().expect("a place")).collect();
-    let (mut by_script, mut typed, mut table, mut trees) = (Session::new()?, Session::new()?, None, BTreeSet::from(["primary"]));
+    let (mut by_script, mut typed, mut table, mut trees) = (Session::new()?, L::open()?, None, BTreeSet::from(["primary"]));
     for place in places.windows(2) {
         let command = &script[place[0]..place[1]];
         let wanted = by_script.run(command)?.iter().next();
@@ -217,7 +219,7 @@ fn check(path: &str, places: &[String], counts: &mut [usize; 5]) -> Result<(), F
         let found = match &call {
             Some(call) => reply(&mut typed, call),
             None => {
-                assert_eq!(typed.run(command)?.iter().next(), wanted, "{path}: {text}");
+                assert_eq!(replies(&mut typed, command)?.iter().next(), wanted, "{path}: {text}");
                 continue;
             }
         };
@@ -242,6 +244,7 @@ fn main() -> Result<(), Fault> {
     let words: Vec<String> = std::env::args().skip(1).collect();
     let mut counts = [0; 5];
     for script in words.split(|word| word == "--") {
+        let check = if is_engine() { check::<Process> } else { check::<Library> };
         check(&script[0], &script[1..], &mut counts)?;
     }
     println!("{} batches, {} gets, {} scans, {} sums, {} refused", counts[0], counts[1], counts[2], counts[3], counts[4]);

@@ -1,13 +1,17 @@
-//! Typed calls beside scripts that do the same, and wrong typed calls.
+//! Typed calls, of a session or of an engine as opened.rs says, beside scripts that do the same in a session, and wrong typed calls.
 //!
 //!     typed changes | reads | pages | sums | usage | trees | wrong | allocations | replies | threads
 //!
 //! The status is not 0 if what the word names does not hold, and a line says where.
 
 mod fields;
+mod opened;
 
-use betable::{Fault, FromValue, Group, Kind, Op, Packer, Refusal, Reply, Row, Rows, Session, Sum, Tree, Usage, Value, Values, quoted};
+use betable::{
+    Fault, FromValue, Group, Kind, Library, Link, Op, Packer, Process, Refusal, Reply, Row, Rows, Session, Sum, Table, Tree, Usage, Value, Values, quoted,
+};
 use fields::{field, hexadecimal};
+use opened::{Open, is_engine, replies};
 use std::alloc::{GlobalAlloc, Layout, System};
 use std::sync::atomic::{AtomicUsize, Ordering};
 use std::sync::{Arc, Mutex};
@@ -134,7 +138,7 @@ fn run(session: &mut Session, changes: &[Change]) -> Result<(), Fault> {
     Ok(())
 }
 
-fn apply(session: &mut Session, changes: &[Change]) -> Result<(), Fault> {
+fn apply<L: Link>(session: &mut Table<L>, changes: &[Change]) -> Result<(), Fault> {
     if let [Change::Upsert(city)] = changes {
         return session.upsert(&city.key(), &Change::ops(*city));
     }
@@ -149,15 +153,15 @@ fn apply(session: &mut Session, changes: &[Change]) -> Result<(), Fault> {
     added.apply()
 }
 
-fn images(session: &mut Session) -> Result<Vec<u8>, Fault> {
-    Ok(session.run(b"image primary\nimage by_city\n")?.as_bytes().to_vec())
+fn images<L: Link>(session: &mut Table<L>) -> Result<Vec<u8>, Fault> {
+    Ok(replies(session, b"image primary\nimage by_city\n")?.as_bytes().to_vec())
 }
 
 /// Two sessions after the same random changes, which are scripts in one and typed calls in the other.
-fn sessions(rounds: usize) -> Result<(Session, Session), Fault> {
-    let (mut by_script, mut typed) = (Session::new()?, Session::new()?);
+fn sessions<L: Open>(rounds: usize) -> Result<(Session, Table<L>), Fault> {
+    let (mut by_script, mut typed) = (Session::new()?, L::open()?);
     by_script.run(TABLE.as_bytes())?;
-    typed.run(TABLE.as_bytes())?;
+    replies(&mut typed, TABLE.as_bytes())?;
     let mut random = Random(88_172_645_463_325_252);
     for round in 0..rounds {
         for limit in [24, 2] {
@@ -171,8 +175,8 @@ fn sessions(rounds: usize) -> Result<(Session, Session), Fault> {
 }
 
 /// Random changes one by one and together, then puts and deletes of many rows in one call.
-fn check_changes() -> Result<(), Fault> {
-    let (mut by_script, mut typed) = sessions(150)?;
+fn check_changes<L: Open>() -> Result<(), Fault> {
+    let (mut by_script, mut typed) = sessions::<L>(150)?;
     let mut random = Random(7);
     let cities: Vec<City> = (0..40).map(|_| random.city()).collect();
     let rows: Vec<_> = cities.iter().map(|city| (city.id, city.name.to_string(), city.qty, city.ok, city.hash.to_vec())).collect();
@@ -189,7 +193,7 @@ fn check_changes() -> Result<(), Fault> {
 }
 
 /// The fields of rows that are read.
-fn fields_of(mut rows: Rows<'_>) -> Result<Vec<Vec<String>>, Fault> {
+fn fields_of<L: Link>(mut rows: Rows<'_, L>) -> Result<Vec<Vec<String>>, Fault> {
     let mut found = Vec::new();
     while let Some(row) = rows.next()? {
         found.push(row.values().map(field).collect());
@@ -199,8 +203,9 @@ fn fields_of(mut rows: Rows<'_>) -> Result<Vec<Vec<String>>, Fault> {
 }
 
 /// The fields of the rows of a scan. From the last row back they are the same ones.
-fn scanned<F, T>(session: &mut Session, tree: &str, from: &F, to: &T, most: u32) -> Result<Vec<Vec<String>>, Fault>
+fn scanned<F, T, L>(session: &mut Table<L>, tree: &str, from: &F, to: &T, most: u32) -> Result<Vec<Vec<String>>, Fault>
 where
+    L: Link,
     F: Values + ?Sized,
     T: Values + ?Sized,
 {
@@ -217,7 +222,7 @@ fn reply(session: &mut Session, script: &str) -> Result<Reply, Fault> {
 }
 
 /// Every key of the random rows, in `get`.
-fn check_gets(by_script: &mut Session, typed: &mut Session) -> Result<(), Fault> {
+fn check_gets<L: Link>(by_script: &mut Session, typed: &mut Table<L>) -> Result<(), Fault> {
     for id in -7..7 {
         for name in CITIES {
             let expected = match reply(by_script, &format!("get {id},{}\n", quoted(name)))? {
@@ -264,7 +269,7 @@ fn lines_of_bounds(from: &str, to: &str) -> String {
 }
 
 /// Each pair of bounds, with each of these numbers of rows of a page.
-fn check_scans(by_script: &mut Session, typed: &mut Session, mosts: &[u32]) -> Result<(), Fault> {
+fn check_scans<L: Link>(by_script: &mut Session, typed: &mut Table<L>, mosts: &[u32]) -> Result<(), Fault> {
     for (tree, bounds) in bounds_of_trees() {
         for (from, lower) in &bounds {
             for (to, upper) in &bounds {
@@ -285,8 +290,8 @@ fn sum_of_reply(group: Group<'_>) -> Sum {
 }
 
 /// The use of a tree, as its image has it: the rows of the leaves, the messages of the inner nodes, and the height.
-fn usage_of_image(session: &mut Session, tree: &str) -> Result<Usage, Fault> {
-    let text = String::from_utf8_lossy(session.run(format!("image {tree}\n").as_bytes())?.as_bytes()).into_owned();
+fn usage_of_image<L: Link>(session: &mut Table<L>, tree: &str) -> Result<Usage, Fault> {
+    let text = String::from_utf8_lossy(replies(session, format!("image {tree}\n").as_bytes())?.as_bytes()).into_owned();
     let mut usage = Usage { rows: 0, messages: 0, height: 0 };
     for line in text.lines() {
         let words: Vec<&str> = line.split_whitespace().collect();
@@ -300,9 +305,9 @@ fn usage_of_image(session: &mut Session, tree: &str) -> Result<Usage, Fault> {
     Ok(usage)
 }
 
-fn check_usage() -> Result<(), Fault> {
+fn check_usage<L: Open>() -> Result<(), Fault> {
     for rounds in [0, 1, 3, 10, 40] {
-        let (_, mut typed) = sessions(rounds)?;
+        let (_, mut typed) = sessions::<L>(rounds)?;
         for tree in ["primary", "by_city"] {
             let expected = usage_of_image(&mut typed, tree)?;
             assert_eq!(typed.usage(tree)?, expected);
@@ -320,13 +325,13 @@ fn description(tree: &Tree) -> (String, String, bool) {
     (tree.name().to_string(), names.join(" "), tree.is_complete())
 }
 
-fn trees_of(session: &mut Session) -> Result<Vec<(String, String, bool)>, Fault> {
+fn trees_of<L: Link>(session: &mut Table<L>) -> Result<Vec<(String, String, bool)>, Fault> {
     Ok(session.trees()?.iter().map(description).collect())
 }
 
 /// The trees after each script: none without a table, and indexes that are building, complete, dropped, and made again with other columns.
-fn check_trees() -> Result<(), Fault> {
-    let mut session = Session::new()?;
+fn check_trees<L: Open>() -> Result<(), Fault> {
+    let mut session = L::open()?;
     let primary = ("primary", "id* city qty ok raw", true);
     for (script, wanted) in [
         ("", vec![]),
@@ -337,7 +342,7 @@ fn check_trees() -> Result<(), Fault> {
         ("build a 9\n", vec![primary, ("a", "city* id* qty", true), ("b", "ok* raw* id*", true)]),
         ("drop a\nindex a on qty\n", vec![primary, ("b", "ok* raw* id*", true), ("a", "qty* id*", false)]),
     ] {
-        session.run(script.as_bytes())?;
+        replies(&mut session, script.as_bytes())?;
         let wanted: Vec<_> = wanted.iter().map(|(name, columns, is_complete)| (name.to_string(), columns.to_string(), *is_complete)).collect();
         assert_eq!(trees_of(&mut session)?, wanted, "{script}");
         session.put::<(i64, &str, i64, bool, &[u8])>(&[]).err();
@@ -349,8 +354,8 @@ fn check_trees() -> Result<(), Fault> {
 }
 
 /// Each pair of bounds, with each number of columns of a group. Totals exceed 64 bits, and are negative.
-fn check_sums() -> Result<(), Fault> {
-    let (mut by_script, mut typed) = sessions(40)?;
+fn check_sums<L: Open>() -> Result<(), Fault> {
+    let (mut by_script, mut typed) = sessions::<L>(40)?;
     let mut largest = (0, 0);
     for (tree, bounds) in bounds_of_trees() {
         for (from, lower) in &bounds {
@@ -386,8 +391,8 @@ fn check_sums() -> Result<(), Fault> {
     Ok(())
 }
 
-fn check_reads() -> Result<(), Fault> {
-    let (mut by_script, mut typed) = sessions(40)?;
+fn check_reads<L: Open>() -> Result<(), Fault> {
+    let (mut by_script, mut typed) = sessions::<L>(40)?;
     check_gets(&mut by_script, &mut typed)?;
     check_scans(&mut by_script, &mut typed, &[1024])?;
     let mut rows = typed.scan("primary", &(-4, "end"), &3)?;
@@ -396,8 +401,8 @@ fn check_reads() -> Result<(), Fault> {
     Ok(())
 }
 
-fn check_pages() -> Result<(), Fault> {
-    let (mut by_script, mut typed) = sessions(40)?;
+fn check_pages<L: Open>() -> Result<(), Fault> {
+    let (mut by_script, mut typed) = sessions::<L>(40)?;
     let count = scanned(&mut typed, "primary", &(), &(), 1024)?.len() as u32;
     assert!(count > 30, "{count} rows");
     check_scans(&mut by_script, &mut typed, &[0, 1, 2, 3, 7, count - 1, count, count + 1, u32::MAX])
@@ -423,7 +428,7 @@ fn too_long(item: u64, column: u64, name: &str, length: usize) -> Fault {
     Fault::TooLong { item, column, name: name.to_string(), length }
 }
 
-type Call = fn(&mut Session) -> Result<(), Fault>;
+type Call<L> = fn(&mut Table<L>) -> Result<(), Fault>;
 
 const LONG: &str = match std::str::from_utf8(&[b'x'; 256]) {
     Ok(text) => text,
@@ -431,12 +436,12 @@ const LONG: &str = match std::str::from_utf8(&[b'x'; 256]) {
 };
 const GOOD: (i64, &str, i64, bool, &[u8]) = (1, "Alta", 2, true, b"");
 
-fn upsert(session: &mut Session, ops: &[Op<'_>]) -> Result<(), Fault> {
+fn upsert<L: Link>(session: &mut Table<L>, ops: &[Op<'_>]) -> Result<(), Fault> {
     session.upsert(&(1, "Oslo"), ops)
 }
 
 /// A good row, and then the given one.
-fn put_second<R: Values>(session: &mut Session, row: &R) -> Result<(), Fault> {
+fn put_second<R: Values, L: Link>(session: &mut Table<L>, row: &R) -> Result<(), Fault> {
     let mut changes = session.changes()?;
     changes.put(&GOOD)?;
     changes.put(row)?;
@@ -444,11 +449,11 @@ fn put_second<R: Values>(session: &mut Session, row: &R) -> Result<(), Fault> {
 }
 
 /// The first row of a scan.
-fn scan<F: Values, T: Values>(session: &mut Session, tree: &str, from: F, to: T) -> Result<(), Fault> {
+fn scan<F: Values, T: Values, L: Link>(session: &mut Table<L>, tree: &str, from: F, to: T) -> Result<(), Fault> {
     session.scan(tree, &from, &to)?.next().map(drop)
 }
 
-fn wrong_changes() -> Vec<(Call, Fault)> {
+fn wrong_changes<L: Link>() -> Vec<(Call<L>, Fault)> {
     vec![
         (|it| put_second(it, &("1", "Oslo", 3, true, b"")), wrong_kind(2, 1, "id", Kind::Int, Kind::Text)),
         (|it| put_second(it, &(1, 8, 3, true, b"")), wrong_kind(2, 2, "city", Kind::Text, Kind::Int)),
@@ -475,11 +480,11 @@ fn wrong_changes() -> Vec<(Call, Fault)> {
 }
 
 /// Sums of the quantities of the rows.
-fn sum<F: Values>(session: &mut Session, columns: u32, column: &str, from: F) -> Result<(), Fault> {
+fn sum<F: Values, L: Link>(session: &mut Table<L>, columns: u32, column: &str, from: F) -> Result<(), Fault> {
     session.sums("primary", columns, column, &from, &()).map(drop)
 }
 
-fn wrong_sums() -> Vec<(Call, Fault)> {
+fn wrong_sums<L: Link>() -> Vec<(Call<L>, Fault)> {
     vec![
         (|it| sum(it, 0, "none", ()), refused(15, "NoSuchColumn", None)),
         (|it| sum(it, 3, "qty", ()), refused(15, "NoSuchColumn", None)),
@@ -498,7 +503,7 @@ fn wrong_sums() -> Vec<(Call, Fault)> {
     ]
 }
 
-fn wrong_reads() -> Vec<(Call, Fault)> {
+fn wrong_reads<L: Link>() -> Vec<(Call<L>, Fault)> {
     vec![
         (|it| it.get(&(1, 2)).map(drop), wrong_kind(1, 2, "city", Kind::Text, Kind::Int)),
         (|it| it.get(&1).map(drop), wrong_length(1, 2, 1)),
@@ -510,9 +515,9 @@ fn wrong_reads() -> Vec<(Call, Fault)> {
         (|it| scan(it, "by_city", "Oslo", ("Oslo", b"", 1, "Oslo", 5)), wrong_length(2, 4, 5)),
         (|it| scan(it, "by_city", ("Oslo", LONG.as_bytes()), ()), too_long(1, 2, "hash", 256)),
         (|it| scan(it, "building", (), ()), refused(11, "Building", None)),
-        (|it| read::<String>(it, 0), read_as(1, "id", Kind::Int, Kind::Text)),
-        (|it| read::<i64>(it, 3), read_as(4, "ok", Kind::Flag, Kind::Int)),
-        (|it| read::<bool>(it, 5), Fault::WrongLength { item: None, wanted: 5, found: 6 }),
+        (|it| read::<String, _>(it, 0), read_as(1, "id", Kind::Int, Kind::Text)),
+        (|it| read::<i64, _>(it, 3), read_as(4, "ok", Kind::Flag, Kind::Int)),
+        (|it| read::<bool, _>(it, 5), Fault::WrongLength { item: None, wanted: 5, found: 6 }),
         (|it| row_of(it)?.try_into().map(|_: (i64, &str)| ()), Fault::WrongLength { item: None, wanted: 5, found: 2 }),
     ]
 }
@@ -521,24 +526,24 @@ fn read_as(column: u64, name: &str, wanted: Kind, found: Kind) -> Fault {
     Fault::WrongKind { item: None, column, name: name.to_string(), wanted, found }
 }
 
-fn row_of(session: &mut Session) -> Result<Row<'_>, Fault> {
+fn row_of<L: Link>(session: &mut Table<L>) -> Result<Row<'_>, Fault> {
     Ok(session.get(&(1, "Oslo"))?.expect("a row"))
 }
 
-fn read<T: for<'r> FromValue<'r>>(session: &mut Session, place: usize) -> Result<(), Fault> {
+fn read<T: for<'r> FromValue<'r>, L: Link>(session: &mut Table<L>, place: usize) -> Result<(), Fault> {
     row_of(session)?.get::<T>(place).map(drop)
 }
 
-fn check_wrong_calls() -> Result<(), Fault> {
-    let mut session = Session::new()?;
-    let no_table: [Call; 5] =
+fn check_wrong_calls<L: Open>() -> Result<(), Fault> {
+    let mut session = L::open()?;
+    let no_table: [Call<L>; 5] =
         [|it| it.put(&[1]), |it| it.changes()?.apply(), |it| it.get(&1).map(drop), |it| scan(it, "primary", (), ()), |it| sum(it, 1, "qty", ())];
     for call in no_table {
         assert_eq!(call(&mut session), Err(refused(3, "NoTable", None)));
     }
-    session.run(TABLE.as_bytes())?;
+    replies(&mut session, TABLE.as_bytes())?;
     session.put(&[(1, "Oslo", 3, true, b"\xff"), (2, &LONG[1..], 3, false, b"x")])?;
-    session.run(b"index building on qty\n")?;
+    replies(&mut session, b"index building on qty\n")?;
     let before = images(&mut session)?;
     for (number, (call, fault)) in wrong_changes().into_iter().chain(wrong_reads()).chain(wrong_sums()).enumerate() {
         assert_eq!(call(&mut session), Err(fault), "call {number}");
@@ -554,12 +559,12 @@ fn check_wrong_calls() -> Result<(), Fault> {
 }
 
 /// The columns of an index are those of the last one of its name.
-fn check_columns() -> Result<(), Fault> {
-    let mut session = Session::new()?;
-    session.run(b"table 4 6 3 1 id:int city:text\nindex last on id\nbuild last 1\n")?;
+fn check_columns<L: Open>() -> Result<(), Fault> {
+    let mut session = L::open()?;
+    replies(&mut session, b"table 4 6 3 1 id:int city:text\nindex last on id\nbuild last 1\n")?;
     session.put(&[(1, "Oslo")])?;
     assert_eq!(scanned(&mut session, "last", &1, &(), 9)?, [["1", "1"]]);
-    session.run(b"drop last\nindex last on city\nbuild last 9\n")?;
+    replies(&mut session, b"drop last\nindex last on city\nbuild last 9\n")?;
     assert_eq!(scanned(&mut session, "last", "Oslo", &(), 9)?, [["Oslo", "1"]]);
     Ok(())
 }
@@ -620,7 +625,7 @@ fn check_allocations() -> Result<(), Fault> {
 }
 
 /// The replies to scripts, beside those to each command by itself: texts with line breaks and quotes, and words of replies inside of texts.
-fn check_replies() -> Result<(), Fault> {
+fn check_replies<L: Open>() -> Result<(), Fault> {
     let texts = ["rows 1", "a\nrows 2\nrow x", "q\"\nsums 3\n\"", "end\nend", "\nrow 1,x\nrows 1", "refused 1 Syntax"];
     let commands = [
         "scan primary\ngo\n",
@@ -637,17 +642,17 @@ fn check_replies() -> Result<(), Fault> {
     ];
     let records: String = texts.iter().enumerate().map(|(id, text)| format!("{id},{}\n", quoted(text))).collect();
     let script = format!("table 4 64 16 1 id:int text:text\nload\nid,text\n{records}.\nindex by_text on text\nbuild by_text 10\n");
-    let (mut session, mut other, mut random) = (Session::new()?, Session::new()?, Random(7));
+    let (mut session, mut other, mut random) = (L::open()?, L::open()?, Random(7));
     for one in [&mut session, &mut other] {
-        assert_eq!(one.run(script.as_bytes())?.iter().count(), 4);
+        assert_eq!(replies(one, script.as_bytes())?.iter().count(), 4);
     }
-    assert_eq!(session.run(b"")?.iter().next(), None);
+    assert_eq!(replies(&mut session, b"")?.iter().next(), None);
     for _ in 0..100 {
         let chosen: Vec<&str> = (0..random.below(8)).map(|_| random.of(&commands)).collect();
-        let found: Vec<Reply> = session.run(chosen.concat().as_bytes())?.iter().collect();
+        let found: Vec<Reply> = replies(&mut session, chosen.concat().as_bytes())?.iter().collect();
         let mut alone = Vec::new();
         for command in &chosen {
-            alone.extend(other.run(command.as_bytes())?.iter());
+            alone.extend(replies(&mut other, command.as_bytes())?.iter());
         }
         assert_eq!((found.len(), found), (chosen.len(), alone), "{chosen:?}");
     }
@@ -655,17 +660,17 @@ fn check_replies() -> Result<(), Fault> {
         Some(Reply::Rows(rows)) => rows.into_iter().map(|row| row[1].clone()).collect(),
         _ => Vec::new(),
     };
-    assert_eq!(rows(session.run(b"scan primary\ngo\n")?.iter().next()), texts);
-    let refused: Vec<bool> = session.run(b"get 5\nget x\n")?.iter().map(|reply| matches!(reply, Reply::Refused(_))).collect();
+    assert_eq!(rows(replies(&mut session, b"scan primary\ngo\n")?.iter().next()), texts);
+    let refused: Vec<bool> = replies(&mut session, b"get 5\nget x\n")?.iter().map(|reply| matches!(reply, Reply::Refused(_))).collect();
     assert_eq!(refused, [false, true]);
     Ok(())
 }
 
 /// A session that is opened in one thread, used by four under a lock, and closed in another one.
-fn check_threads() -> Result<(), Fault> {
-    let opened = thread::spawn(|| -> Result<Session, Fault> {
-        let mut session = Session::new()?;
-        session.run(b"table 4 6 3 1 id:int count:int\nindex by_count on count\n")?;
+fn check_threads<L: Open + Send + 'static>() -> Result<(), Fault> {
+    let opened = thread::spawn(|| -> Result<Table<L>, Fault> {
+        let mut session = L::open()?;
+        replies(&mut session, b"table 4 6 3 1 id:int count:int\nindex by_count on count\n")?;
         Ok(session)
     });
     let shared = Arc::new(Mutex::new(opened.join().unwrap()?));
@@ -677,7 +682,7 @@ fn check_threads() -> Result<(), Fault> {
                     let mut session = shared.lock().unwrap();
                     session.upsert(&(turn % 7), &[Op::Add("count", 1)])?;
                     session.put(&[(100 + 4 * turn + number, -turn)])?;
-                    session.run(b"build by_count 5\n")?;
+                    replies(&mut session, b"build by_count 5\n")?;
                 }
                 Ok(())
             })
@@ -701,22 +706,27 @@ fn check_threads() -> Result<(), Fault> {
     closed.join().unwrap()
 }
 
-fn main() -> Result<(), Fault> {
-    match std::env::args().nth(1).as_deref() {
-        Some("changes") => check_changes(),
-        Some("reads") => check_reads(),
-        Some("pages") => check_pages(),
-        Some("sums") => check_sums(),
-        Some("usage") => check_usage(),
-        Some("trees") => check_trees(),
+fn check<L: Open + Send + 'static>(what: Option<&str>) -> Result<(), Fault> {
+    match what {
+        Some("changes") => check_changes::<L>(),
+        Some("reads") => check_reads::<L>(),
+        Some("pages") => check_pages::<L>(),
+        Some("sums") => check_sums::<L>(),
+        Some("usage") => check_usage::<L>(),
+        Some("trees") => check_trees::<L>(),
         Some("wrong") => {
             check_texts_of_faults();
-            check_columns()?;
-            check_wrong_calls()
+            check_columns::<L>()?;
+            check_wrong_calls::<L>()
         }
         Some("allocations") => check_allocations(),
-        Some("replies") => check_replies(),
-        Some("threads") => check_threads(),
-        _ => panic!("changes, reads, pages, sums, usage, wrong, allocations, replies or threads"),
+        Some("replies") => check_replies::<L>(),
+        Some("threads") => check_threads::<L>(),
+        _ => panic!("changes, reads, pages, sums, usage, trees, wrong, allocations, replies or threads"),
     }
+}
+
+fn main() -> Result<(), Fault> {
+    let what = std::env::args().nth(1);
+    if is_engine() { check::<Process>(what.as_deref()) } else { check::<Library>(what.as_deref()) }
 }
