@@ -78,25 +78,25 @@ NOT_CARRIED_OUT = [
 
 def kinds_kept(test, session):
     """The kinds of the replies that a session keeps, with the offset and the length of each. There is none after the last."""
-    found, calls, place = [], session._library, session._place
-    for number in range(calls.betable_reply_count(session._handle)):
-        test.assertEqual(calls.betable_reply(session._handle, number, place), True)
+    found, calls, place = [], session._bytes.library, session._bytes.place
+    for number in range(calls.betable_reply_count(session._bytes.handle)):
+        test.assertEqual(calls.betable_reply(session._bytes.handle, number, place), True)
         found.append((place.kind, place.offset, place.length))
     for number in (len(found), len(found) + 1, 2**64 - 1):
         place.kind, place.offset, place.length = UNWRITTEN
-        test.assertEqual((calls.betable_reply(session._handle, number, place), (place.kind, place.offset, place.length)), (False, UNWRITTEN))
+        test.assertEqual((calls.betable_reply(session._bytes.handle, number, place), (place.kind, place.offset, place.length)), (False, UNWRITTEN))
     return found
 
 
 def counts_of_replies(session):
     """The length of the replies, their bytes, and the number of refused commands."""
-    refused_count = session._library.betable_refused_count
-    refused_count.argtypes, refused_count.restype = session._library.betable_reply_count.argtypes, ctypes.c_size_t
-    return session._library.betable_replies_length(session._handle), session._copied(), refused_count(session._handle)
+    refused_count = session._bytes.library.betable_refused_count
+    refused_count.argtypes, refused_count.restype = session._bytes.library.betable_reply_count.argtypes, ctypes.c_size_t
+    return session._bytes.library.betable_replies_length(session._bytes.handle), session._bytes.copied(), refused_count(session._bytes.handle)
 
 
 def status_of_check(session, script):
-    return session._library.betable_check(session._handle, script, len(script))
+    return session._bytes.library.betable_check(session._bytes.handle, script, len(script))
 
 
 def checked(test, session, script):
@@ -282,7 +282,7 @@ class Memory(TestCase):
         with session_after(FILLED) as session:
             before = images(session)
             session.check("get x\n")
-            kind = ctypes.CFUNCTYPE(ctypes.c_uint, ctypes.POINTER(client.session._Handle), ctypes.c_char_p, ctypes.c_size_t)
+            kind = ctypes.CFUNCTYPE(ctypes.c_uint, ctypes.POINTER(client.library._Handle), ctypes.c_char_p, ctypes.c_size_t)
             other = OtherLibrary(session, {"betable_check": kind(lambda *_: OUT_OF_MEMORY)})
             fault = fault_of(lambda: session.check("get x\n"))
             other.end(session)

@@ -71,8 +71,8 @@ class OtherLibrary:
     """The library of a session, with other functions in place of some of its own."""
 
     def __init__(self, session, functions):
-        self.library, self.functions = session._library, functions
-        session._library = self
+        self.library, self.functions = session._bytes.library, functions
+        session._bytes.library = self
         self.connect(session)
 
     def __getattr__(self, name):
@@ -83,13 +83,13 @@ class OtherLibrary:
         getattr(session, "_connect_calls", lambda: None)()
 
     def end(self, session):
-        session._library = self.library
+        session._bytes.library = self.library
         self.connect(session)
 
 
 def library_without_memory(session, calls=PACKED_CALLS):
     """A library whose calls on packed bytes return that memory ran out, in a session."""
-    module = betable().session
+    module = betable().library
     kind = ctypes.CFUNCTYPE(ctypes.c_uint, ctypes.POINTER(module._Handle), ctypes.c_char_p, ctypes.c_size_t, ctypes.POINTER(module._Fault))
     return OtherLibrary(session, {name: kind(lambda *_: module.OUT_OF_MEMORY) for name in calls})
 

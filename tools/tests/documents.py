@@ -255,7 +255,7 @@ def crates_below():
     lines = [line for line in (TOP / "crates.txt").read_text().splitlines() if not line.startswith("#")]
     # What a crate is built as may follow its name.
     below = {crate.split()[0]: {name for name in names.split() if name.startswith("bt_")} for crate, names in (line.split(":") for line in lines)}
-    below = {crate: names for crate, names in below.items() if crate.startswith("bt_") or crate == "betable"}
+    below = {crate: names for crate, names in below.items() if crate.startswith(("bt_", "betable"))}
 
     def reached(crate):
         return set().union(*({name} | reached(name) for name in below[crate]))
@@ -309,7 +309,7 @@ class PagesForDevelopers(TestCase):
 
     def test_walks_follow_calls_that_are_made(self):
         """Each function of the engine that docs/WALKS.md names is called in code of the engine, or is one at which tools/reading_list begins."""
-        sources = [path.read_text() for crate in ("bt_*", "betable") for path in (TOP / "crates").glob(f"{crate}/src/**/*.rt")]
+        sources = [path.read_text() for crate in ("bt_*", "betable*") for path in (TOP / "crates").glob(f"{crate}/src/**/*.rt")]
         code = re.sub(r"//[^\n]*|^ *(?:pub |ghost )?use [^;]*;", "", "\n".join(sources), flags=re.MULTILINE)
         defined, calls = set(re.findall(r"\bfn (\w+)", code)), re.sub(r"\bfn \w+", "", code)
         roots = {root.partition(":")[2] for root in imported("tools/reading_list").ROOTS}

@@ -20,6 +20,7 @@ from .clients import library
 from .common import build_program, imported, PROGRAM, TOP, ProgramTestCase, needs
 
 LONG = 3_600  # seconds within which packages and a Debian have to be made, also on a busy machine
+ENGINE = "crates/betable_engine/out/betable_engine"
 NEEDED = ("git", "gcc", "dpkg-deb", "objdump")
 COMMIT_TIME = "1750000000 +0000"
 RECORD = "rattle-kit-13f logic dac8208d650f15bf", "7 passed, 0 failed"
@@ -35,6 +36,8 @@ def skip_without_what_packs() -> None:
     for tool in NEEDED:
         if not shutil.which(tool):
             raise SkipTest(f"{tool} is not installed")
+    if not (TOP / ENGINE).exists():
+        raise SkipTest("the program betable_engine is not built")
 
 
 def git(folder: Path, *words: str) -> str:
@@ -56,7 +59,8 @@ def copy_of_the_repository(folder: Path, changes: dict[str, str] | None = None) 
     git(top, "init", "--quiet", "--initial-branch=main")
     git(top, "add", "--all")
     git(top, "commit", "--quiet", "--message=A state")
-    for source, target in ((PROGRAM, "crates/betable/out/betable"), *((Path(library()) / name, f"out/{name}") for name in ("libbt_c.a", "libbt_c.so"))):
+    built = [(PROGRAM, "crates/betable/out/betable"), *((Path(library()) / name, f"out/{name}") for name in ("libbt_c.a", "libbt_c.so"))]
+    for source, target in (*built, (TOP / ENGINE, ENGINE)):
         (top / target).parent.mkdir(parents=True, exist_ok=True)
         shutil.copy(source, top / target)
     return top

@@ -183,7 +183,7 @@ class Raw:
     def __init__(self, script=""):
         self.session = betable().Session()
         # Those that the client does not make are of the types of the others.
-        library = self.session._library
+        library = self.session._bytes.library
         for name in CALLS:
             function = getattr(library, name)
             function.argtypes, function.restype = library.betable_apply.argtypes, library.betable_apply.restype
@@ -192,10 +192,10 @@ class Raw:
 
     def call(self, name, given):
         """The status, the fault, and the bytes of the reply."""
-        fault = self.session._fault
+        fault = self.session._bytes.fault
         fault.refusal, fault.item, fault.column = UNWRITTEN
-        status = getattr(self.session._library, name)(self.session._handle, given, len(given), fault)
-        return status, (fault.refusal, fault.item, fault.column), self.session._copied()
+        status = getattr(self.session._bytes.library, name)(self.session._bytes.handle, given, len(given), fault)
+        return status, (fault.refusal, fault.item, fault.column), self.session._bytes.copied()
 
     def reply(self, name, given):
         """The reply of a call that is done."""

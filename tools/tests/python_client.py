@@ -534,7 +534,7 @@ class ValuesOfAllTypes(TestCase):
 
 def library_that_runs(session, script):
     """A library that runs this script in place of another one, and returns that memory ran out after it."""
-    run = session._library.betable_run
+    run = session._bytes.library.betable_run
     return OtherLibrary(session, {"betable_run": lambda handle, *_: run(handle, script, len(script)) + 1})
 
 
@@ -742,8 +742,8 @@ class Exceptions(TestCase):
                 self.assertEqual(ended.wait(60), True)
                 return getattr(library.library, name)(handle, ctypes.string_at(given, length), length, *fault)
 
-            function = getattr(session._library, name)
-            data = [ctypes.c_void_p if kind is ctypes.c_char_p else kind for kind in function.argtypes or session._library.betable_apply.argtypes]
+            function = getattr(session._bytes.library, name)
+            data = [ctypes.c_void_p if kind is ctypes.c_char_p else kind for kind in function.argtypes or session._bytes.library.betable_apply.argtypes]
             library = OtherLibrary(session, {name: ctypes.CFUNCTYPE(function.restype, *data)(waits)})
             thread = threading.Thread(target=lambda: found.append(call()))
             thread.start()
@@ -807,7 +807,7 @@ class Exceptions(TestCase):
     @both_ways
     def test_a_session_that_another_thread_drops_is_closed(self):
         sessions, closed = [filled()], []
-        close = sessions[0]._library.betable_close
+        close = sessions[0]._bytes.library.betable_close
         OtherLibrary(sessions[0], {"betable_close": lambda handle: closed.append((threading.get_ident(), close(handle)))})
         thread = threading.Thread(target=sessions.clear)
         thread.start()

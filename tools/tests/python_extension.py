@@ -116,8 +116,8 @@ class PythonExtension(TestCase):
         client, session, dice = betable(), filled(), random.Random(1)
         expected = [call() for call in reads(session)]
         given = []
-        copy = ctypes.CFUNCTYPE(ctypes.c_size_t, ctypes.POINTER(client.session._Handle), ctypes.c_size_t, ctypes.c_void_p, ctypes.c_size_t)
-        own = session._library.betable_copy_replies
+        copy = ctypes.CFUNCTYPE(ctypes.c_size_t, ctypes.POINTER(client.library._Handle), ctypes.c_size_t, ctypes.c_void_p, ctypes.c_size_t)
+        own = session._bytes.library.betable_copy_replies
 
         def copied(handle, start, room, size):
             raw = ctypes.create_string_buffer(size)

@@ -238,7 +238,7 @@ class ReadingList(TestCase):
 
     def test_names_of_the_theorem_are_defined_in_their_files(self):
         run_file = "bt_shell/src/script_run.rt"
-        files = definitions_of(self, *(f"{run_file}:{name}" for name in ("replies_to", "run_script", "run_commands")))
+        files = definitions_of(self, *(f"{run_file}:{name}" for name in ("replies_to", "run_script", "run_commands")), "bt_engine/src/serving.rt:serve_table")
         named = re.findall(r"^\| .+ \| `(\w+)` \| (\S+) \|$", (TOP / "docs/THEOREM.md").read_text(), re.MULTILINE)
         self.assertGreater(len(named), 30)
         self.assertEqual([(name, file) for name, file in named if name not in files.get(file, [])], [])

@@ -56,8 +56,9 @@ class Reasons(TestCase):
         self.assertEqual([(name, int(code)) for name, code in codes], [(one.name, one.value) for one in Problem])
         in_rust = (TOP / "clients/rust/reason.rs").read_text()
         names = ["".join(word.capitalize() for word in one.name.split("_")) for one in Problem]
-        for start in ("pub enum Problem {", "const PROBLEMS: [Problem; 16] = ["):
-            self.assertEqual(re.findall(r"[A-Za-z]+", re.split("[]}]", in_rust.partition(start)[2])[0]), names)
+        for start, others in (("pub enum Problem {", ["Unknown"]), ("const PROBLEMS: [Problem; 16] = [", [])):
+            found = re.sub("///.*", "", re.split("[]}]", in_rust.partition(start)[2])[0])
+            self.assertEqual(re.findall(r"[A-Z][A-Za-z]+", found), names + others)
 
     def test_each_problem_has_its_reason(self):
         self.assertEqual({name for _, (*_, name) in CASES}, {one.name for one in Problem})
@@ -106,7 +107,7 @@ class Reasons(TestCase):
         trees, before = self.session.trees(), self.session.replies(images)
         for script in [script for script, _ in CASES] + ["batch\nput 9,z,true,00,1\ndel 1,a\nend\n", "drop by_on\n", "table 4 3 2 1 id:int\n"]:
             self.session.explain(script)
-            self.assertEqual((self.session._copied(), self.session.trees()), (before, trees))
+            self.assertEqual((self.session._bytes.copied(), self.session.trees()), (before, trees))
         self.assertEqual(self.session.replies(images), before)
 
     def test_a_session_without_a_table_or_memory_has_no_reason(self):
@@ -115,7 +116,7 @@ class Reasons(TestCase):
             self.assertIsNone(session.explain("get x\n"))
         self.assertEqual(type(fault_of(lambda: session.explain("get x\n"))), ValueError)
         self.assertEqual(type(fault_of(lambda: self.session.explain(5))), TypeError)
-        other = OtherLibrary(self.session, {"betable_explain": lambda *_: client.session.OUT_OF_MEMORY})
+        other = OtherLibrary(self.session, {"betable_explain": lambda *_: client.library.OUT_OF_MEMORY})
         self.assertEqual(type(fault_of(lambda: self.session.explain("get x\n"))), client.OutOfMemory)
         other.end(self.session)
         self.assertEqual(self.session.explain("get x,a\n"), (6, 1, 1, Problem.NO_INT))

@@ -15,6 +15,8 @@
 The library is libbt_c.so, in the folder that BETABLE_LIBRARY names, or else beside this package, in out/ of the repository, where bin/build_c builds it, or
 where the Debian package has it. docs/SCRIPT.md has the language, and docs/PYTHON.md the calls and their errors.
 
+`Engine` has the same calls on a table in a process of its own, the program betable_engine, whose threads share the work (docs/ENGINE.md).
+
 Without the extension `_packed`, calls on values go by scripts, and a warning says so.
 
 Layers over sessions have the same calls, each in a package of its own, which says at its top what it is for: `betable.durable` has tables that are kept on
@@ -24,7 +26,8 @@ disk, `betable.cluster` tables on several machines, `betable.server` the server 
 from pathlib import Path
 
 from .calls import MOST_MESSAGES, Calls
-from .errors import OutOfMemory, Refused, RowError, RowTypeError, RowValueError
+from .engine import Engine
+from .errors import EngineEnded, OutOfMemory, Refused, RowError, RowTypeError, RowValueError
 from .messages import OPERATIONS, Message, delete, field, put, record, upsert, upsert_form
 from .packed import Usage
 from .reasons import Problem, Reason
@@ -40,6 +43,8 @@ __all__ = [
     "MOST_MESSAGES",
     "OPERATIONS",
     "Calls",
+    "Engine",
+    "EngineEnded",
     "Message",
     "OutOfMemory",
     "Problem",

@@ -6,7 +6,8 @@
  * them, and the methods for that class return None. So there is one place where errors are made.
  *
  * The module is not linked with the library. ctypes has loaded it, and `_connect` gets the addresses of its calls, so the process has one copy of the library:
- * the one that opened the session.
+ * the one that opened the session. Without addresses, as for an engine, packed bytes go to the method `_ask`, which returns the reply, or None if they are
+ * refused.
  *
  * Code of Python may run during a call: the collector of garbage runs `__del__` when an object is made, and that may call the session again. So the bytes of a
  * call are its own (from `taken` to `kept`), `is_ready` is asked directly before the library is called, and a reply is read directly after. Values are borrowed
@@ -44,6 +45,10 @@ enum { MAGIC_LENGTH = 4, HEADER_LENGTH = 8, MOST_VALUE_LENGTH = 256 };
 #define FIRST_ROOM 4096
 #define MOST_ROOM (1u << 20)
 
+/* The calls on packed bytes, in the order of CALLS, and what `_ask` has as the number of the first one. */
+enum { APPLY, GET, PAGE, LAST_PAGE, SUMS, PACKED_CALL_COUNT };
+#define FIRST_REQUEST 3
+
 typedef bool reply_call(betable_session *, size_t, betable_reply_place *);
 typedef betable_status packed_call(betable_session *, const unsigned char *, size_t, betable_fault *);
 typedef size_t length_call(betable_session *);
@@ -64,9 +69,10 @@ typedef struct {
 
 typedef struct {
     PyObject_HEAD
-    PyObject *owner; /* of the session's memory */
-    betable_session *session;
-    packed_call *apply, *get, *page, *last_page, *sums;
+    PyObject *owner;          /* of the session's memory */
+    betable_session *session; /* of the library, or NULL */
+    packed_call *calls[PACKED_CALL_COUNT];
+    PyObject *asked; /* the reply of `_ask`, until it is read */
     length_call *length, *reply_count;
     copy_call *copy;
     reply_call *reply;
@@ -84,7 +90,7 @@ typedef struct {
 } tree;
 
 static PyObject *plain, *message_type, *lock_type;
-static PyObject *word_name, *shape_name, *values_name, *put_word, *del_word, *ups_word, *plan_name, *out_of_memory_name;
+static PyObject *word_name, *shape_name, *values_name, *put_word, *del_word, *ups_word, *plan_name, *out_of_memory_name, *ask_name;
 static PyObject *names_of_scan[6], *names_of_sums[5];
 
 /* ---- room ---- */
@@ -635,14 +641,32 @@ static PyObject *as_columns(reader reply, const tree *there)
 
 static int is_ready(const caller *self)
 {
-    return self->session != NULL && !self->lock->is_taken && self->session->is_open;
+    return self->lock != NULL && !self->lock->is_taken && (self->session == NULL || self->session->is_open);
+}
+
+/* Asks by the method `_ask`, which takes the lock. Its reply is kept until it is read. */
+static outcome asked_by_method(caller *self, unsigned number, const bytes_in_room *bytes)
+{
+    PyObject *request = PyLong_FromLong((long)number + FIRST_REQUEST), *found = NULL;
+    PyObject *given = PyBytes_FromStringAndSize((const char *)bytes->at, (Py_ssize_t)bytes->length);
+    if (request != NULL && given != NULL)
+        found = PyObject_CallMethodObjArgs((PyObject *)self, ask_name, request, given, NULL);
+    Py_XDECREF(request);
+    Py_XDECREF(given);
+    PyObject *earlier = self->asked;
+    self->asked = found;
+    Py_XDECREF(earlier);
+    return found == NULL ? RAISED : PyBytes_CheckExact(found) ? DONE : OTHER;
 }
 
 /* Calls the library. A call that is refused is for the plain class, which says why. */
-static outcome called(caller *self, packed_call *call, const bytes_in_room *bytes, int lets_others_run)
+static outcome called(caller *self, unsigned number, const bytes_in_room *bytes, int lets_others_run)
 {
     if (!is_ready(self))
         return OTHER;
+    if (self->session == NULL)
+        return asked_by_method(self, number, bytes);
+    packed_call *call = self->calls[number];
     betable_fault fault;
     betable_status status;
     if (lets_others_run) {
@@ -661,8 +685,23 @@ static outcome called(caller *self, packed_call *call, const bytes_in_room *byte
     return status == BETABLE_DONE ? DONE : OTHER;
 }
 
-/* Reads the reply of the last call into the same room, and sets where its rows are. */
-static outcome read_reply(caller *self, bytes_in_room *bytes, reader *reply)
+/* Copies the reply of `_ask` into the room, and lets go of it. */
+static outcome copy_asked(caller *self, bytes_in_room *bytes)
+{
+    char *given;
+    Py_ssize_t length;
+    PyObject *found = self->asked;
+    self->asked = NULL;
+    bytes->length = 0;
+    outcome ended = PyBytes_AsStringAndSize(found, &given, &length) == 0 && has_room(bytes, (size_t)length) ? DONE : RAISED;
+    if (ended == DONE)
+        add_bytes(bytes, given, (size_t)length);
+    Py_DECREF(found);
+    return ended;
+}
+
+/* Copies the reply that the library keeps into the room. */
+static outcome copy_kept(caller *self, bytes_in_room *bytes)
 {
     bytes->length = self->copy(self->session, 0, bytes->at, bytes->capacity);
     if (bytes->length == bytes->capacity) {
@@ -672,6 +711,14 @@ static outcome read_reply(caller *self, bytes_in_room *bytes, reader *reply)
             return RAISED;
         bytes->length = self->copy(self->session, 0, bytes->at, length);
     }
+    return DONE;
+}
+
+/* Reads the reply of the last call into the same room, and sets where its rows are. */
+static outcome read_reply(caller *self, bytes_in_room *bytes, reader *reply)
+{
+    if ((self->session == NULL ? copy_asked : copy_kept)(self, bytes) != DONE)
+        return RAISED;
     if (bytes->length < MAGIC_LENGTH || memcmp(bytes->at, "BTV\1", MAGIC_LENGTH) != 0) {
         not_of_layout();
         return RAISED;
@@ -765,7 +812,7 @@ static outcome applied(caller *self, encoder *encode, PyObject *given)
     if (described(description, &there)) {
         found = taken(self, &bytes) ? encode(self, &bytes, given, &there) : RAISED;
         if (found == DONE)
-            found = called(self, self->apply, &bytes, bytes.length >= MUCH_CHANGED);
+            found = called(self, APPLY, &bytes, bytes.length >= MUCH_CHANGED);
         kept(self, &bytes);
     }
     Py_DECREF(description);
@@ -811,7 +858,7 @@ static PyObject *replay(PyObject *object, PyObject *const *args, Py_ssize_t coun
         if (changes == NULL || PyBytes_AsStringAndSize(changes, &at, &length) < 0)
             break;
         const bytes_in_room bytes = {(unsigned char *)at, (size_t)length, (size_t)length};
-        if (called(self, self->apply, &bytes, length >= MUCH_CHANGED) != DONE)
+        if (called(self, APPLY, &bytes, length >= MUCH_CHANGED) != DONE)
             break;
         Py_CLEAR(row);
         applied++;
@@ -1008,7 +1055,7 @@ static PyObject *call_get(PyObject *object, PyObject *const *args, Py_ssize_t co
         for (Py_ssize_t place = 0; found == DONE && place < count; place++)
             found = add_value(&bytes, args[place], there.kinds[place]);
         if (found == DONE)
-            found = called(self, self->get, &bytes, 0);
+            found = called(self, GET, &bytes, 0);
         if (found == DONE)
             found = read_reply(self, &bytes, &reply);
         if (found == DONE) {
@@ -1120,7 +1167,7 @@ static PyObject *scanned(caller *self, PyObject *const given[6], int are_columns
         if (*found == DONE)
             *found = add_bounds(&bytes, given, &there, newest_first);
         if (*found == DONE)
-            *found = called(self, newest_first ? self->last_page : self->page, &bytes, limit >= MUCH_READ);
+            *found = called(self, newest_first ? LAST_PAGE : PAGE, &bytes, limit >= MUCH_READ);
         if (*found == DONE)
             *found = read_reply(self, &bytes, &reply);
         if (*found == DONE) {
@@ -1151,7 +1198,7 @@ static outcome read_page(caller *self, bytes_in_room *bytes, const tree *there, 
     if (found == DONE)
         found = add_bound(bytes, Py_None, there, NO_BOUND);
     if (found == DONE)
-        found = called(self, self->page, bytes, limit >= MUCH_READ);
+        found = called(self, PAGE, bytes, limit >= MUCH_READ);
     return found == DONE ? read_reply(self, bytes, reply) : found;
 }
 
@@ -1269,7 +1316,7 @@ static PyObject *summed(caller *self, PyObject *const given[5], outcome *ended)
             for (int place = 3; found == DONE && place <= 4; place++)
                 found = add_bound(&bytes, given[place], &there, PREFIX);
             if (found == DONE)
-                found = called(self, self->sums, &bytes, 1);
+                found = called(self, SUMS, &bytes, 1);
             if (found == DONE)
                 found = read_reply(self, &bytes, &reply);
             if (found == DONE) {
@@ -1311,7 +1358,9 @@ static PyObject *places_of_replies(PyObject *object, PyObject *none)
 {
     (void)none;
     caller *self = (caller *)object;
-    const size_t count = self->session == NULL ? 0 : self->reply_count(self->session);
+    if (self->session == NULL)
+        return by_python(object, "_places", NULL, 0, NULL);
+    const size_t count = self->reply_count(self->session);
     PyObject *places = PyList_New((Py_ssize_t)count);
     for (size_t number = 0; places != NULL && number < count; number++) {
         betable_reply_place found = {0, 0, BETABLE_READ};
@@ -1359,17 +1408,19 @@ static void dealloc_lock(PyObject *object)
     Py_DECREF(type);
 }
 
-/* _connect(owner, address, addresses, lock): the session, the calls in the order of CALLS, and the lock of the session. */
+/* _connect(owner, address, addresses, lock): the session, the calls in the order of CALLS, and the lock of the session. With None as the addresses, which is
+ * for what has `_ask`, the first three are not looked at. */
 static PyObject *connect(PyObject *object, PyObject *const *args, Py_ssize_t count)
 {
     caller *self = (caller *)object;
-    uintptr_t found[CALL_COUNT];
-    if (count != 4 || !PyTuple_Check(args[2]) || PyTuple_Size(args[2]) != CALL_COUNT || (PyObject *)Py_TYPE(args[3]) != lock_type) {
+    uintptr_t found[CALL_COUNT] = {0};
+    const int has_library = count == 4 && PyTuple_Check(args[2]) && PyTuple_Size(args[2]) == CALL_COUNT;
+    if (count != 4 || !(has_library || args[2] == Py_None) || (PyObject *)Py_TYPE(args[3]) != lock_type) {
         PyErr_SetString(PyExc_TypeError, "_connect takes the owner of a session, its address, the addresses of CALLS, and a lock");
         return NULL;
     }
-    betable_session *session = PyLong_AsVoidPtr(args[1]);
-    for (int place = 0; place < CALL_COUNT; place++)
+    betable_session *session = has_library ? PyLong_AsVoidPtr(args[1]) : NULL;
+    for (int place = 0; has_library && place < CALL_COUNT; place++)
         found[place] = (uintptr_t)PyLong_AsVoidPtr(PyTuple_GetItem(args[2], place));
     PyObject *shapes = PyErr_Occurred() ? NULL : PyDict_New();
     if (shapes == NULL)
@@ -1379,11 +1430,8 @@ static PyObject *connect(PyObject *object, PyObject *const *args, Py_ssize_t cou
     self->lock = (call_lock *)Py_NewRef(args[3]);
     self->session = session;
     self->shapes = shapes;
-    self->apply = (packed_call *)found[0];
-    self->get = (packed_call *)found[1];
-    self->page = (packed_call *)found[2];
-    self->last_page = (packed_call *)found[3];
-    self->sums = (packed_call *)found[4];
+    for (int place = 0; place < PACKED_CALL_COUNT; place++)
+        self->calls[place] = (packed_call *)found[place];
     self->length = (length_call *)found[5];
     self->copy = (copy_call *)found[6];
     self->reply_count = (length_call *)found[7];
@@ -1424,6 +1472,7 @@ static void dealloc(PyObject *object)
     PyTypeObject *type = Py_TYPE(object);
     Py_XDECREF(self->owner);
     Py_XDECREF((PyObject *)self->lock);
+    Py_XDECREF(self->asked);
     Py_XDECREF(self->trees);
     Py_XDECREF(self->primary);
     Py_XDECREF(self->shapes);
@@ -1526,11 +1575,11 @@ static int are_interned(const char *const *given, PyObject **found, int count)
 
 PyMODINIT_FUNC PyInit__packed(void)
 {
-    static const char *const words[] = {"word", "shape", "values", "put", "del", "ups", "_plan", "_raise_out_of_memory"};
+    static const char *const words[] = {"word", "shape", "values", "put", "del", "ups", "_plan", "_raise_out_of_memory", "_ask"};
     static const char *const of_scan[] = {"tree", "start", "stop", "limit", "after", "newest_first"};
     static const char *const of_sums[] = {"tree", "columns", "column", "start", "stop"};
-    PyObject *interned[8];
-    if (!are_interned(words, interned, 8) || !are_interned(of_scan, names_of_scan, 6) || !are_interned(of_sums, names_of_sums, 5))
+    PyObject *interned[9];
+    if (!are_interned(words, interned, 9) || !are_interned(of_scan, names_of_scan, 6) || !are_interned(of_sums, names_of_sums, 5))
         return NULL;
     word_name = interned[0];
     shape_name = interned[1];
@@ -1540,6 +1589,7 @@ PyMODINIT_FUNC PyInit__packed(void)
     ups_word = interned[5];
     plan_name = interned[6];
     out_of_memory_name = interned[7];
+    ask_name = interned[8];
     PyObject *module = PyModule_Create(&definition), *type = PyType_FromSpec(&spec);
     lock_type = PyType_FromSpec(&spec_of_lock);
     PyObject *calls =

@@ -17,7 +17,7 @@ from typing import Any, NamedTuple, NoReturn
 from . import language
 from .batches import Batch, Columns, Messages, Rows, UpsertRows, without_breaks
 from .csv_input import BLOCK, Part, WrongRecords, parts, rows_of_records, several_are_wrong, wrong_records, wrong_records_of_load
-from .errors import OutOfMemory, Refused, RowTypeError, RowValueError, WrongRecord
+from .errors import Refused, RowTypeError, RowValueError, WrongRecord, told_with
 from .faults import MEANINGS, Fault, faults_of_refusal
 from .forms import OTHER_KINDS, name_fault
 from .language import Command, has_line_breaks
@@ -429,10 +429,8 @@ class Calls(ABC):
             faults = wrong_records(part, table)
         elif part.records:
             script = b"batch\nput %b\nend\n" % b"\nput ".join(part.records)
-            try:
+            with told_with(taken):
                 reply = self.replies(script)
-            except OutOfMemory as fault:
-                raise OutOfMemory(fault.replies, fault.is_cut, fault.is_lost, taken) from None
             if reply.startswith(b"refused "):
                 faults = wrong_records(part, table)
                 if not faults:
@@ -461,9 +459,13 @@ class Calls(ABC):
         there = self._rows_tree()
         columns = there.columns
         values, count = values_by_column(rows, columns)
-        for taken in range(0, count, most):
-            parts = [part_of_column(one, column.kind, taken, taken + most) for one, column in zip(values, columns)]
-            self._apply_after(Columns("put", (), parts, min(most, count - taken), there), there, taken)
+
+        def batches() -> Iterator[tuple[Batch, Tree, int]]:
+            for taken in range(0, count, most):
+                parts = [part_of_column(one, column.kind, taken, taken + most) for one, column in zip(values, columns)]
+                yield Columns("put", (), parts, min(most, count - taken), there), there, taken
+
+        self._apply_all(batches())
         return count
 
     def _apply_columns(self, word: str, shape: Shape, key: Mapping[str, Any], values: list[Any], most: int) -> int:
@@ -478,9 +480,13 @@ class Calls(ABC):
             raise RowValueError(f"{reason}: keys by columns are a dict from each of the names {', '.join(names)} to its values", value=key)
         given = [(column, key[column.name]) for column in there.key] + [*zip(columns_of_shape(shape, there), values)]
         found, count = changes_by_column(given)
-        for taken in range(0, count, most):
-            parts = [_part_of_change(one, column, taken, most) for one, (column, _) in zip(found, given)]
-            self._apply_after(Columns(word, shape, parts, min(most, count - taken), there), there, taken)
+
+        def batches() -> Iterator[tuple[Batch, Tree, int]]:
+            for taken in range(0, count, most):
+                parts = [_part_of_change(one, column, taken, most) for one, (column, _) in zip(found, given)]
+                yield Columns(word, shape, parts, min(most, count - taken), there), there, taken
+
+        self._apply_all(batches())
         return count
 
     def _table(self, command: bytes = b"batch\nend\n") -> Trees:
@@ -498,21 +504,30 @@ class Calls(ABC):
         """Applies what is given, `most` at a time, as the batches that are made of it, and returns how many there were."""
         _check_most(most)
         taken = 0
-        while True:
-            some = list(islice(given, most))
-            there = self._rows_tree()
-            if some:
-                self._apply_after(make(some), there, taken)
-                taken += len(some)
-            if len(some) < most:
-                return taken
+
+        def batches() -> Iterator[tuple[Batch, Tree, int]]:
+            nonlocal taken
+            while True:
+                some = list(islice(given, most))
+                there = self._rows_tree()
+                if some:
+                    yield make(some), there, taken
+                    taken += len(some)
+                if len(some) < most:
+                    return
+
+        self._apply_all(batches())
+        return taken
+
+    def _apply_all(self, batches: Iterator[tuple[Batch, Tree, int]]) -> None:
+        """Applies the batches of a call in order, each with its tree, and with how many rows of the call come before it."""
+        for batch, there, taken in batches:
+            self._apply_after(batch, there, taken)
 
     def _apply_after(self, batch: Batch, there: Tree, taken: int) -> None:
         """Applies one batch of a call, of which so many rows were applied before."""
-        try:
+        with told_with(taken):
             self._apply(batch, there, taken)
-        except OutOfMemory as fault:
-            raise OutOfMemory(fault.replies, fault.is_cut, fault.is_lost, taken) from None
 
     def _apply(self, batch: Batch, there: Tree, taken: int) -> None:
         """Applies one batch: as packed bytes, or as a script if there are none."""
@@ -521,8 +536,12 @@ class Calls(ABC):
             script = f"batch\n{batch.lines(there, taken)}end\n".encode()
             self._refuse_if_refused(script, self.replies(script), taken, batch)
         elif refusal := self._apply_packed(packed):
-            script = f"batch\n{without_breaks(batch, there, taken).lines(there, taken)}end\n".encode()
-            self._refuse_if_refused(script, refusal, taken, batch)
+            self._refuse_batch(refusal, batch, there, taken)
+
+    def _refuse_batch(self, refusal: bytes, batch: Batch, there: Tree, taken: int) -> None:
+        """Raises the refusal of packed changes. The script of the batch says why."""
+        script = f"batch\n{without_breaks(batch, there, taken).lines(there, taken)}end\n".encode()
+        self._refuse_if_refused(script, refusal, taken, batch)
 
     def _packed(self, batch: Batch, there: Tree, taken: int) -> bytes | None:
         """The bytes of a batch, or None where only scripts are run, or if a value cannot be packed. Raises RowError for a value that its column does not

@@ -2,7 +2,9 @@
 
 from __future__ import annotations
 
-from collections.abc import Sequence
+import signal
+from collections.abc import Iterator, Sequence
+from contextlib import contextmanager
 from typing import Any, NamedTuple
 
 from .language import counted
@@ -31,9 +33,11 @@ class Refused(Exception):
     `line` is the line of the script where the command begins, counted from 1; `number` and `name` are those of the refusal, and `item` is its item or None.
     `reason` says why in words. `column` and `value` are those at fault, or None where no single value is; `row` is the number of the row or the message in
     the call, counted from 1, or None. `taken` is how many rows of the call were applied before it, in earlier batches, and `replies` are the replies to all
-    commands of the script. Of a CSV file `wrong` has its first wrong records, at most a hundred, and
-    `wrong_count` is the number of all.
+    commands of the script. `later` is how many rows of the call an engine has applied after it, in a batch that was sent ahead; it is 0 for a session. Of a
+    CSV file `wrong` has its first wrong records, at most a hundred, and `wrong_count` is the number of all.
     """
+
+    later = 0
 
     def __init__(
         self,
@@ -62,6 +66,13 @@ class Refused(Exception):
             lines.append(f"\n  and {wrong_count - len(lines):,} more")
         super().__init__(refusal + (f": {place}{reason}" if reason else "") + before(taken) + "".join(lines))
 
+    def with_later(self, count: int) -> Refused:
+        """This exception, of a call that had sent that many more rows, which were applied."""
+        if count:
+            self.later = count
+            self.args = (f"{self} ({counted(count, 'row')} of this call {'was' if count == 1 else 'were'} applied after it, in a batch that was sent ahead)",)
+        return self
+
     def __reduce__(self) -> tuple[Any, ...]:
         return _unpickled, (type(self), self.args, self.__dict__)
 
@@ -73,6 +84,27 @@ class OutOfMemory(MemoryError):
     def __init__(self, replies: bytes = b"", is_cut: bool = False, is_lost: bool = False, taken: int = 0) -> None:
         super().__init__("betable: out of memory" + (", and the table is lost: close this session and open a new one" if is_lost else "") + before(taken))
         self.replies, self.is_cut, self.is_lost, self.taken = replies, is_cut, is_lost, taken
+
+    def with_taken(self, taken: int) -> OutOfMemory:
+        return OutOfMemory(self.replies, self.is_cut, self.is_lost, taken)
+
+    def __reduce__(self) -> tuple[Any, ...]:
+        return _unpickled, (type(self), self.args, self.__dict__)
+
+
+class EngineEnded(Exception):
+    """The process of an engine has ended, and its table is gone. `status` is its exit status, or None if `signal`, the number of a signal, has ended it.
+    `answered` is how many requests it had answered, `said` what it has written on its standard error, and `taken` how many rows of the call were applied
+    before, in earlier batches."""
+
+    def __init__(self, status: int | None, signal: int | None, answered: int, said: str = "", taken: int = 0) -> None:
+        self.status, self.signal, self.answered, self.said, self.taken = status, signal, answered, said, taken
+        how = ending(-signal if signal is not None else status or 0)
+        said = f" ({said})" if said else ""
+        super().__init__(f"the engine ended by {how}{said}, after {counted(answered, 'request')}, and its table is gone: make another one{before(taken)}")
+
+    def with_taken(self, taken: int) -> EngineEnded:
+        return EngineEnded(self.status, self.signal, self.answered, self.said, taken)
 
     def __reduce__(self) -> tuple[Any, ...]:
         return _unpickled, (type(self), self.args, self.__dict__)
@@ -101,6 +133,23 @@ class RowTypeError(RowError, TypeError):
 
 class RowValueError(RowError, ValueError):
     """A value, or a row, of the right type that cannot be written: a row of the wrong length, or a text that a script cannot carry."""
+
+
+@contextmanager
+def told_with(taken: int) -> Iterator[None]:
+    """A context in which a batch of a call is applied. A fault of memory, and the end of an engine, say how many rows of the call were applied before."""
+    try:
+        yield
+    except (OutOfMemory, EngineEnded) as fault:
+        raise fault.with_taken(taken) from None
+
+
+def ending(status: int) -> str:
+    """How a process has ended, in words, by its status or by a signal as a negative number."""
+    try:
+        return f"the signal {signal.Signals(-status).name}" if status < 0 else f"itself, with status {status}"
+    except ValueError:
+        return f"signal {-status}"
 
 
 def _unpickled(kind: type[BaseException], arguments: tuple[Any, ...], fields: dict[str, Any]) -> BaseException:

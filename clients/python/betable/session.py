@@ -1,32 +1,33 @@
-"""A session: a table in this process, by the library for C.
+"""A session: a table in this process, by the library for C. What it does over the calls on bytes is here for an engine too, whose table is in another process.
 
-`ScriptSession` calls the library by ctypes: it runs scripts, applies packed changes, and asks for columns and usage. `Session` is that with the calls of the
-extension `_packed`, which go from values to packed bytes and back. What the extension does not take as it is goes to the calls of `CheckedCalls`, which make
-values plain, and find out why a call is refused. Where the extension is not built, calls on values go by scripts.
+`ScriptSession` runs scripts, applies packed changes, and asks for columns and usage, by the calls on bytes that it is given. `PackedSession` is that with the
+calls of the extension `_packed`, which go from values to packed bytes and back. What the extension does not take as it is goes to the calls of `CheckedCalls`,
+which make values plain, and find out why a call is refused. Where the extension is not built, calls on values go by scripts. `Session` has the library.
 """
 
 from __future__ import annotations
 
 import ctypes
-import os
 import re
 import threading
 import warnings
+from collections import deque
 from collections.abc import Callable, Iterator
 from functools import cache
-from pathlib import Path
 from types import TracebackType
-from typing import TYPE_CHECKING, Any, NoReturn
+from typing import TYPE_CHECKING, Any, NamedTuple
 
 from .batches import Batch, first_too_long, operations_of, without_breaks
+from .byte_calls import ByteCalls, Outcome, PackedFault, Request
 from .calls import (
     Bound, Calls, Range, Read, Row, as_script, by_names, check_one_by_one, checked_group, checked_limit, checked_name, checked_page, checked_summed,
 )  # fmt: skip
-from .errors import OutOfMemory
+from .errors import OutOfMemory, Refused, told_with
 from .language import DEFINING, counted
+from .library import LibraryCalls
 from .messages import Message, Shape
 from .packed import BAD_FIELD, HEADER_OF_NONE, Usage, columns_of_reply, description, name_bytes, refusal_reply, trees_of_reply, usage_of_reply
-from .reasons import Problem, Reason
+from .reasons import Reason
 from .replies import Place
 from .rows import ColumnValues, plain_key
 from .schema import UNKNOWN, Tree, TreeColumn, Trees
@@ -39,98 +40,24 @@ else:
     except ImportError:
         _packed = None
 
-DONE, OUT_OF_MEMORY, REPLY_CUT, NOT_OPEN, ALREADY_OPEN, REFUSED = range(6)
-# What became of a command, or would.
-READ, CHANGED, COMMAND_REFUSED = range(3)
-# Replies of fewer bytes are copied by one call.
-SHORT_REPLIES = 4_096
-LIBRARY = "libbt_c.so"
-# The path in the Debian package.
-SYSTEM_FOLDER = Path("/usr/lib/betable")
 # A line that may begin a command after which the library describes other trees.
 DEFINING_LINE = re.compile(rb"^ *(?:%b) " % b"|".join(DEFINING), re.MULTILINE)
 DROPPED = re.compile(rb"^ *drop +([a-z0-9_]+)", re.MULTILINE)
-
-
-class _Handle(ctypes.Structure):
-    _fields_ = [("at", ctypes.c_void_p), ("is_open", ctypes.c_bool)]
-
-
-class _Fault(ctypes.Structure):
-    _fields_ = [("refusal", ctypes.c_uint64), ("item", ctypes.c_uint64), ("column", ctypes.c_uint64)]
-
-
-class _Reason(ctypes.Structure):
-    _fields_ = [("refusal", ctypes.c_uint64), ("item", ctypes.c_uint64), ("field", ctypes.c_uint64), ("problem", ctypes.c_uint32)]
-
-
-class _ReplyPlace(ctypes.Structure):
-    _fields_ = [("offset", ctypes.c_uint64), ("length", ctypes.c_uint64), ("kind", ctypes.c_uint32)]
-
-
-def _library_path() -> Path:
-    """The library of the folder that BETABLE_LIBRARY names, or the first one of: beside this file, as in a wheel; in out/ of the repository; at the path of
-    the Debian package."""
-    if folder := os.environ.get("BETABLE_LIBRARY"):
-        folders = [Path(folder)]
-    else:
-        here = Path(__file__).resolve().parent
-        folders = [here, here.parents[2] / "out", SYSTEM_FOLDER]
-    for one in folders:
-        if (one / LIBRARY).is_file():
-            return one / LIBRARY
-    where = " or ".join(str(one) for one in folders)
-    raise FileNotFoundError(
-        f"{LIBRARY} is not in {where}: a package of betable has it, bin/build_c of the repository builds it, and BETABLE_LIBRARY names the folder that has it"
-    )
-
-
-def _loaded_library() -> ctypes.CDLL:
-    library = ctypes.CDLL(str(_library_path()))
-    handle, size = ctypes.POINTER(_Handle), ctypes.c_size_t
-    of_packed = [handle, ctypes.c_char_p, size, ctypes.POINTER(_Fault)]
-    calls: list[tuple[str, list[Any], Any]] = [
-        ("betable_open", [handle], ctypes.c_uint),
-        ("betable_run", [handle, ctypes.c_char_p, size], ctypes.c_uint),
-        ("betable_check", [handle, ctypes.c_char_p, size], ctypes.c_uint),
-        ("betable_explain", [handle, ctypes.c_char_p, size, ctypes.POINTER(_Reason)], ctypes.c_uint),
-        ("betable_apply", of_packed, ctypes.c_uint),
-        ("betable_columns", of_packed, ctypes.c_uint),
-        ("betable_usage", of_packed, ctypes.c_uint),
-        ("betable_trees", of_packed, ctypes.c_uint),
-        ("betable_replies_length", [handle], size),
-        ("betable_copy_replies", [handle, size, ctypes.c_char_p, size], size),
-        ("betable_reply_count", [handle], size),
-        ("betable_reply", [handle, size, ctypes.POINTER(_ReplyPlace)], ctypes.c_bool),
-        ("betable_is_lost", [handle], ctypes.c_bool),
-        ("betable_close", [handle], ctypes.c_uint),
-    ]
-    for name, arguments, result in calls:
-        function = getattr(library, name)
-        function.argtypes, function.restype = arguments, result
-    return library
-
-
-_library: ctypes.CDLL | None = None
 
 
 class ScriptSession(Calls):
     """A table, or none so far, that lives between scripts. Any thread may use it, one call at a time: a call during another one raises RuntimeError. A closed
     session raises ValueError."""
 
-    def __init__(self) -> None:
-        global _library
-        self._handle, self._fault, self._place = _Handle(), _Fault(), _ReplyPlace()
-        # While the lock is taken, the handle is the library's alone.
+    _name = "session"  # what messages call it
+
+    def __init__(self, calls: ByteCalls | None = None) -> None:
+        # While the lock is taken, a call is being made.
         self._lock, self._is_open = self._made_lock(), False
-        # The trees, or None if they may have changed since the library described them, and those of the description before that are still there.
+        # The trees, or None if they may have changed since they were described, and those of the description before that are still there.
         self._trees: Trees | None = Trees()
         self._earlier: list[Tree] = []
-        self._room = ctypes.create_string_buffer(SHORT_REPLIES)
-        _library = _library or _loaded_library()
-        self._library = _library
-        if self._library.betable_open(self._handle) != DONE:
-            raise OutOfMemory
+        self._bytes = LibraryCalls() if calls is None else calls
         self._is_open = True
 
     def __enter__(self) -> ScriptSession:
@@ -139,52 +66,53 @@ class ScriptSession(Calls):
     def __exit__(self, kind: type[BaseException] | None, fault: BaseException | None, trace: TracebackType | None) -> None:
         self.close()
 
-    def __del__(self) -> None:
-        if self.__dict__.get("_is_open"):
-            self._library.betable_close(self._handle)
-
     def __reduce__(self) -> tuple[Any, ...]:
-        raise TypeError("a session cannot be copied or pickled: it is the owner of its table")
+        raise TypeError(f"{self._a_name} cannot be copied or pickled: it is the owner of its table")
 
     def __repr__(self) -> str:
+        return f"<betable.{self._name.capitalize()}, {self._state()}>"
+
+    @property
+    def _a_name(self) -> str:
+        return f"an {self._name}" if self._name[0] in "aeiou" else f"a {self._name}"
+
+    def _state(self) -> str:
+        """What it is at this moment, in words."""
         if not self._is_open:
-            return "<betable.Session, closed>"
+            return "closed"
         if self._lock.locked():
-            return "<betable.Session, open, in a call>"
+            return "open, in a call"
         trees = self.trees()
         if not trees:
-            return "<betable.Session, open, without a table>"
+            return "open, without a table"
         indexes = [f"{tree.name} ({'complete' if tree.is_complete else 'building'})" for tree in trees[1:]]
-        return f"<betable.Session, open, {counted(len(trees.columns), 'column')}{', indexes: ' + ', '.join(indexes) if indexes else ''}>"
+        return f"open, {counted(len(trees.columns), 'column')}{', indexes: ' + ', '.join(indexes) if indexes else ''}"
 
     def _made_lock(self) -> Any:
         return threading.Lock()
 
     def _calls(self) -> Any:
-        """The lock, for a `with` in which calls of the library that belong together are made. After `with` no interrupt leaves it taken."""
+        """The lock, for a `with` in which calls on bytes that belong together are made. After `with` no interrupt leaves it taken."""
         if self._lock.locked():
-            raise RuntimeError("the session is in a call, of another thread or of this one: one call at a time may use it, so hold a lock during each")
+            raise RuntimeError(f"the {self._name} is in a call, of another thread or of this one: one call at a time may use it, so hold a lock during each")
         return self._lock
 
-    def _open_handle(self) -> _Handle:
+    def _opened(self) -> ByteCalls:
         if not self._is_open:
-            raise ValueError("the session is closed")
-        return self._handle
+            raise ValueError(f"the {self._name} is closed")
+        return self._bytes
 
     def trees(self) -> Trees:
         """The trees of the table: that of its rows, and then its indexes in the order in which they were made. There are none before the table is made, and
         after it was lost."""
-        handle, trees = self._open_handle(), self._trees
+        calls, trees = self._opened(), self._trees
         if trees is not None:
             return trees
         with self._calls():
-            status = self._library.betable_trees(handle, HEADER_OF_NONE, len(HEADER_OF_NONE), self._fault)
-            if status != OUT_OF_MEMORY:
-                earlier = {tree: tree for tree in self._earlier}
-                trees = Trees([earlier.get(tree, tree) for tree in trees_of_reply(self._copied())] if status == DONE else [])
-                self._take_trees(trees)
-        if trees is None:
-            self._raise_out_of_memory()
+            reply = calls.ask(Request.TREES, HEADER_OF_NONE)
+            earlier = {tree: tree for tree in self._earlier}
+            trees = Trees([earlier.get(tree, tree) for tree in trees_of_reply(reply)] if isinstance(reply, bytes) else [])
+            self._take_trees(trees)
         return trees
 
     def _take_trees(self, trees: Trees | None) -> None:
@@ -192,11 +120,11 @@ class ScriptSession(Calls):
         self._trees = trees
 
     def close(self) -> None:
-        """Drops the table. A session that is closed stays closed."""
+        """Drops the table. What is closed stays closed."""
         if self._is_open:
             with self._calls():
                 self._is_open = False
-                self._library.betable_close(self._handle)
+                self._bytes.close()
 
     def replies(self, script: str | bytes) -> bytes:
         """The bytes of the replies to a script, whether commands are refused or not."""
@@ -207,106 +135,138 @@ class ScriptSession(Calls):
         as it is: none is carried out, and nothing changes. So no command is judged with the effects of those before it."""
         given = as_script(script)
         with self._calls():
-            status = self._library.betable_check(self._open_handle(), given, len(given))
+            self._opened().check(given)
             places = self._places()
-        if status != DONE:
-            self._raise_out_of_memory()
         return [number for number, (_, _, is_refused) in enumerate(places) if is_refused]
 
     def explain(self, script: str | bytes) -> Reason | None:
         """Why the first command of a script would be refused because of its records, on the table as it is: the lines of a batch, the key of a get, the text of
         a load, or the bounds of a scan or of sums. None if it would not be. Of several faults it is that of the refusal in the reply, and of these the first.
         The command is not carried out, and the replies are kept."""
-        given, reason = as_script(script), _Reason()
+        given = as_script(script)
         with self._calls():
-            status = self._library.betable_explain(self._open_handle(), given, len(given), reason)
-        if status == OUT_OF_MEMORY:
-            self._raise_out_of_memory()
-        return Reason(reason.refusal, reason.item, reason.field, Problem(reason.problem)) if status == REFUSED else None
+            return self._opened().explain(given)
 
     def _replies_with_places(self, script: bytes) -> tuple[bytes, list[Place] | None]:
         return self._ran(script, True)
 
     def _ran(self, script: bytes, with_places: bool) -> tuple[bytes, list[Place] | None]:
         """The bytes of the replies to a script, and their places if they are wanted."""
-        library, places, is_lost = self._library, None, False
         defines = any(word in script for word in DEFINING) and DEFINING_LINE.search(script) is not None
         with self._calls():
-            handle = self._open_handle()
+            calls = self._opened()
             if defines:
                 # Before the run, which an interrupt may follow. A tree that is made again is another one, even if it has the same columns.
                 dropped = DROPPED.findall(script)
                 self._earlier = [tree for tree in self._trees or self._earlier if tree.name.encode() not in dropped]
                 self._take_trees(None)
-            status = library.betable_run(handle, script, len(script))
-            replies = self._copied()
-            if status != DONE:
-                is_lost = library.betable_is_lost(handle)
-            elif with_places:
-                places = self._places()
-        if status != DONE:
-            raise OutOfMemory(replies, status == REPLY_CUT, is_lost)
-        return replies, places
+            replies = calls.run(script)
+            return replies, self._places() if with_places else None
 
     def _places(self) -> list[Place]:
         """The places of the replies to the last script, which was done or checked."""
-        library, handle, place = self._library, self._handle, self._place
-        found = []
-        for number in range(library.betable_reply_count(handle)):
-            library.betable_reply(handle, number, place)
-            found.append((place.offset, place.offset + place.length, place.kind == COMMAND_REFUSED))
-        return found
-
-    def _copied(self) -> bytes:
-        """The replies of the last call."""
-        library, handle, room = self._library, self._handle, self._room
-        count = library.betable_copy_replies(handle, 0, room, SHORT_REPLIES)
-        if count == SHORT_REPLIES:
-            length = library.betable_replies_length(handle)
-            room = ctypes.create_string_buffer(length)
-            count = library.betable_copy_replies(handle, 0, room, length)
-        return ctypes.string_at(room, count)
+        return self._bytes.places()
 
     @property
     def is_lost(self) -> bool:
         """Whether the table was lost as memory ran out."""
         with self._calls():
-            return bool(self._library.betable_is_lost(self._open_handle()))
+            return self._opened().is_lost
 
     # ---- packed bytes ----
 
     def columns(self, tree: str = "primary") -> list[TreeColumn]:
         """The columns of the rows of a tree, each with its name, its kind, and whether it belongs to the key of the tree."""
-        name = checked_name(tree, "a tree")
-        return columns_of_reply(self._reply_on_tree(self._library.betable_columns, name))
+        return columns_of_reply(self._reply_on_tree(Request.COLUMNS, checked_name(tree, "a tree")))
 
     def usage(self, tree: str = "primary") -> Usage:
         """How much a tree holds. All of its nodes are read."""
-        return usage_of_reply(self._reply_on_tree(self._library.betable_usage, checked_name(tree, "a tree")))
+        return usage_of_reply(self._reply_on_tree(Request.USAGE, checked_name(tree, "a tree")))
 
-    def _apply_packed(self, changes: bytes) -> bytes:
-        if self._reply(self._library.betable_apply, changes, is_empty=True) is not None:
-            return b""
-        return refusal_reply(self._fault.refusal, self._fault.item)
-
-    def _reply(self, call: Callable[..., int], packed: bytes, is_empty: bool = False) -> bytes | None:
-        """The reply to a call on packed bytes, which may be empty always. If they are refused it is None, and nothing has changed."""
-        with self._calls():
-            status = call(self._open_handle(), packed, len(packed), self._fault)
-            reply = None if status != DONE else b"" if is_empty else self._copied()
-        if status == OUT_OF_MEMORY:
-            self._raise_out_of_memory()
-        return reply
-
-    def _reply_on_tree(self, call: Callable[..., int], name: str) -> bytes:
-        """The reply to a call on the name of a tree, which is refused only if there is no such tree."""
-        reply = self._reply(call, name_bytes(name))
+    def _reply_on_tree(self, request: Request, name: str) -> bytes:
+        """The reply to a request on the name of a tree, which is refused only if there is no such tree."""
+        reply = self._ask(request, name_bytes(name))
         if reply is None:
             self._refuse_tree(name)
         return reply
 
-    def _raise_out_of_memory(self) -> NoReturn:
+    def _ask(self, request: Request, packed: bytes) -> bytes | None:
+        """The reply to packed bytes. If they are refused it is None, and nothing has changed."""
+        with self._calls():
+            reply = self._opened().ask(request, packed)
+        return reply if isinstance(reply, bytes) else None
+
+    def _apply_packed(self, changes: bytes) -> bytes:
+        return self._refusal_of(self._sent(changes))
+
+    def _sent(self, changes: bytes) -> Callable[[], Outcome]:
+        """Begins to apply packed changes."""
+        with self._calls():
+            return self._opened().send(changes)
+
+    def _refusal_of(self, outcome: Callable[[], Outcome]) -> bytes:
+        """The reply to the batch of a script that is refused as changes were that have been sent, or no bytes if they were applied."""
+        with self._calls():
+            found = outcome()
+        return refusal_reply(found.refusal, found.item) if isinstance(found, PackedFault) else b""
+
+    def _apply_all(self, batches: Iterator[tuple[Batch, Tree, int]]) -> None:
+        """Applies the batches of a call in order. Where changes may be sent ahead, the next batch is made while those of the one before are applied."""
+        ahead: deque[Sent] = deque()
+        try:
+            for batch, there, taken in batches:
+                with told_with(taken):
+                    packed = self._packed(batch, there, taken)
+                    if packed is None:
+                        self._take_all(ahead)
+                        self._apply(batch, there, taken)
+                        continue
+                    ahead.append(Sent(batch, there, taken, self._sent(packed)))
+                while len(ahead) > self._bytes.most_ahead:
+                    self._take_first(ahead)
+        except Exception:
+            # A batch that is refused is told before what follows it.
+            self._take_all(ahead)
+            raise
+        self._take_all(ahead)
+
+    def _take_all(self, ahead: deque[Sent]) -> None:
+        while ahead:
+            self._take_first(ahead)
+
+    def _take_first(self, ahead: deque[Sent]) -> None:
+        """Waits for the outcome of the batch that was sent first. If it is refused, later ones were sent already, and how many rows of them were applied is
+        told."""
+        batch, there, taken, outcome = ahead.popleft()
+        try:
+            with told_with(taken):
+                refusal = self._refusal_of(outcome)
+        except Exception:
+            ahead.clear()
+            raise
+        if not refusal:
+            return
+        after = 0
+        while ahead:
+            later = ahead.popleft()
+            after += 0 if self._refusal_of(later.outcome) else len(later.batch.items)
+        try:
+            self._refuse_batch(refusal, batch, there, taken)
+        except Refused as fault:
+            raise fault.with_later(after) from None
+
+    def _raise_out_of_memory(self) -> None:
+        """Raises what the extension was told by the library."""
         raise OutOfMemory(b"", False, self.is_lost)
+
+
+class Sent(NamedTuple):
+    """A batch that was sent: its tree, how many rows of its call were sent before it, and what waits for its outcome."""
+
+    batch: Batch
+    there: Tree
+    taken: int
+    outcome: Callable[[], Outcome]
 
 
 class CheckedCalls(ScriptSession):
@@ -410,20 +370,16 @@ if TYPE_CHECKING or _packed is not None:
     if not TYPE_CHECKING:
         _packed.prepare(CheckedCalls, Message)
 
-    class Session(_packed.Caller, CheckedCalls):
+    class PackedSession(_packed.Caller, CheckedCalls):
         __doc__ = ScriptSession.__doc__
 
-        def __init__(self) -> None:
-            super().__init__()
+        def __init__(self, calls: ByteCalls) -> None:
+            super().__init__(calls)
             self._connect_calls()
 
-        def __enter__(self) -> Session:
-            return self
-
         def _connect_calls(self) -> None:
-            """Gives the extension the calls of the library that ctypes has loaded."""
-            addresses = [ctypes.cast(getattr(self._library, name), ctypes.c_void_p).value for name in _packed.CALLS]
-            self._connect(self._handle, ctypes.addressof(self._handle), tuple(addresses), self._lock)
+            """Lets the extension ask by `_ask`."""
+            self._connect(None, 0, None, self._lock)
 
         def _made_lock(self) -> Any:
             return _packed.Lock()
@@ -438,19 +394,36 @@ if TYPE_CHECKING or _packed is not None:
 
 else:
 
-    class Session(ScriptSession):
+    class PackedSession(ScriptSession):
         __doc__ = ScriptSession.__doc__
 
-        def __init__(self) -> None:
-            super().__init__()
+        def __init__(self, calls: ByteCalls) -> None:
+            super().__init__(calls)
             _warn_of_scripts()
 
-        def __enter__(self) -> Session:
-            return self
+
+class Session(PackedSession):
+    __doc__ = ScriptSession.__doc__
+
+    _bytes: LibraryCalls
+
+    def __init__(self) -> None:
+        super().__init__(LibraryCalls())
+
+    def __enter__(self) -> Session:
+        return self
+
+    def _connect_calls(self) -> None:
+        """Gives the extension the calls of the library that ctypes has loaded."""
+        if _packed is None:
+            return
+        library, handle = self._bytes.library, self._bytes.handle
+        addresses = [ctypes.cast(getattr(library, name), ctypes.c_void_p).value for name in _packed.CALLS]
+        self._connect(handle, ctypes.addressof(handle), tuple(addresses), self._lock)
 
 
 @cache
 def _warn_of_scripts() -> None:
     """Warns once of what takes longer without the extension."""
     reason = "the extension betable._packed is not built, so calls on values go by scripts, which take several times as long, and refuse texts with line breaks"
-    warnings.warn(f"{reason} (docs/PYTHON.md, 'The extension')", RuntimeWarning, stacklevel=3)
+    warnings.warn(f"{reason} (docs/PYTHON.md, 'The extension')", RuntimeWarning, stacklevel=4)

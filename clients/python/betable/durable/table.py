@@ -36,12 +36,12 @@ from typing import Any, NoReturn, TypeVar
 
 from ..batches import Batch, script_of_changes
 from ..calls import Calls, Row, as_script
-from ..errors import before
+from ..errors import EngineEnded, before
 from ..language import CHANGING, DEFINING, Definitions, commands
 from ..reads import Reads, Runner as Runner, reader_of
 from ..replies import Place, Reply, answered
 from ..schema import Tree
-from ..session import ScriptSession, Session
+from ..session import PackedSession, ScriptSession, Session
 from .checkpoints import AutomaticCheckpoints, Part, parts_of, puts_of, scripts_of
 from .file_lock import lock
 from .wal import FIRST_GENERATION, FOREIGN, SYNCED, UNSYNCED, fault_of_log, mark_of, new_mark, renew_mark
@@ -188,7 +188,7 @@ def open(
 
     Without `sync` a power loss may lose the last scripts, but no crash of the process does. `most_requests` is how many request ids of `once` are kept.
     A checkpoint is written after the commit with which the log has more than `checkpoint_bytes`, and more than the last checkpoint: None leaves it to you.
-    `make` returns what runs the scripts, which has no table yet: a session by default.
+    `make` returns what runs the scripts, which has no table yet: a session by default, or an engine, as `make=lambda: betable.Engine(workers=4)`.
     """
     _check_number("most_requests", most_requests, LARGEST_MOST_REQUESTS)
     check_checkpoint_bytes(checkpoint_bytes)
@@ -406,7 +406,7 @@ class Durable(AutomaticCheckpoints, Reads):
         """Replays the next entries of the log: as many that are packed changes as the extension takes, or up to one that it leaves to this. Whether there was
         any. Each is applied by itself, since trees depend on batches."""
         count, size, entry = 0, 0, None
-        if isinstance(session, Session) and hasattr(session, "_replay"):
+        if isinstance(session, PackedSession) and hasattr(session, "_replay"):
             count, size, entry = session._replay(log, self._number + 1, MOST_ENTRIES, zlib.crc32)
             self._number, self._log_bytes = self._number + count, self._log_bytes + size
             if entry is None:
@@ -451,14 +451,14 @@ class Durable(AutomaticCheckpoints, Reads):
                 return self._run(script)
 
     def _read(self, call: Callable[[Any], T]) -> T:
-        """What a call gives of the session. After a failed request for memory the session goes, as after a script that failed."""
+        """What a call gives of the session. After a failed request for memory, or the end of an engine, the session goes, as after a script that failed."""
         with self._lock:
             if self._is_in_group:
                 self._refuse_after_failure()
             try:
                 self._ready()
                 return call(self._reader)
-            except MemoryError:
+            except (MemoryError, EngineEnded):
                 with self._some_group(), self._all_or_nothing():
                     raise
 
@@ -471,7 +471,7 @@ class Durable(AutomaticCheckpoints, Reads):
             self._check_process()
             try:
                 return reader.get(*key)
-            except MemoryError:
+            except (MemoryError, EngineEnded):
                 return super().get(*key)
 
     def once(self, request_id: str, script: str | bytes) -> bytes:

@@ -1,4 +1,5 @@
-"""The engine of a server: a durable table in a separate process, which runs all waiting scripts and keeps them with one commit.
+"""The engine of a server: a durable table in a separate process, which runs all waiting scripts and keeps them with one commit. With a number of workers the
+table is in a further process, the program betable_engine, which the separate one starts.
 
 `Engine` is the server's side: it starts the process, hands it works and gives their answers. `main` is the process. It is started from scratch, since the
 library does not allow calls in the forked child of a process with threads, and it ends with its server. Both talk by frames through a pair of pipes: eight
@@ -20,14 +21,16 @@ from pathlib import Path
 from typing import Any, BinaryIO, NamedTuple
 
 from ..calls import Row
-from ..durable.table import CHECKPOINT_BYTES, FAULTS, Durable, ReplyDamaged, RequestReused, ScriptTooLong, open as open_table
-from ..errors import Refused, RowError
+from ..durable.table import CHECKPOINT_BYTES, FAULTS, Durable, ReplyDamaged, RequestReused, RolledBack, ScriptTooLong, open as open_table
+from ..engine import Engine as TableEngine
+from ..errors import EngineEnded, Refused, RowError, ending
 from ..language import counted
 from ..messages import delete
 from ..packed import Usage, change_count
 from ..replies import reply_end
 from ..rows import Value, printed_records, value_of_field
 from ..schema import UNKNOWN, Tree, TreeColumn, Trees
+from ..session import Session
 
 # The largest number of requests in a group, and the bytes of scripts that close one.
 MOST_GROUP, GROUP_BYTES = 256, 16 << 20
@@ -99,7 +102,8 @@ class Answer(NamedTuple):
 class Result(NamedTuple):
     """The results of works: for each its answer or its fault, the time of its scripts and that of its commit. `number` is that of the last script that
     is kept, `log_bytes` are those of the log, `request_bytes` those of the stored replies, and `trees` are those of the table if they have changed. If a
-    checkpoint was written, `checkpoint_seconds` is how long the last one took. `checkpoint_failed` says whether none can be written by itself."""
+    checkpoint was written, `checkpoint_seconds` is how long the last one took. `checkpoint_failed` says whether none can be written by itself. `table_process`
+    is the number of the process betable_engine, or 0 if there is none."""
 
     answers: list[Answer | Exception]
     run_seconds: float = 0
@@ -110,6 +114,7 @@ class Result(NamedTuple):
     trees: Trees | None = None
     checkpoint_seconds: float | None = None
     checkpoint_failed: bool = False
+    table_process: int = 0
 
 
 class WrongKey(Exception):
@@ -131,7 +136,7 @@ def main() -> int:
     """Runs groups of works until the server closes its pipe. Signals to end are the server's, which then replies to what waits."""
     for number in (signal.SIGINT, signal.SIGTERM):
         signal.signal(number, signal.SIG_IGN)
-    path, parent, checkpoint_bytes = sys.argv[1:]
+    path, parent, checkpoint_bytes, workers = sys.argv[1:]
     ctypes.CDLL(None).prctl(PR_SET_PDEATHSIG, signal.SIGKILL)
     if os.getppid() != int(parent):
         return 1
@@ -139,16 +144,48 @@ def main() -> int:
     works, results = os.fdopen(os.dup(0), "rb"), os.fdopen(os.dup(1), "wb")
     os.dup2(2, 1)
     try:
-        worker = Worker(path, int(checkpoint_bytes))
+        worker = Worker(path, int(checkpoint_bytes), int(workers))
+    except EngineEnded as fault:
+        return _told(fault, "the worker ends with it")
     except Exception as fault:
         _send(results, fault)
         return 1
-    with worker.table as table:
+    with worker.table:
+        try:
+            worker.serve(works, results)
+        except RolledBack as fault:
+            if not isinstance(fault.__cause__, EngineEnded):
+                raise
+            return _told(fault.__cause__, "the worker ends with it")
+    return 0
+
+
+def _told(fault: EngineEnded, follows: str) -> int:
+    """Tells the end of the program of the table, and returns the status of a process that ends with it."""
+    print(f"betable serve: {fault}: {follows}", file=sys.stderr, flush=True)
+    return 1
+
+
+class Worker:
+    """The durable table of a server, in a session, or in an engine with that many workers."""
+
+    def __init__(self, path: str, checkpoint_bytes: int = CHECKPOINT_BYTES, workers: int = 0) -> None:
+        self._workers, self.table_process = workers, 0
+        self.table = open_table(path, checkpoint_bytes=checkpoint_bytes or None, make=self._made_engine if workers else Session)
+
+    def _made_engine(self) -> TableEngine:
+        engine = TableEngine(self._workers)
+        self.table_process = engine.pid
+        return engine
+
+    def serve(self, works: BinaryIO, results: BinaryIO) -> None:
+        """Runs groups of works until there are no more. The first result, of no works, says that the table is open."""
+        table = self.table
         known: Trees | None = None
         group: list[Work] | None = []
         while group is not None:
             count = table.checkpoint_count
-            result = worker.run_group(group)
+            result = self.run_group(group)
             before, known = known, table.trees()
             result = result._replace(number=table.number, log_bytes=table.log_bytes, request_bytes=table.request_bytes)
             if known != before:
@@ -156,19 +193,12 @@ def main() -> int:
             if table.checkpoint_count != count and table.checkpoint_seconds is not None:
                 commit_seconds = max(0, result.commit_seconds - table.checkpoint_seconds)
                 result = result._replace(checkpoint_seconds=table.checkpoint_seconds, commit_seconds=commit_seconds)
-            _send(results, result._replace(checkpoint_failed=table.checkpoint_fault is not None))
+            _send(results, result._replace(checkpoint_failed=table.checkpoint_fault is not None, table_process=self.table_process))
             group = _received(works)
-    return 0
 
-
-class Worker:
-    """The durable table of a server."""
-
-    def __init__(self, path: str, checkpoint_bytes: int = CHECKPOINT_BYTES) -> None:
-        self.table = open_table(path, checkpoint_bytes=checkpoint_bytes or None)
-
-    def run_group(self, group: list[Work]) -> Result:
-        """Runs works and keeps what they changed by one commit. If one of them fails, nothing of the group is kept, and each is run by itself."""
+    def run_group(self, group: list[Work], failures: int = 0) -> Result:
+        """Runs works and keeps what they changed by one commit. If one of them fails, nothing of the group is kept, and each is run by itself. If the program
+        of the table has ended, a work is run again on another one."""
         begin = end = time.perf_counter()
         answers: list[Answer | Exception] = []
         try:
@@ -182,6 +212,9 @@ class Worker:
             if len(group) > 1:
                 alone = [self.run_group([work]) for work in group]
                 return Result([one.answers[0] for one in alone], sum(one.run_seconds for one in alone), sum(one.commit_seconds for one in alone))
+            if isinstance(fault.__cause__, EngineEnded) and failures < MOST_FAILURES:
+                _told(fault.__cause__, "the table is made again from the file")
+                return self.run_group(group, failures + 1)
             answers = [fault]
         return Result(answers, end - begin, time.perf_counter() - end)
 
@@ -343,14 +376,16 @@ class Engine:
     """The engine's process, as its server sees it. `trees` are the table's, `number` that of the last script that is kept, `starts` how often it was started.
 
     `on_result` is called with the works and the result of each group, before their answers are given, and `on_notice` with a line when the process has ended,
-    and when another one has taken its place. By itself the process writes a checkpoint once the log has `checkpoint_bytes`, or never with 0.
+    and when another one has taken its place. By itself the process writes a checkpoint once the log has `checkpoint_bytes`, or never with 0. The table has that
+    many workers, in a process `table_process`, or with 0 it is in a session of the engine's process.
     """
 
     def __init__(
         self, path: str | os.PathLike[str], on_result: Callable[[list[Work], Result], None] = lambda group, result: None,
-        on_notice: Callable[[str], None] = lambda line: None, checkpoint_bytes: int = CHECKPOINT_BYTES,
+        on_notice: Callable[[str], None] = lambda line: None, checkpoint_bytes: int = CHECKPOINT_BYTES, workers: int = 0,
     ) -> None:  # fmt: skip
         self.path, self.on_result, self.on_notice, self.checkpoint_bytes = os.fspath(path), on_result, on_notice, checkpoint_bytes
+        self.workers, self.table_process = workers, 0
         self.trees, self.number, self.log_bytes, self.request_bytes, self.starts = Trees(), 0, 0, 0, 0
         self.is_open = False
         self._waiting: deque[tuple[Work, asyncio.Future[Answer]]] = deque()
@@ -394,7 +429,7 @@ class Engine:
                 self._fail()
             status = await self._process_end()
             if not self._is_ending:
-                self.on_notice(f"the worker ended by {_ending(status)}; requests get 503 until it is started again")
+                self.on_notice(f"the worker ended by {ending(status)}; requests get 503 until it is started again")
 
     def end(self) -> None:
         """Ends `serve`. The process replies to the works that were sent to it before; one that is still opening the table is killed."""
@@ -416,8 +451,8 @@ class Engine:
 
     async def _start(self) -> None:
         process = await asyncio.create_subprocess_exec(
-            sys.executable, "-P", "-c", START, self.path, str(os.getpid()), str(self.checkpoint_bytes), stdin=asyncio.subprocess.PIPE,
-            stdout=asyncio.subprocess.PIPE, limit=1 << 20, env=package_environment(),
+            sys.executable, "-P", "-c", START, self.path, str(os.getpid()), str(self.checkpoint_bytes), str(self.workers),
+            stdin=asyncio.subprocess.PIPE, stdout=asyncio.subprocess.PIPE, limit=1 << 20, env=package_environment(),
         )  # fmt: skip
         assert process.stdin is not None and process.stdout is not None
         self._process, self._stdin, self._stdout = process, process.stdin, process.stdout
@@ -467,7 +502,7 @@ class Engine:
         group, self._group = self._group, []
         self.on_result([work for work, _ in group], result)
         self.trees, self.number = self.trees if result.trees is None else result.trees, result.number
-        self.log_bytes, self.request_bytes = result.log_bytes, result.request_bytes
+        self.log_bytes, self.request_bytes, self.table_process = result.log_bytes, result.request_bytes, result.table_process
         self._send_group()
         for (_, future), answer in zip(group, result.answers):
             if future.cancelled():
@@ -492,11 +527,3 @@ def package_environment() -> dict[str, str]:
     """The environment of a process that finds the package in the same folder as this one."""
     folders = [str(Path(__file__).resolve().parents[2]), os.environ.get("PYTHONPATH", "")]
     return {**os.environ, "PYTHONPATH": os.pathsep.join(filter(None, folders))}
-
-
-def _ending(status: int) -> str:
-    """How a process has ended, in words."""
-    try:
-        return f"the signal {signal.Signals(-status).name}" if status < 0 else f"itself, with status {status}"
-    except ValueError:
-        return f"signal {-status}"

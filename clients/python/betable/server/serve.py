@@ -25,6 +25,7 @@ from prometheus_client import CollectorRegistry, Counter, Gauge, Histogram, Proc
 
 from ..calls import refusal
 from ..durable.table import CHECKPOINT_BYTES, FAULTS, LARGEST_CHECKPOINT_BYTES
+from ..engine import MOST_WORKERS
 from ..errors import Refused
 from ..language import MOST_SCRIPT_BYTES, commands
 from ..messages import OPERATIONS
@@ -112,6 +113,8 @@ class Metrics:
         ):
             Gauge(name, help_text, registry=registry).set_function(value)
         ProcessCollector("betable_engine", lambda: engine.pid, registry=registry)
+        if engine.workers:
+            ProcessCollector("betable_table", lambda: engine.table_process, registry=registry)
         ProcessCollector("betable_http", registry=registry)
 
     def count(self, endpoint: str, status: int) -> None:
@@ -137,10 +140,10 @@ class Service:
 
     def __init__(
         self, path: str, limits: Limits = Limits(), token: bytes | None = None, is_read_only: bool = False, log: Path | None = None,
-        slow_seconds: float | None = None, backup_folder: Path | None = None, checkpoint_bytes: int = CHECKPOINT_BYTES,
+        slow_seconds: float | None = None, backup_folder: Path | None = None, checkpoint_bytes: int = CHECKPOINT_BYTES, workers: int = 0,
     ) -> None:  # fmt: skip
         self.notices = Notices()
-        self.engine = Engine(path, self.take, self.notices.tell, checkpoint_bytes)
+        self.engine = Engine(path, self.take, self.notices.tell, checkpoint_bytes, workers)
         self.limits, self.token, self.is_read_only = limits, token, is_read_only
         self.log = RequestLog(log, slow_seconds, self.notices.tell)
         # When a change failed because memory or disk ran out, if none has succeeded since, and why.
@@ -634,6 +637,8 @@ def add_words(parser: argparse.ArgumentParser) -> None:
     parser.add_argument("--read-only", action="store_true", help="refuses what would change the table; backups are written all the same")
     parser.add_argument("--backup-folder", metavar="DIR", type=Path, help="the folder into which POST /backup writes; without it there are no backups")
     number, seconds = number_from(1), number_from(0.001, 86_400, float)
+    of_workers = "keeps the table in the program betable_engine, which works in N threads; without it the table is in a session, with one thread"
+    parser.add_argument("--workers", metavar="N", type=number_from(1, MOST_WORKERS), default=0, help=of_workers)
     of_log = "a checkpoint is written once the log is longer, and longer than the last checkpoint; 0: only by POST /checkpoint (%(default)s)"
     most = number_from(0, LARGEST_CHECKPOINT_BYTES)
     parser.add_argument("--checkpoint-bytes", metavar="N", type=most, default=CHECKPOINT_BYTES, help=of_log)
@@ -680,7 +685,7 @@ def run(words: argparse.Namespace) -> int:
     if folder and not (folder.is_dir() and os.access(folder, os.W_OK | os.X_OK)):
         return fail(f"{words.backup_folder}: no folder that backups can be written into", 2)
     try:
-        service = Service(words.path, limits, token, words.read_only, words.access_log, words.slow_seconds, folder, words.checkpoint_bytes)
+        service = Service(words.path, limits, token, words.read_only, words.access_log, words.slow_seconds, folder, words.checkpoint_bytes, words.workers)
     except OSError as fault:
         return fail(f"{words.access_log}: {fault.strerror}", 2)
     logging.getLogger().addHandler(service.notices)
