@@ -115,7 +115,7 @@ class EngineCalls:
         _RUNNING.add(self)
         os.set_blocking(self._input, False)
         for descriptor in (self._input, self._output):
-            # A user may have only so many bytes in pipes.
+            # The system limits how many bytes the pipes of a user hold.
             with suppress(OSError):
                 fcntl.fcntl(descriptor, fcntl.F_SETPIPE_SZ, PIPE_BYTES)
         # That it is an engine, and runs.
