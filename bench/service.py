@@ -1,12 +1,13 @@
 #!/usr/bin/env python3
 """Measures the server of the Python package beside Redis with appendfsync always: rows a second by requests of 1 to 10,000 rows, over 1 and 100 connections.
 
-    bench/service.py [--seconds S] [--rows N]
+    bench/service.py [--seconds S] [--rows N] [--workers N]
 
 Both get the same rows, in the same order: a key of which many come at random, a city of five, and an int. betable puts them into a table with an index on the
 city, which includes the int; Redis sets a hash for each row and adds its key to a sorted set of city and key, in one transaction a request. Both have synced
 what they have answered. The client is the same: one process, which has encoded all requests before, and sends the next one over a connection when the last one
-is answered. Then the server alone: single rows, a page and sums of a table of N rows. The first line tells the load of the machine.
+is answered. Then the server alone: single rows, a page and sums of a table of N rows. With --workers the table is in an engine with so many workers. The first
+line tells the load of the machine.
 """
 
 import argparse
@@ -159,12 +160,12 @@ def redis(folder: str, port: int) -> subprocess.Popen[bytes]:
     return process
 
 
-def compare(rows: list[Row], seconds: float) -> None:
+def compare(rows: list[Row], seconds: float, options: list[str]) -> None:
     for size in SIZES:
         chunks = [rows[at : at + size] for at in range(0, len(rows), size)][:100_000]
         by_http, by_redis = [put_by_http(chunk) for chunk in chunks], [put_by_redis(chunk) for chunk in chunks]
         for connections in CONNECTIONS:
-            with service.server(script=TABLE) as found:
+            with service.server(*options, script=TABLE) as found:
                 measured("betable", found.port, by_http, size, connections, seconds, is_http_answer)
                 scripts, commits = found.metric("betable_scripts_total"), found.metric("betable_commits_total")
                 print(f"         {scripts / commits:.1f} requests a commit, {1e3 * found.metric('betable_commit_seconds_sum') / commits:.2f} ms a commit")
@@ -179,8 +180,8 @@ def compare(rows: list[Row], seconds: float) -> None:
                     process.wait()
 
 
-def reads(rows: list[Row], seconds: float) -> None:
-    with service.server(script=TABLE) as found:
+def reads(rows: list[Row], seconds: float, options: list[str]) -> None:
+    with service.server(*options, script=TABLE) as found:
         for at in range(0, len(rows), 50_000):
             found.ask("POST", "/rows", b"".join(b"%d,%b,%d\n" % (key, city.encode(), quantity) for key, city, quantity in rows[at : at + 50_000]))
         for what, path in [
@@ -200,13 +201,15 @@ def main() -> None:
     parser = argparse.ArgumentParser(description=__doc__, formatter_class=argparse.RawDescriptionHelpFormatter)
     parser.add_argument("--seconds", type=float, default=4, help="of each measure (%(default)s)")
     parser.add_argument("--rows", type=int, default=1_000_000, help="how many rows there are to send (%(default)s)")
+    parser.add_argument("--workers", help="of an engine of the server (none, if not given)")
     words = parser.parse_args()
+    options = ["--workers", words.workers] if words.workers else []
     if service.python() is None or shutil.which("redis-server") is None:
         sys.exit("aiohttp or redis-server is not installed")
     print(f"load {os.getloadavg()[0]:.1f} on {os.cpu_count()} processors; {words.seconds:g} s a measure", flush=True)
     rows = some_rows(words.rows)
-    compare(rows, words.seconds)
-    reads(rows, words.seconds)
+    compare(rows, words.seconds, options)
+    reads(rows, words.seconds, options)
     print(f"load at the end {os.getloadavg()[0]:.1f}")
 
 

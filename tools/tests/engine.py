@@ -24,15 +24,15 @@ from functools import cache
 from pathlib import Path
 from unittest import SkipTest, TestCase
 
+from .. import frames
+from ..crews import CREWS
+from ..frames import APPLY, CHECK, COLUMNS, DONE, EXPLAIN, GET, INVALID, LAST_PAGE, PAGE, REFUSED, SCRIPT, SUMS, TREES, USAGE, frame, frames_of
 from . import csv_puts, python_changes, python_columns, python_ranges
 from .clients import WORKED, betable, build_extension, library
-from .common import SECONDS, TOP, fault_of
+from .common import SECONDS, TOP, fault_of, run
 from .durable import durable, folder
 
-CREWS = [(1, 2, 64), (2, 1, 1), (4, 1, 1), (4, 2, 64), (4, 6, 16)]
-MAGIC = b"BTF\1"
-SCRIPT, CHECK, APPLY, GET, PAGE, LAST_PAGE, SUMS, COLUMNS, USAGE, TREES, EXPLAIN = range(1, 12)
-DONE, REFUSED, INVALID = range(3)
+SOME_CREWS = [(1, 2, 64), (2, 1, 1), (4, 1, 1), (4, 2, 64), (4, 6, 16)]
 TABLE = b"table 4 8 4 1 id:int city:text qty:int\n"
 DEFAULT_MOST = 67_108_864
 
@@ -54,22 +54,6 @@ def setUpModule():
 
 def engine(*words, **named):
     return betable().Engine(*words, **named)
-
-
-def frame(kind, payload=b""):
-    return MAGIC + struct.pack("<QB", len(payload), kind) + payload
-
-
-def frames_of(output):
-    """The frames that bytes are: of each its kind and its payload."""
-    found, at = [], 0
-    while at < len(output):
-        magic, length, kind = struct.unpack_from("<4sQB", output, at)
-        if magic != MAGIC or at + 13 + length > len(output):
-            raise AssertionError(output[at : at + 50])
-        found.append((kind, output[at + 13 : at + 13 + length]))
-        at += 13 + length
-    return found
 
 
 def answered(given, *words):
@@ -280,7 +264,7 @@ class Frames(TestCase):
         """Its length is that of the largest one that is allowed, and ten bytes of it arrive."""
         words = [program(), "--most-frame", str(1 << 40)]
         with subprocess.Popen(words, stdin=subprocess.PIPE, stdout=subprocess.PIPE) as process:
-            process.stdin.write(MAGIC + struct.pack("<QB", 1 << 40, SCRIPT) + b"0123456789")
+            process.stdin.write(frames.MAGIC + struct.pack("<QB", 1 << 40, SCRIPT) + b"0123456789")
             process.stdin.flush()
             time.sleep(0.5)
             most = memory_of(process.pid, "VmHWM")
@@ -304,10 +288,14 @@ class Frames(TestCase):
 
 class BesideASession(TestCase):
     def test_worked_scripts_have_their_replies_by_all_crews(self):
-        """Their replies, the places of these, and the checks and reasons of their commands, before each of which the script has not been run."""
+        status, text, errors = run("tools/every_crew", "--engine", "--program", str(program()), "examples", "crates/test_scripts/data", seconds=1800)
+        self.assertEqual((status, errors, text.splitlines()[-1].split(", ")[-1]), (0, "", "0 faults"))
+
+    def test_worked_scripts_have_the_images_and_reasons_of_a_session(self):
+        """And the places of their replies, and the checks of their commands, before each of which the script has not been run."""
         scripts = sorted(path.with_suffix("") for path in WORKED.glob("*.stdout"))
         self.assertGreater(len(scripts), 50)
-        for crew in CREWS:
+        for crew in SOME_CREWS:
             for path in scripts:
                 script = path.read_bytes()
                 with self.subTest(crew=crew, script=path.name), engine(crew[0], cut=crew[1], grain=crew[2]) as one, betable().Session() as session:
@@ -320,11 +308,12 @@ class BesideASession(TestCase):
                     self.assertEqual((one.trees(), images(one)), (session.trees(), images(session)))
 
     def test_calls_on_values_have_the_results_of_a_session_by_all_crews(self):
+        with betable().Session() as session:
+            expected = [(call(session), images(session)) for call in self.calls()]
         for crew in CREWS:
-            with self.subTest(crew=crew), engine(crew[0], cut=crew[1], grain=crew[2]) as one, betable().Session() as session:
-                for number, call in enumerate(self.calls()):
-                    self.assertEqual(call(one), call(session), number)
-                    self.assertEqual(images(one), images(session), number)
+            with self.subTest(crew=crew), engine(crew[0], cut=crew[1], grain=crew[2]) as one:
+                for number, (call, results) in enumerate(zip(self.calls(), expected)):
+                    self.assertEqual((call(one), images(one)), results, number)
 
     def calls(self):
         """Changes of each kind, and after some of them reads of each kind."""
@@ -622,6 +611,12 @@ class Threads(TestCase):
                     is_over.set()
                     thread.join()
                 self.assertEqual((workers in seen, max(seen) in most), (True, True), seen)
+
+    def test_refused_memory_ends_an_engine_after_whole_replies(self):
+        """Each request for memory and each start of a thread, refused in turn, in the program and in the engine."""
+        status, text, errors = run("tools/refused_allocations/run", "crates/betable/out/betable", str(program()), seconds=1800)
+        self.assertEqual((status, errors), (0, ""))
+        self.assertIn("; fault: 0", text)
 
     def test_small_requests_start_no_thread(self):
         with engine(4) as one:

@@ -15,6 +15,7 @@ from functools import cache
 from pathlib import Path
 from unittest import SkipTest, TestCase
 
+from ..frames import frame
 from .clients import library, programs, rust_program, worked_scripts
 from .common import needs, output_of, SECONDS, TOP
 
@@ -228,10 +229,6 @@ for reply in os.environ["REPLIES"].split(","):
     read(int.from_bytes(read(13)[4:12], "little"))
     os.write(1, bytes.fromhex(reply))
 """
-
-
-def frame(kind, payload, length=None):
-    return b"BTF\x01" + struct.pack("<QB", len(payload) if length is None else length, kind) + payload
 
 
 def numbers(*given):

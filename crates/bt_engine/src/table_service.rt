@@ -1,7 +1,8 @@
 //! A table as a service: requests are carried out on it.
-ghost use Rattle.std.specs.Prelude.{◌≡◌, IfOk, None, OnOk};
+ghost use Rattle.std.specs.Prelude.{◌≡◌, ◌≢◌, Err, IfErr, IfOk, None, Ok, OnOk};
 ghost use Rattle.bt_script.specs.Commands.{commands};
 ghost use Rattle.bt_shell.specs.Runs.{after_commands};
+ghost use Rattle.bt_packed.specs.Questions.{applied_to};
 ghost use Rattle.bt_engine.specs.Exchanges as exchanges;
 ghost use Rattle.bt_engine.specs.Payloads as payloads;
 
@@ -10,10 +11,11 @@ use crate::reply::{done, fault_reply, invalid};
 use crate::request::{Request, request_of};
 use bt_fault::script_reason;
 use bt_frame::{Arrival, Reply, Service, number_bytes};
-use bt_packed::{PackedWorkforce, Question, ReplyRoom, apply, ask};
+use bt_packed::{Fault, PackedWorkforce, Question, ReplyRoom, apply, ask};
 use bt_script::Counted;
 use bt_shell::{Context, ScriptWorkforce, check_commands, run_commands};
-use bt_table::Table;
+use bt_table::{Alone, Table};
+use bt_value::Refusal;
 use std::alloc::{AllocError, Global};
 use std::marker::Model;
 
@@ -60,6 +62,30 @@ fn check_script(
     Ok(payload)
 }
 
+// Packed changes of fewer bytes are applied by the caller alone, because starting threads would take longer than the workers gain.
+const FEW_BYTES: usize = 32_768;
+
+// Applies packed changes by a crew, or by the caller alone if they are few.
+fn apply_by_size<T, C: PackedWorkforce<T>>(
+    context: &Context<'_, T, C>,
+    table: &mut Option<Table>,
+    changes: &[u8],
+) -> Result<(), Fault>
+    requires ready { C.accepts context.now.crew.now }
+    ensures done { OnOk result (applied_to table.old changes.now ≡ Ok table.new) }
+    ensures fault { IfErr result (λ fault. fault.refusal ≢ Refusal.OutOfMemory → (applied_to table.old changes.now ≡ Err fault) × (table.new ≡ table.old)) }
+{
+    if changes.len() >= FEW_BYTES {
+        return apply(context, table, changes);
+    }
+    let alone = Context {
+        rt: context.rt,
+        alloc: context.alloc,
+        crew: &Alone,
+    };
+    apply(&alone, table, changes)
+}
+
 // The reply to packed changes, which are applied.
 fn apply_changes<T, C: PackedWorkforce<T>>(
     context: &Context<'_, T, C>,
@@ -71,7 +97,7 @@ fn apply_changes<T, C: PackedWorkforce<T>>(
     ensures state { OnOk result (table.new ≡ (exchanges.carried_out table.old Request.Apply changes.now).0) }
     ensures reply { IfOk result (λ reply. (reply.kind, reply.payload.items) ≡ (exchanges.carried_out table.old Request.Apply changes.now).1) }
 {
-    match apply(context, table, changes) {
+    match apply_by_size(context, table, changes) {
         Ok(()) => {
             let mut payload = room;
             payload.clear();
