@@ -6,11 +6,13 @@
 Rows are an int, which is the key and comes in random order, a text of five cities and an int. They go in by batches. Each round does all of them one after the
 other and begins with another one:
 
-    put        betable, `put` of tuples
-    script     betable, scripts that are written before the clock runs
-    group      the same scripts, 16 of them kept by one sync
-    sqlite     the module sqlite3, `executemany` of tuples in one transaction for a batch, WAL, synchronous=FULL, locking_mode=EXCLUSIVE, a cache of 400 MB
-    redis      redis-server, if it is installed: a hash for a row, in one MULTI for a batch, written before the clock runs; appendonly, appendfsync always
+    put          betable, `put` of tuples
+    script       betable, scripts that are written before the clock runs
+    group        the same scripts, 16 of them kept by one sync
+    kept_put     an engine that keeps its table (`betable_engine --keep`), `put` of tuples
+    kept_script  the same with the scripts
+    sqlite       the module sqlite3, `executemany` of tuples in one transaction for a batch, WAL, synchronous=FULL, locking_mode=EXCLUSIVE, a cache of 400 MB
+    redis        redis-server, if it is installed: a hash for a row, in one MULTI for a batch, written before the clock runs; appendonly, appendfsync always
 
 Printed are rows a second by the clock, and the ratios to SQLite in the same round, the middle ones of all rounds. Then the time to open a table of many rows,
 from its log and from a checkpoint, beside SQLite's to open a file of the same rows and read each of them once, and how long a put takes that writes a checkpoint.
@@ -35,7 +37,7 @@ from statistics import median
 
 sys.path.insert(0, str(Path(__file__).resolve().parents[1] / "clients/python"))
 
-from betable import Session, durable
+from betable import Engine, Session, durable
 
 HEAD = "table 16 1024 256 1 id:int city:text qty:int\n"
 INDEX = "index by_city on city include qty\nbuild by_city 1\n"
@@ -87,6 +89,26 @@ def seconds_of_scripts(folder: str, rows: list[Row], size: int, group: int = 1) 
 
 def seconds_of_groups(folder: str, rows: list[Row], size: int) -> float:
     return seconds_of_scripts(folder, rows, size, GROUP)
+
+
+def seconds_of_kept_put(folder: str, rows: list[Row], size: int) -> float:
+    batches = parts(rows, size)
+    with Engine(1 if size < LARGE_BATCH else 4, keep=f"{folder}/kept") as table:
+        table.run(HEAD)
+        begin = time.perf_counter()
+        for batch in batches:
+            table.put(batch)
+        return time.perf_counter() - begin
+
+
+def seconds_of_kept_scripts(folder: str, rows: list[Row], size: int) -> float:
+    scripts = [script_of(batch) for batch in parts(rows, size)]
+    with Engine(1 if size < LARGE_BATCH else 4, keep=f"{folder}/kept") as table:
+        table.run(HEAD)
+        begin = time.perf_counter()
+        for script in scripts:
+            table.replies(script)
+        return time.perf_counter() - begin
 
 
 def sqlite_file(path: str) -> sqlite3.Connection:
@@ -157,7 +179,8 @@ def seconds_of_sync(folder: str) -> float:
 
 
 def ingest(folder: str, rounds: int) -> None:
-    ways: dict[str, Way] = {"put": seconds_of_put, "script": seconds_of_scripts, "group": seconds_of_groups, "sqlite": seconds_of_sqlite}
+    ways: dict[str, Way] = {"put": seconds_of_put, "script": seconds_of_scripts, "group": seconds_of_groups}
+    ways |= {"kept_put": seconds_of_kept_put, "kept_script": seconds_of_kept_scripts, "sqlite": seconds_of_sqlite}
     if shutil.which("redis-server"):
         ways["redis"] = seconds_of_redis
     names = [*ways]
@@ -221,7 +244,8 @@ def starts(folder: str, count: int, rounds: int) -> None:
             table.run(HEAD + index)
             with table.group():
                 table.put(rows, most=size)
-            images = table.replies("rebuild primary\nimage primary\n")
+            table.run("rebuild primary\n")
+            images = table.replies("image primary\n")
         found[name], notes[name] = [opened(path) for _ in range(rounds)], size_of(path)
         with durable.open(path) as table:
             begin = time.perf_counter()

@@ -3,12 +3,17 @@
 import struct
 
 MAGIC = b"BTF\1"
-SCRIPT, CHECK, APPLY, GET, PAGE, LAST_PAGE, SUMS, COLUMNS, USAGE, TREES, EXPLAIN = range(1, 12)
+SCRIPT, CHECK, APPLY, GET, PAGE, LAST_PAGE, SUMS, COLUMNS, USAGE, TREES, EXPLAIN, ONCE = range(1, 13)
 DONE, REFUSED, INVALID = range(3)
 
 
 def frame(kind, payload=b"", length=None):
     return MAGIC + struct.pack("<QB", len(payload) if length is None else length, kind) + payload
+
+
+def once(number, payload, kind=SCRIPT):
+    """A request that runs once, with this number as its id."""
+    return frame(ONCE, number.to_bytes(16, "little") + bytes([kind]) + payload)
 
 
 def frames_of(output):

@@ -16,7 +16,7 @@
 #include <time.h>
 #include <unistd.h>
 
-enum { HEADER = 13, MARK = 9, NUMBER = 8, PIECE = 65536 };
+enum { HEADER = 13, ONCE = 12, ONCE_HEADER = HEADER + BETABLE_ENGINE_ID + 1, MARK = 9, NUMBER = 8, PIECE = 65536 };
 enum { REPLY_DONE, REPLY_REFUSED, REPLY_INVALID };
 
 /* The bytes from `start` to `end` of a block. */
@@ -99,13 +99,18 @@ static int spawn(pid_t *process, const betable_engine_options *options, int inpu
     } given[] = {{"--workers", options->workers}, {"--cut", options->cut}, {"--grain", options->grain}, {"--most-frame", options->most_frame}};
     const char *program = options->program == NULL ? "betable_engine" : options->program;
     char numbers[4][24];
-    const char *words[10] = {program};
-    for (size_t option = 0, count = 1; option < 4; option++) {
+    const char *words[12] = {program};
+    size_t count = 1;
+    for (size_t option = 0; option < 4; option++) {
         if (given[option].number > 0) {
             snprintf(numbers[option], sizeof numbers[option], "%llu", (unsigned long long)given[option].number);
             words[count++] = given[option].name;
             words[count++] = numbers[option];
         }
+    }
+    if (options->keep != NULL) {
+        words[count++] = "--keep";
+        words[count++] = options->keep;
     }
     posix_spawn_file_actions_t actions;
     posix_spawnattr_t attributes;
@@ -202,11 +207,11 @@ static betable_engine_status wait_for_room(betable_engine *engine) {
     return count > 0 || (count < 0 && errno == EINTR) ? BETABLE_DONE : ended(engine);
 }
 
-static betable_engine_status write_frame(betable_engine *engine, unsigned char header[HEADER], const unsigned char *bytes, size_t length) {
+static betable_engine_status write_frame(betable_engine *engine, unsigned char *header, size_t start, const unsigned char *bytes, size_t length) {
     betable_engine_status status = BETABLE_DONE;
-    for (size_t at = 0; at < HEADER + length && status == BETABLE_DONE;) {
-        size_t of_header = at < HEADER ? HEADER - at : 0, of_bytes = at < HEADER ? 0 : at - HEADER;
-        struct iovec parts[] = {{header + (HEADER - of_header), of_header}, {(unsigned char *)bytes + of_bytes, length - of_bytes}};
+    for (size_t at = 0; at < start + length && status == BETABLE_DONE;) {
+        size_t of_header = at < start ? start - at : 0, of_bytes = at < start ? 0 : at - start;
+        struct iovec parts[] = {{header + (start - of_header), of_header}, {(unsigned char *)bytes + of_bytes, length - of_bytes}};
         ssize_t count = writev(engine->at->to, parts, 2);
         if (count >= 0)
             at += (size_t)count;
@@ -219,7 +224,7 @@ static betable_engine_status write_frame(betable_engine *engine, unsigned char h
 }
 
 /* Writes a frame while SIGPIPE is blocked, and takes away the one that this thread gets if the engine has ended. One that was pending before stays so. */
-static betable_engine_status write_without_signal(betable_engine *engine, unsigned char header[HEADER], const unsigned char *bytes, size_t length) {
+static betable_engine_status write_without_signal(betable_engine *engine, unsigned char *header, size_t start, const unsigned char *bytes, size_t length) {
     static const struct timespec at_once = {0, 0};
     sigset_t of_pipes, before, pending;
     sigemptyset(&of_pipes);
@@ -228,7 +233,7 @@ static betable_engine_status write_without_signal(betable_engine *engine, unsign
     pthread_sigmask(SIG_BLOCK, &of_pipes, &before);
     if (sigismember(&before, SIGPIPE))
         sigpending(&pending);
-    betable_engine_status status = write_frame(engine, header, bytes, length);
+    betable_engine_status status = write_frame(engine, header, start, bytes, length);
     if (status == BETABLE_ENGINE_ENDED && !sigismember(&pending, SIGPIPE))
         while (sigtimedwait(&of_pipes, NULL, &at_once) < 0 && errno == EINTR)
             ;
@@ -236,19 +241,29 @@ static betable_engine_status write_without_signal(betable_engine *engine, unsign
     return status;
 }
 
-betable_engine_status betable_engine_send(betable_engine *engine, betable_engine_request kind, const unsigned char *bytes, size_t length) {
-    unsigned char header[HEADER] = {'B', 'T', 'F', 1};
+/* Sends a request, which runs once if it has an id. */
+static betable_engine_status send_request(betable_engine *engine, const unsigned char *id, betable_engine_request kind, const unsigned char *bytes, size_t length) {
+    unsigned char header[ONCE_HEADER] = {'B', 'T', 'F', 1};
+    size_t start = id == NULL ? HEADER : ONCE_HEADER;
     for (int place = 0; place < NUMBER; place++)
-        header[4 + place] = (unsigned char)((uint64_t)length >> 8 * place & 255);
-    header[HEADER - 1] = (unsigned char)kind;
+        header[4 + place] = (unsigned char)((uint64_t)(start - HEADER + length) >> 8 * place & 255);
+    header[HEADER - 1] = id == NULL ? (unsigned char)kind : ONCE;
+    if (id != NULL) {
+        memcpy(header + HEADER, id, BETABLE_ENGINE_ID);
+        header[ONCE_HEADER - 1] = (unsigned char)kind;
+    }
     if (engine->at == NULL)
         return BETABLE_NOT_OPEN;
     if (!make_room(&engine->at->kinds, 1))
         return BETABLE_OUT_OF_MEMORY;
-    betable_engine_status status = write_without_signal(engine, header, bytes, length);
+    betable_engine_status status = write_without_signal(engine, header, start, bytes, length);
     if (status == BETABLE_DONE)
         engine->at->kinds.at[engine->at->kinds.end++] = (unsigned char)kind;
     return status;
+}
+
+betable_engine_status betable_engine_send(betable_engine *engine, betable_engine_request kind, const unsigned char *bytes, size_t length) {
+    return send_request(engine, NULL, kind, bytes, length);
 }
 
 /* ---- replies ---- */
@@ -366,14 +381,19 @@ bool betable_engine_reply(const betable_engine *engine, size_t place, betable_re
 
 /* ---- calls ---- */
 
-static betable_engine_status call(betable_engine *engine, betable_engine_request kind, const unsigned char *bytes, size_t length, betable_fault *fault) {
+static betable_engine_status make_request(
+    betable_engine *engine, const unsigned char *id, betable_engine_request kind, const unsigned char *bytes, size_t length, betable_fault *fault) {
     if (engine->at == NULL)
         return BETABLE_NOT_OPEN;
     clear_reply(engine->at);
     if (count_of(&engine->at->kinds) > 0)
         return BETABLE_ENGINE_OUT_OF_ORDER;
-    betable_engine_status status = betable_engine_send(engine, kind, bytes, length);
+    betable_engine_status status = send_request(engine, id, kind, bytes, length);
     return status == BETABLE_DONE ? betable_engine_receive(engine, fault) : status;
+}
+
+static betable_engine_status call(betable_engine *engine, betable_engine_request kind, const unsigned char *bytes, size_t length, betable_fault *fault) {
+    return make_request(engine, NULL, kind, bytes, length, fault);
 }
 
 betable_engine_status betable_engine_open(betable_engine *engine, const betable_engine_options *options) {
@@ -435,6 +455,11 @@ PACKED_CALL(sums, BETABLE_ENGINE_SUMS)
 PACKED_CALL(columns, BETABLE_ENGINE_COLUMNS)
 PACKED_CALL(usage, BETABLE_ENGINE_USAGE)
 PACKED_CALL(trees, BETABLE_ENGINE_TREES)
+
+betable_engine_status betable_engine_once(
+    betable_engine *engine, const unsigned char *id, betable_engine_request kind, const unsigned char *bytes, size_t length, betable_fault *fault) {
+    return make_request(engine, id, kind, bytes, length, fault);
+}
 
 pid_t betable_engine_process(const betable_engine *engine) { return engine->at == NULL ? 0 : engine->at->process; }
 

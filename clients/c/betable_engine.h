@@ -54,6 +54,8 @@ typedef struct {
     unsigned workers, cut, grain;
     /* The most bytes of a request. */
     uint64_t most_frame;
+    /* The path of a file that has the table, as docs/ENGINE.md says. If it is NULL, the table ends with the process. */
+    const char *keep;
 } betable_engine_options;
 
 /* The result of a call: DONE, OUT_OF_MEMORY, NOT_OPEN, ALREADY_OPEN or REFUSED of betable_status, or one of the numbers below. After all but DONE and REFUSED,
@@ -61,10 +63,11 @@ typedef struct {
 typedef int betable_engine_status;
 
 enum {
-    /* The process has ended, or was killed, before the whole reply to this request arrived: see wait_status. The table is gone. All later calls return this
-       too, except for betable_engine_receive while it has replies that arrived before. Close the engine, and open another one. */
+    /* The process has ended, or was killed, before the whole reply to this request arrived: see wait_status. The table is gone, or in its file. All later
+       calls return this too, except for betable_engine_receive while it has replies that arrived before. Close the engine, and open another one. */
     BETABLE_ENGINE_ENDED = 16,
-    /* The engine has replied that it takes no such request, and has done nothing. The reply is a name: TooLong (more bytes than most_frame) or UnknownKind. */
+    /* The engine has replied that it takes no such request, and has done nothing. The reply is a name: TooLong (more bytes than most_frame), UnknownKind (also
+       for betable_engine_once without `keep`), or RequestReused. */
     BETABLE_ENGINE_INVALID = 17,
     /* betable_engine_receive was called, and no reply is due; or another call was made while replies to requests that were sent ahead are due. Nothing was
        done. */
@@ -108,6 +111,16 @@ betable_engine_status betable_engine_sums(betable_engine *engine, const unsigned
 betable_engine_status betable_engine_columns(betable_engine *engine, const unsigned char *name, size_t length, betable_fault *fault) BETABLE_NOT_NULL;
 betable_engine_status betable_engine_usage(betable_engine *engine, const unsigned char *name, size_t length, betable_fault *fault) BETABLE_NOT_NULL;
 betable_engine_status betable_engine_trees(betable_engine *engine, const unsigned char *request, size_t length, betable_fault *fault) BETABLE_NOT_NULL;
+
+/* The number of bytes of the id of a request. */
+#define BETABLE_ENGINE_ID 16
+
+/* Makes a request that runs once, with an id of sixteen bytes that no other request has, such as a random one. If a request with the id ran before, nothing runs,
+ * and the result and the reply are those of the first time, also if the engine ended since and was opened again. So make a request again if its reply did not
+ * arrive. The last 100,000 requests are known. The engine has to keep its table (`keep`). The result is that of the call of this kind; or INVALID, with the reply
+ * RequestReused, if another request had the id. */
+betable_engine_status betable_engine_once(
+    betable_engine *engine, const unsigned char *id, betable_engine_request kind, const unsigned char *bytes, size_t length, betable_fault *fault) BETABLE_NOT_NULL;
 
 /* Sends a request ahead: writes it, and does not wait for its reply. Requests are carried out in the order in which they are sent. If the engine waits until
  * its replies are read, they are read into memory of this process meanwhile, so any number of requests may be sent ahead. The replies to the last call are

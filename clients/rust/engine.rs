@@ -28,6 +28,8 @@ pub struct EngineOptions {
     pub grain: Option<u32>,
     /// The most bytes of a request.
     pub most_frame: Option<u64>,
+    /// The path of a file that has the table. The table ends with the process if it is `None`.
+    pub keep: Option<PathBuf>,
 }
 
 /// The process of an engine. It ends, and is waited for, when the engine is dropped, and ends by itself if this process ends.
@@ -36,13 +38,15 @@ pub struct Process {
     // `None` once it is closed.
     requests: Option<BufWriter<ChildStdin>>,
     replies: BufReader<ChildStdout>,
+    // Whether its table is in a file.
+    is_kept: bool,
     // The number of requests that were sent ahead and have no reply yet, and the results of those before them that were not received.
     in_flight: usize,
     results: VecDeque<Result<(), Fault>>,
 }
 
 impl Engine {
-    /// Starts the program, and waits for its first reply. The engine has no table. It is in a process group of its own, so an interrupt from the terminal
+    /// Starts the program, and waits for its first reply. The engine has no table, or that of its file. It is in a process group of its own, so an interrupt from the terminal
     /// reaches only this process.
     pub fn new(options: &EngineOptions) -> Result<Engine, Fault> {
         let mut engine = Table::of(Process::start(options).map_err(|fault| Fault::NotStarted { kind: fault.kind() })?);
@@ -55,6 +59,17 @@ impl Engine {
     pub fn receive(&mut self) -> Option<Result<(), Fault>> {
         let link = &mut self.link;
         link.results.pop_front().or_else(|| (link.in_flight > 0).then(|| link.receive()))
+    }
+
+    /// Runs a script once. Its id is one that no other script has, such as a random one. If a script with the id ran before, nothing runs, and the replies are
+    /// those of the first time, also if the engine ended since and was made again. So send a script again if its replies did not arrive. The last 100,000 are known.
+    /// The engine has to [keep](EngineOptions::keep) its table.
+    pub fn once(&mut self, id: &[u8; 16], script: &[u8]) -> Result<Replies, Fault> {
+        if !self.link.is_kept {
+            return Err(Fault::NotKept);
+        }
+        self.trees.clear();
+        self.link.replies(ONCE, &[id, &[SCRIPT], script])
     }
 
     /// The id of the process.
@@ -78,7 +93,7 @@ impl Changes<'_, Process> {
             let result = link.receive();
             link.results.push_back(result);
         }
-        link.write(Request::Apply as u8, packed)?;
+        link.write(Request::Apply as u8, &[packed])?;
         link.in_flight += 1;
         Ok(())
     }
@@ -87,6 +102,7 @@ impl Changes<'_, Process> {
 const SCRIPT: u8 = 1;
 const CHECK: u8 = 2;
 const EXPLAIN: u8 = 11;
+const ONCE: u8 = 12;
 
 const MAGIC: [u8; 4] = *b"BTF\x01";
 const HEADER: usize = 13;
@@ -108,10 +124,13 @@ impl Process {
         for (name, number) in ["--workers", "--cut", "--grain"].into_iter().zip(numbers).chain([("--most-frame", options.most_frame)]) {
             command.args(number.map(|number| [name.to_string(), number.to_string()]).into_iter().flatten());
         }
+        if let Some(path) = &options.keep {
+            command.arg("--keep").arg(path);
+        }
         let mut child = command.stdin(Stdio::piped()).stdout(Stdio::piped()).process_group(0).spawn()?;
         let requests = child.stdin.take().map(BufWriter::new);
         let replies = BufReader::new(child.stdout.take().ok_or(ErrorKind::BrokenPipe)?);
-        Ok(Process { child, requests, replies, in_flight: 0, results: VecDeque::new() })
+        Ok(Process { child, requests, replies, is_kept: options.keep.is_some(), in_flight: 0, results: VecDeque::new() })
     }
 
     // Ends the input of the process, and waits for it.
@@ -131,13 +150,15 @@ impl Process {
         Fault::OtherVersion
     }
 
-    fn write(&mut self, kind: u8, payload: &[u8]) -> Result<(), Fault> {
+    // Writes a request. Its payload is these bytes, one after the other.
+    fn write(&mut self, kind: u8, payload: &[&[u8]]) -> Result<(), Fault> {
+        let length: usize = payload.iter().map(|part| part.len()).sum();
         let mut header = [0; HEADER];
         header[..4].copy_from_slice(&MAGIC);
-        header[4..12].copy_from_slice(&(payload.len() as u64).to_le_bytes());
+        header[4..12].copy_from_slice(&(length as u64).to_le_bytes());
         header[12] = kind;
         let requests = self.requests.as_mut().ok_or(Fault::Ended { status: None })?;
-        match requests.write_all(&header).and_then(|()| requests.write_all(payload)).and_then(|()| requests.flush()) {
+        match [&header[..]].iter().chain(payload).try_for_each(|part| requests.write_all(part)).and_then(|()| requests.flush()) {
             Ok(()) => Ok(()),
             Err(fault) => {
                 // A part of a frame may be written, so the process is of no use.
@@ -165,6 +186,7 @@ impl Process {
             (DONE, _) => return Ok(()),
             (REFUSED, 24) => Fault::refused(number(&payload[..8]), number(&payload[8..16]), number(&payload[16..])),
             (INVALID, _) if payload == b"TooLong" => Fault::TooLarge,
+            (INVALID, _) if payload == b"RequestReused" => Fault::RequestReused,
             (INVALID, _) => Fault::OtherVersion,
             _ => self.other_version(),
         };
@@ -194,7 +216,7 @@ impl Process {
     }
 
     // Makes a request, and reads its reply after those to the changes that were sent ahead.
-    fn exchange(&mut self, kind: u8, payload: &[u8], reply: &mut Vec<u8>) -> Result<(), Fault> {
+    fn exchange(&mut self, kind: u8, payload: &[&[u8]], reply: &mut Vec<u8>) -> Result<(), Fault> {
         while self.in_flight > 0 {
             let result = self.receive();
             self.results.push_back(result);
@@ -205,9 +227,9 @@ impl Process {
     }
 
     // The replies to a script, or to its check, by their marks.
-    fn replies(&mut self, kind: u8, script: &[u8]) -> Result<Replies, Fault> {
+    fn replies(&mut self, kind: u8, request: &[&[u8]]) -> Result<Replies, Fault> {
         let mut payload = Vec::new();
-        self.exchange(kind, script, &mut payload)?;
+        self.exchange(kind, request, &mut payload)?;
         replies_of(payload).ok_or_else(|| self.other_version())
     }
 }
@@ -216,16 +238,16 @@ impl Calls for Process {
     type Failure = Fault;
 
     fn run(&mut self, script: &[u8]) -> Result<Replies, Fault> {
-        self.replies(SCRIPT, script)
+        self.replies(SCRIPT, &[script])
     }
 
     fn check(&mut self, script: &[u8]) -> Result<Vec<Part>, Fault> {
-        Ok(self.replies(CHECK, script)?.parts)
+        Ok(self.replies(CHECK, &[script])?.parts)
     }
 
     fn explain(&mut self, script: &[u8]) -> Result<Option<Reason>, Fault> {
         let mut payload = Vec::new();
-        self.exchange(EXPLAIN, script, &mut payload)?;
+        self.exchange(EXPLAIN, &[script], &mut payload)?;
         match payload.len() / NUMBER {
             0 => Ok(None),
             4 => Ok(Some(Reason::of([0, 1, 2, 3].map(|place| number(&payload[NUMBER * place..][..NUMBER]))))),
@@ -234,7 +256,7 @@ impl Calls for Process {
     }
 
     fn call(&mut self, request: Request, packed: &[u8], reply: &mut Vec<u8>) -> Result<(), Fault> {
-        self.exchange(request as u8, packed, reply)
+        self.exchange(request as u8, &[packed], reply)
     }
 }
 

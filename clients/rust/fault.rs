@@ -32,6 +32,10 @@ pub enum Fault {
     /// The engine has ended, or was killed, before the whole reply arrived. Its table is gone, and later calls fail in the same way. The status is that of its
     /// process, or `None` if it is not known.
     Ended { status: Option<ExitStatus> },
+    /// Another script had the id of a script that is to run once.
+    RequestReused,
+    /// A script was to run once, and the engine does not keep its table.
+    NotKept,
     /// The program of the engine could not be started.
     NotStarted { kind: io::ErrorKind },
 }
@@ -88,6 +92,8 @@ impl fmt::Display for Fault {
             Fault::OtherVersion => out.write_str("the library or the engine is of another version than the crate"),
             Fault::Ended { status: Some(status) } => write!(out, "the engine has ended: {status}"),
             Fault::Ended { status: None } => out.write_str("the engine has ended"),
+            Fault::RequestReused => out.write_str("another script had this id: use a new one for each script"),
+            Fault::NotKept => out.write_str("only an engine that keeps its table runs a script once"),
             Fault::NotStarted { kind } => write!(out, "the engine was not started: {kind}"),
         }
     }

@@ -23,6 +23,7 @@
 #include <stdarg.h>
 #include <stdbool.h>
 #include <stdio.h>
+#include <stdlib.h>
 #include <string.h>
 #include <sys/stat.h>
 #include <sys/syscall.h>
@@ -55,6 +56,20 @@ void faults_begin(const char *below, const char *trace_path, bool has_bytes, lon
     write_fault = fault;
     is_traced_with_bytes = has_bytes;
     trace = (int)syscall(SYS_openat, AT_FDCWD, trace_path, O_CREAT | O_TRUNC | O_WRONLY | O_APPEND, 0644);
+}
+
+/* A program that calls nothing of this library has the arguments in its environment, and after them the number of the allocation that is refused. */
+__attribute__((constructor)) static void begin_by_environment(void)
+{
+    char below[PATH_MAX], trace_path[PATH_MAX];
+    long killed, first, last, refused;
+    int how_much, fault;
+    const char *words = getenv("FAULTS");
+    if (!words || sscanf(words, "%4095s %4095s %ld %ld %ld %d %d %ld", below, trace_path, &killed, &first, &last, &how_much, &fault, &refused) != 8)
+        return;
+    faults_begin(below, trace_path, true, killed, first, last, how_much, fault);
+    is_counting_requests = true;
+    refused_at = refused;
 }
 
 static void put(const void *bytes, size_t length)

@@ -827,6 +827,51 @@ class Ends(TestCase):
             self.assertEqual((one.put((n, n) for n in range(50)), one.count()), (50, 50))
 
 
+class Kept(TestCase):
+    def test_an_engine_that_was_killed_goes_on_from_its_file(self):
+        with folder() as path:
+            kept = path / "table of rows"
+            rows = rows_of(random.Random(86), 5_000, 2_000)
+            with betable().Session() as session:
+                for one in (session, first := engine(4, keep=kept)):
+                    one.table("id:int city:text qty:int")
+                    one.index("by_city", on="city")
+                    one.put(rows)
+                os.kill(first.pid, signal.SIGKILL)
+                fault = fault_of(lambda: first.get(1))
+                self.assertEqual((type(fault), fault.signal, fault.kept, str(kept) in str(fault)), (betable().EngineEnded, signal.SIGKILL, str(kept), True))
+                with engine(2, keep=kept) as second:
+                    self.assertEqual(second.trees(), session.trees())
+                    self.assertTrue((second.scan(), images(second)) == (session.scan(), images(session)))
+                    fault = fault_of(lambda: engine(1, keep=str(kept)))
+                    self.assertEqual((fault.status, fault.said, fault.answered), (2, "betable: the file is in use", 0))
+
+    def test_a_request_runs_once(self):
+        with folder() as path:
+            script = "batch\nups 1,add,qty,5\nend\nget 1\n"
+            with engine(2, keep=path / "t") as first:
+                first.table("id:int qty:int")
+                replies = first.once("order 17", script)
+                self.assertEqual((replies, first.once("order 17", script)), (b"batch 1\nrow 1,5\n", replies))
+                os.kill(first.pid, signal.SIGKILL)
+            with engine(1, keep=path / "t") as second:
+                self.assertEqual((second.once("order 17", script), second.get(1)), (replies, (1, 5)))
+                fault = fault_of(lambda: second.once("order 17", script + "get 1\n"))
+                self.assertEqual((type(fault), fault.request_id, second.get(1)), (betable().RequestReused, "order 17", (1, 5)))
+                self.assertEqual(second.once("order 18", script), b"batch 1\nrow 1,10\n")
+                second.once("another table", "index by_qty on qty\nbuild by_qty 5\n")
+                self.assertEqual([tree.name for tree in second.trees()], ["primary", "by_qty"])
+                self.assertEqual(type(fault_of(lambda: second.once(17, script))), TypeError)
+            with engine(1) as third:
+                fault = fault_of(lambda: third.once("order 17", script))
+                self.assertEqual((type(fault), "'keep'" in str(fault), len(third.trees())), (ValueError, True, 0))
+
+    def test_an_engine_without_its_file_is_told(self):
+        with folder() as path:
+            fault = fault_of(lambda: engine(1, keep=path / "none" / "table"))
+            self.assertEqual((type(fault), fault.status, fault.said), (betable().EngineEnded, 2, "betable: the file cannot be opened"))
+
+
 class Durable(TestCase):
     def test_a_durable_table_on_an_engine_is_that_on_a_session(self):
         dice = random.Random(5)

@@ -32,9 +32,9 @@ def setUpModule():
     """What more than one test runs, before tests run side by side."""
     if not ENGINE.exists():
         raise SkipTest(f"{ENGINE.relative_to(TOP)} is not built")
-    library(), worked_scripts(), ends(), pairs()
+    library(), worked_scripts(), ends(), kept(), pairs()
     if shutil.which("rustc"):
-        for name in ("engine", "typed"):
+        for name in ("engine", "kept", "typed"):
             rust_program(HERE / f"rust/{name}.rs")
 
 
@@ -48,6 +48,10 @@ def c_program(name, source, *options):
 
 def ends():
     return c_program("engine_ends", "engine_ends.c")
+
+
+def kept():
+    return c_program("engine_kept", "engine_kept.c")
 
 
 @cache
@@ -165,6 +169,40 @@ class EndsInRust(TestCase):
     @needs("rustc")
     def test_wrong_programs_options_and_requests_are_told_in_rust(self):
         self.assertEqual(in_rust("engine", "ended"), (0, "", "betable: faulty command line\n"))
+
+
+class Kept(TestCase):
+    def is_kept(self, program):
+        """A table that one process has made is that of the next one, and a file that cannot be opened ends the engine before its first reply."""
+        with tempfile.TemporaryDirectory() as folder:
+            for script, replies in (("table 4 8 4 1 id:int city:text\nbatch\nput 1,Oslo\nend\n", "table 2\nbatch 1\n"), ("get 1\n", "row 1,Oslo\n")):
+                self.assertEqual(ended(program, ENGINE, f"{folder}/table", script), (0, replies, ""))
+            status, output, errors = ended(program, ENGINE, f"{folder}/none/table", "get 1\n")
+            self.assertEqual((status, output, "betable: the file cannot be opened\n" in errors), (1, "", True))
+
+    def runs_once(self, program):
+        """A script with an id has the replies of the first time, and another one with the id is refused. Returns what is told of that."""
+        with tempfile.TemporaryDirectory() as folder:
+            self.assertEqual(ended(program, ENGINE, f"{folder}/table", "table 4 8 4 1 id:int qty:int\n"), (0, "table 2\n", ""))
+            add = "batch\nups 1,add,qty,5\nend\nget 1\n"
+            for _ in range(2):
+                self.assertEqual(ended(program, ENGINE, f"{folder}/table", add, "an id of letters"), (0, "batch 1\nrow 1,5\n", ""))
+            self.assertEqual(ended(program, ENGINE, f"{folder}/table", add, "another of them "), (0, "batch 1\nrow 1,10\n", ""))
+            return ended(program, ENGINE, f"{folder}/table", "get 1\n", "an id of letters")
+
+    def test_a_table_in_a_file_is_there_again_in_c(self):
+        self.is_kept(kept())
+
+    def test_a_request_runs_once_in_c(self):
+        self.assertEqual(self.runs_once(kept()), (1, "RequestReused", ""))
+
+    @needs("rustc")
+    def test_a_table_in_a_file_is_there_again_in_rust(self):
+        self.is_kept(rust_program(HERE / "rust/kept.rs"))
+
+    @needs("rustc")
+    def test_a_request_runs_once_in_rust(self):
+        self.assertEqual(self.runs_once(rust_program(HERE / "rust/kept.rs")), (1, "", "Error: RequestReused\n"))
 
 
 class Documents(TestCase):

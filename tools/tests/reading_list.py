@@ -214,6 +214,14 @@ class ReadingList(TestCase):
         self.assertEqual((status, errors), (0, ""))
         self.assertEqual(text.strip().splitlines(), LIST.strip().splitlines())
 
+    def test_reading_list_knows_the_types_of_an_impl(self):
+        run_file = "crates/upper/src/run.rt"
+        source = LISTED[run_file]
+        changed = source.replace("pub fn answer<R: Read, V: Merge>(", "impl<V: Merge> Answers<V> {\npub fn answer<R: Read>(") + "}\n"
+        status, text, errors = reading_list(self, file=run_file, old=source, new=changed)
+        self.assertEqual((status, errors), (0, ""))
+        self.assertEqual(text.strip().splitlines(), LIST.strip().splitlines())
+
     def test_reading_list_names_what_nothing_explains(self):
         status, text, errors = reading_list(self, file="crates/lower/specs/Weights.antt", old="suc (total n)", new="suc (totals n)")
         self.assertEqual((status, text, errors), (1, "", "reading_list: lower/specs/Weights: more: nothing explains totals\n"))
@@ -238,7 +246,9 @@ class ReadingList(TestCase):
 
     def test_names_of_the_theorem_are_defined_in_their_files(self):
         run_file = "bt_shell/src/script_run.rt"
-        files = definitions_of(self, *(f"{run_file}:{name}" for name in ("replies_to", "run_script", "run_commands")), "bt_engine/src/serving.rt:serve_table")
+        roots = [f"{run_file}:{name}" for name in ("replies_to", "run_script", "run_commands")]
+        kept = ["bt_durable/src/keeping.rt:serve_and_keep", "bt_durable/src/once.rt:run_once", "bt_engine/src/table_service.rt:exchange", "bt_journal/src/store.rt:open", "bt_file/src/host_file.rt:open"]
+        files = definitions_of(self, *roots, "bt_engine/src/serving.rt:serve_table", *kept)
         named = re.findall(r"^\| .+ \| `(\w+)` \| (\S+) \|$", (TOP / "docs/THEOREM.md").read_text(), re.MULTILINE)
         self.assertGreater(len(named), 30)
         self.assertEqual([(name, file) for name, file in named if name not in files.get(file, [])], [])

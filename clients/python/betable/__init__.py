@@ -27,7 +27,7 @@ from pathlib import Path
 
 from .calls import MOST_MESSAGES, Calls
 from .engine import Engine
-from .errors import EngineEnded, OutOfMemory, Refused, RowError, RowTypeError, RowValueError
+from .errors import EngineEnded, OutOfMemory, Refused, RequestReused, RowError, RowTypeError, RowValueError
 from .messages import OPERATIONS, Message, delete, field, put, record, upsert, upsert_form
 from .packed import Usage
 from .reasons import Problem, Reason
@@ -51,6 +51,7 @@ __all__ = [
     "Reason",
     "Refused",
     "Reply",
+    "RequestReused",
     "RowError",
     "RowTypeError",
     "RowValueError",

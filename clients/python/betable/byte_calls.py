@@ -25,6 +25,7 @@ class Request(IntEnum):
     USAGE = 9
     TREES = 10
     EXPLAIN = 11
+    ONCE = 12
 
 
 class PackedFault(NamedTuple):

@@ -19,10 +19,13 @@ import weakref
 from collections import deque
 from collections.abc import Callable
 from contextlib import suppress
+from functools import partial
+from hashlib import blake2b
 from typing import Any, NoReturn
 
 from .byte_calls import ByteCalls, Outcome, PackedFault, Request
-from .errors import EngineEnded, OutOfMemory
+from .calls import as_script
+from .errors import EngineEnded, OutOfMemory, RequestReused, check_request_id
 from .installed import path_of
 from .packed import HEADER_OF_NONE
 from .reasons import Problem, Reason
@@ -36,6 +39,7 @@ HEAD = struct.Struct("<4sQB")
 DONE, REFUSED, INVALID = range(3)
 FAULT, REASON, MARK, LENGTH_BYTES = struct.Struct("<3Q"), struct.Struct("<4Q"), struct.Struct("<QB"), 8
 COMMAND_REFUSED = 2
+ID_BYTES = 16  # of a request that runs once
 MOST_WORKERS, DEEPEST_CUT, LARGEST_GRAIN, LARGEST_FRAME = 64, 6, 65_536, 1 << 40
 # The C library of the process keeps the memory that a batch frees, unless the variable is set, as bin/betable has it (tools/run_program.sh).
 ENVIRONMENT = {"GLIBC_TUNABLES": "glibc.malloc.hugetlb=1:glibc.malloc.top_pad=67108864"}
@@ -92,8 +96,8 @@ class EngineCalls:
 
     most_ahead = 1
 
-    def __init__(self, words: list[str], most_frame: int) -> None:
-        self._most_frame = most_frame
+    def __init__(self, words: list[str], most_frame: int, kept: str | None = None) -> None:
+        self._most_frame, self._kept = most_frame, kept
         self._asked: deque[_Asked] = deque()
         self._marks = b""
         self.answered = 0
@@ -176,6 +180,13 @@ class EngineCalls:
             self._raise_end()
 
     def _reply(self, asked: _Asked) -> tuple[int, bytes]:
+        """The reply to a request that the engine has taken."""
+        status, payload = self._answer(asked)
+        if status == INVALID:
+            raise RuntimeError(f"the engine has not taken a request: {payload.decode(errors='replace')}")
+        return status, payload
+
+    def _answer(self, asked: _Asked) -> tuple[int, bytes]:
         """The reply to a request. Those to the requests before it come first."""
         if asked.missing(False):
             self.expect_running()
@@ -183,10 +194,7 @@ class EngineCalls:
             while asked.missing(False) and (first := self._first()):
                 self._read(first)
         self._first()
-        status, payload = asked.reply()
-        if status == INVALID:
-            raise RuntimeError(f"the engine has not taken a request: {payload.decode(errors='replace')}")
-        return status, payload
+        return asked.reply()
 
     def _raise_end(self) -> NoReturn:
         """Finds out how the process has ended, after the replies that it had written."""
@@ -205,7 +213,7 @@ class EngineCalls:
     def _fault_of_end(self, status: int, said: str) -> Exception:
         if (status, said) == OUT_OF_MEMORY:
             return OutOfMemory(b"", False, True)
-        return EngineEnded(None if status < 0 else status, -status if status < 0 else None, self.answered, said)
+        return EngineEnded(None if status < 0 else status, -status if status < 0 else None, self.answered, said, kept=self._kept)
 
     # ---- the calls ----
 
@@ -215,6 +223,15 @@ class EngineCalls:
 
     def run(self, script: bytes) -> bytes:
         return self._take_marks(self._reply(self._add(Request.SCRIPT, script))[1])
+
+    def run_once(self, request_id: str, script: bytes) -> bytes:
+        if self._kept is None:
+            raise ValueError("only an engine that keeps its table ('keep') runs a request once")
+        identity = blake2b(request_id.encode(), digest_size=ID_BYTES).digest()
+        asked = self._add(Request.ONCE, identity + bytes((Request.SCRIPT,)) + script)
+        if self._answer(asked) == (INVALID, b"RequestReused"):
+            raise RequestReused(request_id)
+        return self._take_marks(self._reply(asked)[1])
 
     def check(self, script: bytes) -> None:
         self._take_marks(self._reply(self._add(Request.CHECK, script))[1])
@@ -307,9 +324,11 @@ class Engine(PackedSession):
     _name = "engine"
     _bytes: EngineCalls
 
-    def __init__(self, workers: int = 4, *, cut: int = 2, grain: int = 64, most_frame: int | None = None) -> None:
+    def __init__(
+        self, workers: int = 4, *, cut: int = 2, grain: int = 64, most_frame: int | None = None, keep: str | os.PathLike[str] | None = None
+    ) -> None:  # fmt: skip
         """Starts the process. `workers`, `cut` and `grain` say how it divides its work, and change no reply. A request of more than `most_frame` bytes, such as
-        a long script, is not sent."""
+        a long script, is not sent. `keep` is the path of a file that has the table: what a call has changed is on the disk when it returns."""
         options = {
             "workers": _number("workers", workers, MOST_WORKERS),
             "cut": _number("cut", cut, DEEPEST_CUT),
@@ -318,10 +337,22 @@ class Engine(PackedSession):
         }
         program = path_of(PROGRAM, "BETABLE_ENGINE", f"crates/{PROGRAM}/out", f"it is built in crates/{PROGRAM} of the repository")
         words = [str(program), *(word for name, value in options.items() for word in (f"--{name}", str(value)))]
-        super().__init__(EngineCalls(words, options["most-frame"]))
+        kept = None if keep is None else os.fspath(keep)
+        if kept is not None:
+            words.append(f"--keep={kept}")
+        super().__init__(EngineCalls(words, options["most-frame"], kept))
+        if kept is not None:
+            self._take_trees(None)  # the file may have some
 
     def __enter__(self) -> Engine:
         return self
+
+    def once(self, request_id: str, script: str | bytes) -> bytes:
+        """Like `replies`, but a script that comes again with the same request id is not run again: the call returns the replies of the first time, also after
+        the engine has ended and was made again. So a caller that got no reply sends the request again. The last 100,000 requests are known. RequestReused if
+        another script had the id. It needs `keep`."""
+        check_request_id(request_id)
+        return self._ran(as_script(script), False, partial(self._bytes.run_once, request_id))[0]
 
     @property
     def pid(self) -> int:

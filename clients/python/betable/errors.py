@@ -93,21 +93,40 @@ class OutOfMemory(MemoryError):
 
 
 class EngineEnded(Exception):
-    """The process of an engine has ended, and its table is gone. `status` is its exit status, or None if `signal`, the number of a signal, has ended it.
-    `answered` is how many requests it had answered, `said` what it has written on its standard error, and `taken` how many rows of the call were applied
-    before, in earlier batches."""
+    """The process of an engine has ended, and its table is gone unless it is in the file `kept`. `status` is its exit status, or None if `signal`, the number of
+    a signal, has ended it. `answered` is how many requests it had answered, `said` what it has written on its standard error, and `taken` how many rows of the
+    call were applied before, in earlier batches."""
 
-    def __init__(self, status: int | None, signal: int | None, answered: int, said: str = "", taken: int = 0) -> None:
-        self.status, self.signal, self.answered, self.said, self.taken = status, signal, answered, said, taken
+    def __init__(self, status: int | None, signal: int | None, answered: int, said: str = "", taken: int = 0, kept: str | None = None) -> None:
+        self.status, self.signal, self.answered, self.said, self.taken, self.kept = status, signal, answered, said, taken, kept
         how = ending(-signal if signal is not None else status or 0)
         said = f" ({said})" if said else ""
-        super().__init__(f"the engine ended by {how}{said}, after {counted(answered, 'request')}, and its table is gone: make another one{before(taken)}")
+        left = "and its table is gone" if kept is None else f"and what was answered is in {kept}"
+        super().__init__(f"the engine ended by {how}{said}, after {counted(answered, 'request')}, {left}: make another one{before(taken)}")
 
     def with_taken(self, taken: int) -> EngineEnded:
-        return EngineEnded(self.status, self.signal, self.answered, self.said, taken)
+        return EngineEnded(self.status, self.signal, self.answered, self.said, taken, self.kept)
 
     def __reduce__(self) -> tuple[Any, ...]:
         return _unpickled, (type(self), self.args, self.__dict__)
+
+
+class RequestReused(Exception):
+    """A request id came again with another script, which was not run."""
+
+    def __init__(self, request_id: str) -> None:
+        super().__init__(request_id)
+        self.request_id = request_id
+
+    def __str__(self) -> str:
+        return f"request {self.request_id!r} was made before with another script: use a new id for each script"
+
+
+def check_request_id(request_id: str) -> None:
+    """That it can be the id of a request."""
+    if not isinstance(request_id, str):
+        raise TypeError(f"a request id is a str, and not {request_id!r}")
+    request_id.encode()
 
 
 class RowError(Exception):

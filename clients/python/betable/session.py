@@ -150,8 +150,8 @@ class ScriptSession(Calls):
     def _replies_with_places(self, script: bytes) -> tuple[bytes, list[Place] | None]:
         return self._ran(script, True)
 
-    def _ran(self, script: bytes, with_places: bool) -> tuple[bytes, list[Place] | None]:
-        """The bytes of the replies to a script, and their places if they are wanted."""
+    def _ran(self, script: bytes, with_places: bool, run: Callable[[bytes], bytes] | None = None) -> tuple[bytes, list[Place] | None]:
+        """The bytes of the replies to a script, which `run` runs if it is given, and their places if they are wanted."""
         defines = any(word in script for word in DEFINING) and DEFINING_LINE.search(script) is not None
         with self._calls():
             calls = self._opened()
@@ -160,7 +160,7 @@ class ScriptSession(Calls):
                 dropped = DROPPED.findall(script)
                 self._earlier = [tree for tree in self._trees or self._earlier if tree.name.encode() not in dropped]
                 self._take_trees(None)
-            replies = calls.run(script)
+            replies = (run or calls.run)(script)
             return replies, self._places() if with_places else None
 
     def _places(self) -> list[Place]:

@@ -1,31 +1,14 @@
 //! Runs a script of table commands from a file or from standard input.
 #![tactic(auto)]
 
-use bt_shell::{Counted, ProgramFault, RunFault, program, read_words};
+use bt_shell::{Counted, ProgramFault, RunFault, arguments_of, program, read_words};
 use bt_value::Texts;
 use std::alloc::Global;
-use std::io::{BufWriter, ErrorKind, IsTerminal, Read, Write};
+use std::io::{self, BufWriter, IsTerminal, Read, Write};
 use std::process::ExitCode;
 use std::rt::{Env, Files};
 use std::sync::Wait;
 use std::thread::Threads;
-use std::{env, io};
-
-// The arguments of the command line; the first is the program's name. A word that is not UTF-8 is a fault.
-fn arguments_of<R: Env + AllocGlobal>(rt: &R) -> Result<Texts, ProgramFault> {
-    let given = match env::args(rt) {
-        Ok(given) => given,
-        Err(error) if error.kind() == ErrorKind::OutOfMemory => {
-            return Err(ProgramFault::Run(RunFault::OutOfMemory));
-        }
-        Err(_) => return Err(ProgramFault::Arguments),
-    };
-    let mut arguments = Texts::new(rt.alloc());
-    for word in given {
-        arguments.push(word.as_str())?;
-    }
-    Ok(arguments)
-}
 
 // Whether the arguments name no file, so that the script is read from standard input.
 fn names_no_file(alloc: Global, arguments: &Texts) -> bool {

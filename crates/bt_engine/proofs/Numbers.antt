@@ -42,28 +42,28 @@ other e = absurd (true≢false (sym e))
 
 pub workers_option : IsNumberOption (codes "workers") MOST_WORKERS
 workers_option = record {
-  limit = All-from_recursion (HasLimit (codes "workers") MOST_WORKERS) options ((λ e. refl), (other, (other, (other, tt))));
+  limit = All-from_recursion (HasLimit (codes "workers") MOST_WORKERS) options ((λ e. refl), (other, (other, (other, (other, tt)))));
   own = refl;
   named = λ e. cc;
 }
 
 pub cut_option : IsNumberOption (codes "cut") DEEPEST_CUT
 cut_option = record {
-  limit = All-from_recursion (HasLimit (codes "cut") DEEPEST_CUT) options (other, ((λ e. refl), (other, (other, tt))));
+  limit = All-from_recursion (HasLimit (codes "cut") DEEPEST_CUT) options (other, ((λ e. refl), (other, (other, (other, tt)))));
   own = refl;
   named = λ e. cc;
 }
 
 pub grain_option : IsNumberOption (codes "grain") LARGEST_GRAIN
 grain_option = record {
-  limit = All-from_recursion (HasLimit (codes "grain") LARGEST_GRAIN) options (other, (other, ((λ e. refl), (other, tt))));
+  limit = All-from_recursion (HasLimit (codes "grain") LARGEST_GRAIN) options (other, (other, ((λ e. refl), (other, (other, tt)))));
   own = refl;
   named = λ e. cc;
 }
 
 pub most_option : IsNumberOption (codes "most-frame") largest_most
 most_option = record {
-  limit = All-from_recursion (HasLimit (codes "most-frame") largest_most) options (other, (other, (other, ((λ e. refl), tt))));
+  limit = All-from_recursion (HasLimit (codes "most-frame") largest_most) options (other, (other, (other, ((λ e. refl), (other, tt)))));
   own = refl;
   named = λ e. cc;
 }

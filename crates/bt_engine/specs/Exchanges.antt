@@ -1,5 +1,5 @@
 -- The reply to each arrival, and the table after it.
-use Rattle.std.specs.Prelude.{ℕ, ◌++◌, List, [], Option, None, Some, Result, Ok, Err, codes}
+use Rattle.std.specs.Prelude.{ℕ, ◌++◌, Bool, false, is_ok, List, [], Option, None, Some, Result, Ok, Err, codes}
 use Rattle.bt_value.specs.Refusals.{number_of}
 use Rattle.bt_script.specs.Commands.{commands}
 use Rattle.bt_shell.specs.Runs.{after_commands}
@@ -9,7 +9,7 @@ use Rattle.bt_packed.specs.declared.fault.Fault.{Fault}
 use Rattle.bt_frame.specs.Frames.{number_bytes}
 use Rattle.bt_frame.specs.declared.arrival.Arrival.{Arrival}
 use Rattle.bt_frame.specs.declared.arrival.Arrival.TheVariants.{CutOff, Frame, NoFrame, TooLong}
-use Rattle.bt_engine.specs.Payloads.{check_payload, explain_payload, script_payload}
+use Rattle.bt_engine.specs.Payloads.{check_payload, explain_payload, has_change, script_marks, script_payload}
 use Rattle.bt_engine.specs.Requests.{request_of}
 use Rattle.bt_engine.specs.declared.reply.ReplyStatus.{ReplyStatus}
 use Rattle.bt_engine.specs.declared.reply.ReplyStatus.TheVariants.{Done, Invalid, Refused}
@@ -78,3 +78,25 @@ after state arrival payload = (exchange state arrival payload).0
 -- the reply to it
 abbrev pub reply : State → Arrival → List ℕ → Reply
 reply state arrival payload = (exchange state arrival payload).1
+
+-- ---- changes
+
+-- whether a request that is carried out may change the table: a script of which a command could, or packed changes that are applied
+abbrev pub request_changes : State → Request → List ℕ → Bool
+request_changes state Script script = has_change (script_marks state script)
+request_changes state Check script = false
+request_changes state Apply changes = is_ok (applied_to state changes)
+request_changes state (Ask question) bytes = false
+request_changes state Explain script = false
+
+-- whether a frame may
+abbrev pub frame_changes : State → Option Request → List ℕ → Bool
+frame_changes state None payload = false
+frame_changes state (Some request) payload = request_changes state request payload
+
+-- whether an arrival may
+abbrev pub changes : State → Arrival → List ℕ → Bool
+changes state (Frame kind) payload = frame_changes state (request_of kind) payload
+changes state TooLong payload = false
+changes state NoFrame payload = false
+changes state CutOff payload = false

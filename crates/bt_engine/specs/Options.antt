@@ -1,12 +1,12 @@
 -- The options of the engine, and what the arguments of its command line give.
-use Rattle.std.specs.Prelude.{◌≡◌, ◌≢◌, ◌≤◌, ◌⊎◌, ℕ, [], ◌∷◌, List, codes, fold, option_map, unwrap_or}
+use Rattle.std.specs.Prelude.{◌≡◌, ◌≢◌, ◌≤◌, ◌⊎◌, ℕ, [], ◌∷◌, List, Option, None, codes, fold, option_map, unwrap_or}
 use Rattle.std.specs.Str.Parse.{digits_value, without_leading_plus}
 use Rattle.clap.specs.Words.{App, IsAmong, Kinds, Row, Rule, Text, fault_of, first_of, matches_of, new_app, with_rule}
 use Rattle.clap.specs.declared.error.kind.ErrorKind.{ErrorKind}
 use Rattle.clap.specs.declared.error.kind.ErrorKind.TheVariants as kinds
 use Rattle.clap.specs.declared.error.kind.ErrorKind.TheVariants.{DisplayHelp}
 use Rattle.bt_gang.specs.declared.crew.TheConstants.{DEEPEST_CUT, LARGEST_GRAIN, MOST_WORKERS}
-use Rattle.bt_script.specs.Options.{number_rule}
+use Rattle.bt_script.specs.Options.{number_rule, option_rule}
 use Rattle.bt_script.specs.declared.arguments.WordsError.{WordsError}
 use Rattle.bt_script.specs.declared.arguments.WordsError.TheVariants.{Faulty, Help, OutOfMemory}
 
@@ -22,7 +22,7 @@ default_most = 67108864
 abbrev pub options : List Rule
 options =
     number_rule (codes "workers") MOST_WORKERS ∷ number_rule (codes "cut") DEEPEST_CUT ∷ number_rule (codes "grain") LARGEST_GRAIN
-    ∷ number_rule (codes "most-frame") largest_most ∷ []
+    ∷ number_rule (codes "most-frame") largest_most ∷ option_rule (codes "keep") ∷ []
 
 -- the engine's command line
 abbrev pub betable_engine : App
@@ -35,6 +35,10 @@ rows_of_arguments arguments = matches_of betable_engine arguments
 -- the number that an option gives, and `default` if it is absent
 abbrev pub number_given : Text → ℕ → List Text → ℕ
 number_given name default arguments = unwrap_or (option_map (λ text. digits_value 10 (without_leading_plus text)) (first_of name (rows_of_arguments arguments))) default
+
+-- the path of the file that keeps the table, if the arguments name one
+abbrev pub path_given : List Text → Option Text
+path_given arguments = first_of (codes "keep") (rows_of_arguments arguments)
 
 -- a limit of the bytes of a request
 abbrev pub IsFrameLimit : ℕ → Type 0
@@ -59,6 +63,10 @@ MustBeRefused arguments = IsFaulty arguments × (AsksHelp arguments → ⊥)
 -- the arguments are read, and so requests are
 abbrev pub IsToServe : List Text → Type 0
 IsToServe arguments = kinds_of_arguments arguments ≡ []
+
+-- the table is not to be in a file: if the arguments are read, they name none
+abbrev pub NamesNoFile : List Text → Type 0
+NamesNoFile arguments = IsToServe arguments → path_given arguments ≡ None
 
 -- the arguments have the fault that an error names; any arguments may be reported as out of memory
 abbrev pub HasFault : List Text → WordsError → Type 0

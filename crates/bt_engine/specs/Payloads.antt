@@ -1,5 +1,5 @@
 -- The payloads of replies to scripts and checks.
-use Rattle.std.specs.Prelude.{ℕ, ◌++◌, List, [], ◌∷◌, length, Option, Some, None}
+use Rattle.std.specs.Prelude.{ℕ, ◌++◌, ◌||◌, Bool, false, true, List, [], ◌∷◌, length, Option, Some, None}
 use Rattle.bt_value.specs.Refusals.{number_of}
 use Rattle.bt_fault.specs.Commands.{first_reason}
 use Rattle.bt_fault.specs.Problems.{problem_number}
@@ -34,6 +34,21 @@ marks_bytes (mark ∷ marks) = mark_bytes mark ++ marks_bytes marks
 -- the text of replies, their marks, and the length of the text
 abbrev pub with_marks : List ℕ → List Mark → List ℕ
 with_marks text marks = text ++ (marks_bytes marks ++ number_bytes (length text))
+
+-- whether a command that did this can have changed the table
+abbrev pub is_change : ReplyKind → Bool
+is_change Read = false
+is_change Changed = true
+is_change Refused = false
+
+-- whether one of the commands with these marks can have
+abbrev pub has_change : List Mark → Bool
+has_change [] = false
+has_change (mark ∷ marks) = is_change mark.kind || has_change marks
+
+-- the marks of a script that is carried out from a table on
+abbrev pub script_marks : State → List ℕ → List Mark
+script_marks state script = logged (λ (marks : List Mark) end kind. marks ++ mark end kind ∷ []) [] 0 state (commands script)
 
 -- a script that is carried out from a table on
 abbrev pub script_payload : State → List ℕ → List ℕ

@@ -1,9 +1,9 @@
 //! The arguments of the command line.
-ghost use Rattle.std.specs.Prelude.{◌≡◌, ◌⊎◌, [], false, IfErr, IfOk, IsErrOf, OnOk, codes, map, string_bytes};
-ghost use Rattle.clap.specs.Words.{FailsBy, IsParsedFrom, app_of, found_of, kind_of, rows_of, rule_of};
+ghost use Rattle.std.specs.Prelude.{◌≡◌, ◌≢◌, ◌⊎◌, [], false, IfErr, IfOk, IsErrOf, OnOk, codes, map, option_map, string_bytes};
+ghost use Rattle.clap.specs.Words.{FailsBy, IsParsedFrom, app_of, first_value, found_of, kind_of, rows_of, rule_of};
 ghost use Rattle.clap.specs.declared.builder.command.Command.{Command};
-ghost use Rattle.bt_script.specs.Options.{AreWithinLimits, default_cut, default_grain, default_workers, number_rule};
-ghost use Rattle.bt_engine.specs.Options.{ComesOf, HasFault, IsFrameLimit, MustBeRefused, betable_engine, default_most, kinds_of_arguments, number_given, rows_of_arguments};
+ghost use Rattle.bt_script.specs.Options.{AreWithinLimits, default_cut, default_grain, default_workers, number_rule, option_rule};
+ghost use Rattle.bt_engine.specs.Options.{ComesOf, HasFault, IsFrameLimit, MustBeRefused, NamesNoFile, betable_engine, default_most, kinds_of_arguments, number_given, path_given, rows_of_arguments};
 
 use bt_gang::{DEEPEST_CUT, LARGEST_GRAIN, MOST_WORKERS};
 use bt_script::WordsError;
@@ -35,6 +35,8 @@ pub struct EngineWords {
     pub grain: usize,
     /// The most bytes of the payload of a request.
     pub most: usize,
+    /// The path of the file that keeps the table.
+    pub keep: Option<String>,
 }
 
 // The help text of each option: what it does, and when to change it.
@@ -50,12 +52,27 @@ const GRAIN_HELP: &str =
 const MOST_HELP: &str =
     "Answers a request of more than N bytes by TooLong, 1 to 1099511627776 (default 67108864)";
 
+const KEEP_HELP: &str =
+    "Keeps the table in a file: a reply is written once its changes are on the disk; without it the table ends with the process";
+
 // The help text after the options: the frames.
 const FRAMES: &str = "\
 Requests are read from standard input, and their replies are written to standard output, in frames:
 the letters BTF, a byte 1, the length of the payload in eight bytes, the kind in one byte, and the payload. Numbers are little endian.
-Requests: 1 script, 2 check, 3 apply, 4 get, 5 page, 6 last page, 7 sums, 8 columns, 9 usage, 10 trees, 11 explain.
+Requests: 1 script, 2 check, 3 apply, 4 get, 5 page, 6 last page, 7 sums, 8 columns, 9 usage, 10 trees, 11 explain; with --keep also 12 once.
 Replies: 0 done, 1 refused, 2 invalid.";
+
+// An option of one value, by its long name.
+fn option<'a>(alloc: Global, name: &'a str, value: &'a str, help: &'a str) -> Arg<'a>
+    ensures rule { rule_of result ≡ option_rule name.entry.now }
+    ensures local { result.global ≡ false }
+{
+    Arg::new(alloc, name)
+        .long(name)
+        .action(ArgAction::Set)
+        .value_name(value)
+        .help(help)
+}
 
 // An option of a whole number from 1 to `most`, by its long name.
 fn number_option<'a>(
@@ -68,12 +85,7 @@ fn number_option<'a>(
     ensures rule { rule_of result ≡ number_rule name.entry.now most }
     ensures local { result.global ≡ false }
 {
-    Arg::new(alloc, name)
-        .long(name)
-        .action(ArgAction::Set)
-        .value_name(value)
-        .help(help)
-        .value_parser(ValueParser::unsigned(1, most as u64))
+    option(alloc, name, value, help).value_parser(ValueParser::unsigned(1, most as u64))
 }
 
 // The program's command line.
@@ -86,7 +98,8 @@ fn command<'a>(alloc: Global) -> Result<Command<'a>, AllocError>
         .arg(number_option(alloc, "workers", "N", MOST_WORKERS, WORKERS_HELP))?
         .arg(number_option(alloc, "cut", "D", DEEPEST_CUT, CUT_HELP))?
         .arg(number_option(alloc, "grain", "G", LARGEST_GRAIN, GRAIN_HELP))?
-        .arg(number_option(alloc, "most-frame", "N", LARGEST_MOST, MOST_HELP))
+        .arg(number_option(alloc, "most-frame", "N", LARGEST_MOST, MOST_HELP))?
+        .arg(option(alloc, "keep", "PATH", KEEP_HELP))
 }
 
 // The result of clap for the arguments.
@@ -97,6 +110,20 @@ fn parse<'a>(alloc: Global, arguments: &'a [String]) -> Result<ArgMatches<'a>, E
     ensures parsed { IfOk result (λ matches. (command : Command) × (app_of command ≡ betable_engine) × IsParsedFrom command matches) }
 {
     command(alloc)?.try_get_matches_from(arguments)
+}
+
+// The text of an option, if it is given.
+fn text_of(
+    alloc: Global,
+    matches: &ArgMatches<'_>,
+    name: &str,
+) -> Result<Option<String>, AllocError>
+    ensures { IfOk result (λ text. option_map string_bytes text ≡ first_value (found_of matches.now) name.now) }
+{
+    match matches.get_str(name) {
+        Some(text) => Ok(Some(String::from_str(alloc, text)?)),
+        None => Ok(None),
+    }
 }
 
 // The error for an error of clap.
@@ -119,13 +146,16 @@ pub fn read_engine_words(alloc: Global, arguments: &Texts) -> Result<EngineWords
     ensures cut { IfOk result (λ settings. settings.cut ≡ number_given (codes "cut") default_cut arguments.now) }
     ensures grain { IfOk result (λ settings. settings.grain ≡ number_given (codes "grain") default_grain arguments.now) }
     ensures most { IfOk result (λ settings. settings.most ≡ number_given (codes "most-frame") default_most arguments.now) }
+    ensures keep { IfOk result (λ settings. option_map string_bytes settings.keep ≡ path_given arguments.now) }
     ensures within { IfOk result (λ settings. AreWithinLimits settings.workers settings.cut settings.grain × IsFrameLimit settings.most) }
     ensures ok { OnOk result (kinds_of_arguments arguments.now ≡ []) }
     ensures err { IfErr result (HasFault arguments.now) }
+    ensures unkept { IfErr result (λ fault. fault ≢ WordsError.OutOfMemory → NamesNoFile arguments.now) }
     ensures faulty { MustBeRefused arguments.now → (IsErrOf result WordsError.Faulty) ⊎ (IsErrOf result WordsError.OutOfMemory) }
 {
     match parse(alloc, arguments.as_slice()) {
         Ok(matches) => Ok(EngineWords {
+            keep: text_of(alloc, &matches, "keep")?,
             workers: matches.get_one("workers").unwrap_or(DEFAULT_WORKERS),
             cut: matches.get_one("cut").unwrap_or(DEFAULT_CUT),
             grain: matches.get_one("grain").unwrap_or(DEFAULT_GRAIN),

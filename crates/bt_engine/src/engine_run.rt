@@ -4,7 +4,7 @@ ghost use Rattle.bt_script.specs.Options.{AreWithinLimits};
 ghost use Rattle.bt_script.specs.Streams.{Took, has_failed, has_unflushed, source_of};
 ghost use Rattle.bt_shell.specs.Programs.{AreHealthy};
 ghost use Rattle.bt_shell.specs.Statuses.{TookLine, status_of};
-ghost use Rattle.bt_engine.specs.Options.{AsksHelp, IsFaulty, IsToServe, MustBeRefused, most_given};
+ghost use Rattle.bt_engine.specs.Options.{AsksHelp, IsFaulty, IsToServe, MustBeRefused, NamesNoFile, most_given};
 ghost use Rattle.bt_frame.specs.Services.{HasTooMany};
 ghost use Rattle.bt_engine.specs.Runs.{EndsBetween, EndsBy, WritesReplies, WritesSomeReplies, WritesWholeReplies};
 
@@ -20,8 +20,8 @@ use std::mem;
 use std::sync::Wait;
 use std::thread::Threads;
 
-// The crew of the sizes in the settings.
-fn crew_of(settings: &EngineWords) -> Crew<NoGate>
+/// The crew of the sizes in the settings.
+pub fn crew_of(settings: &EngineWords) -> Crew<NoGate>
     requires { AreWithinLimits settings.now.workers settings.now.cut settings.now.grain }
     ensures sizes { (result.workers ≡ settings.now.workers) × (result.cut ≡ settings.now.cut) × (result.grain ≡ settings.now.grain) }
 {
@@ -68,7 +68,8 @@ fn serve_by_crew<R: AllocGlobal + Threads + Wait + Sync, I: Read, W: Write>(
         output,
     );
     mem::forget(service);
-    ended
+    let _is_change = ended?;
+    Ok(())
 }
 
 // Serves with the settings that the arguments give, or prints the help text.
@@ -119,6 +120,8 @@ pub fn engine<R: AllocGlobal + Threads + Wait + Sync, I: Read, W: Write, E: Writ
     output: &mut Counted<W>,
     errors: &mut Counted<E>,
 ) -> u8
+    // A table that is to be in a file is not served in memory.
+    requires unkept { NamesNoFile arguments.now }
     requires flushed { has_unflushed output.old ≡ false }
     requires reads { has_failed input.old ≡ false }
     requires writes { has_failed output.old ≡ false }

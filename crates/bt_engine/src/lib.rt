@@ -31,7 +31,8 @@ mod serving;
 mod table_service;
 
 pub use arguments::{EngineWords, read_engine_words};
-pub use engine_run::engine;
+pub use engine_run::{crew_of, engine};
 pub use reply::ReplyStatus;
 pub use request::{Request, request_of};
 pub use serving::serve_table;
+pub use table_service::{ENGINE, FORMAT, TableService};

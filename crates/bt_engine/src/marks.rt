@@ -67,6 +67,28 @@ fn add_marks(out: &mut Vec<u8>, marks: &[Mark]) -> Result<(), AllocError>
     Ok(())
 }
 
+// Whether a command that did this can have changed the table.
+fn is_change(kind: ReplyKind) -> bool
+    ensures { result ≡ payloads.is_change kind }
+{
+    match kind {
+        ReplyKind::Changed => true,
+        ReplyKind::Read | ReplyKind::Refused => false,
+    }
+}
+
+// Whether one of the commands with these marks can have.
+fn has_change(marks: &[Mark]) -> bool
+    ensures { result ≡ payloads.has_change marks.now }
+{
+    for mark in marks {
+        if is_change(mark.kind) {
+            return true;
+        }
+    }
+    false
+}
+
 impl Marks {
     /// Those of no command.
     pub(crate) fn new(alloc: Global) -> Self
@@ -75,6 +97,13 @@ impl Marks {
         Marks {
             marks: Vec::new(alloc),
         }
+    }
+
+    /// Whether one of the commands can have changed the table.
+    pub(crate) fn has_change(&self) -> bool
+        ensures { result ≡ payloads.has_change self.now }
+    {
+        has_change(self.marks.as_slice())
     }
 
     /// Adds the marks to the text of the replies, and then the length of the text.

@@ -1,5 +1,5 @@
 //! Replies to requests.
-ghost use Rattle.std.specs.Prelude.{◌≡◌, ◌≢◌, IfOk, OnOk};
+ghost use Rattle.std.specs.Prelude.{◌≡◌, ◌≢◌, false, IfOk, OnOk};
 ghost use Rattle.bt_engine.specs.Exchanges as exchanges;
 
 use bt_frame::{Reply, number_bytes};
@@ -31,19 +31,30 @@ impl ReplyStatus {
     }
 }
 
-/// A request was carried out.
+/// A request was carried out that changed nothing.
 pub(crate) fn done(payload: Vec<u8>) -> Reply
-    ensures { (result.kind, result.payload.items) ≡ exchanges.done payload.items }
+    ensures reply { (result.kind, result.payload.items) ≡ exchanges.done payload.items }
+    ensures change { result.is_change ≡ false }
+{
+    carried_out(payload, false)
+}
+
+/// A request was carried out, and may have changed the table or not.
+pub(crate) fn carried_out(payload: Vec<u8>, is_change: bool) -> Reply
+    ensures reply { (result.kind, result.payload.items) ≡ exchanges.done payload.items }
+    ensures change { result.is_change ≡ is_change }
 {
     Reply {
         kind: ReplyStatus::Done.number(),
         payload,
+        is_change,
     }
 }
 
 // It was refused. The reply is written into the memory of some bytes.
 fn refused(fault: Fault, room: Vec<u8>) -> Result<Reply, AllocError>
-    ensures { IfOk result (λ reply. (reply.kind, reply.payload.items) ≡ exchanges.refused fault) }
+    ensures reply { IfOk result (λ reply. (reply.kind, reply.payload.items) ≡ exchanges.refused fault) }
+    ensures change { IfOk result (λ reply. reply.is_change ≡ false) }
 {
     let mut payload = room;
     payload.clear();
@@ -53,12 +64,14 @@ fn refused(fault: Fault, room: Vec<u8>) -> Result<Reply, AllocError>
     Ok(Reply {
         kind: ReplyStatus::Refused.number(),
         payload,
+        is_change: false,
     })
 }
 
 /// The reply to a fault that is not that memory ran out.
 pub(crate) fn fault_reply(fault: Fault, room: Vec<u8>) -> Result<Reply, AllocError>
     ensures reply { IfOk result (λ reply. (reply.kind, reply.payload.items) ≡ exchanges.refused fault) }
+    ensures change { IfOk result (λ reply. reply.is_change ≡ false) }
     ensures memory { OnOk result (fault.refusal ≢ Refusal.OutOfMemory) }
 {
     match fault.refusal {
@@ -69,7 +82,8 @@ pub(crate) fn fault_reply(fault: Fault, room: Vec<u8>) -> Result<Reply, AllocErr
 
 /// What arrived is no request, for the reason of this name.
 pub(crate) fn invalid(name: &str, room: Vec<u8>) -> Result<Reply, AllocError>
-    ensures { IfOk result (λ reply. (reply.kind, reply.payload.items) ≡ exchanges.invalid name.now) }
+    ensures reply { IfOk result (λ reply. (reply.kind, reply.payload.items) ≡ exchanges.invalid name.now) }
+    ensures change { IfOk result (λ reply. reply.is_change ≡ false) }
 {
     let mut payload = room;
     payload.clear();
@@ -77,5 +91,6 @@ pub(crate) fn invalid(name: &str, room: Vec<u8>) -> Result<Reply, AllocError>
     Ok(Reply {
         kind: ReplyStatus::Invalid.number(),
         payload,
+        is_change: false,
     })
 }

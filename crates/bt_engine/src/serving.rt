@@ -44,12 +44,13 @@ pub fn serve_table<R: Read, W: Write, T, C: ScriptWorkforce<T> + PackedWorkforce
     ensures memory { IsErrOf result RunFault.OutOfMemory → (has_failed reader.new ≡ false) × (has_failed writer.new ≡ false) }
     ensures whole { (IsErrOf result RunFault.Read ⊎ IsErrOf result RunFault.OutOfMemory) → WritesWholeReplies W.contents most (R.remaining (source_of reader.old)) writer.old writer.new }
 {
-    serve(
+    let _is_change = serve(
         alloc,
         &mut TableService::new(),
         &Context { rt, alloc, crew },
         most,
         reader,
         writer,
-    )
+    )?;
+    Ok(())
 }

@@ -1,13 +1,16 @@
 //! A table as a service: requests are carried out on it.
-ghost use Rattle.std.specs.Prelude.{◌≡◌, ◌≢◌, Err, IfErr, IfOk, None, Ok, OnOk};
+ghost use Rattle.std.specs.Prelude.{◌≡◌, ◌≢◌, Err, IfErr, IfOk, List, None, Ok, OnOk, false, ℕ};
 ghost use Rattle.bt_script.specs.Commands.{commands};
 ghost use Rattle.bt_shell.specs.Runs.{after_commands};
 ghost use Rattle.bt_packed.specs.Questions.{applied_to};
+ghost use Rattle.bt_shell.specs.Steps.{State};
 ghost use Rattle.bt_engine.specs.Exchanges as exchanges;
 ghost use Rattle.bt_engine.specs.Payloads as payloads;
+ghost use Rattle.bt_engine.specs.Unchanged.{arrival_leaves, others_leave};
+ghost use Rattle.bt_frame.specs.Services.{IsNoRequest};
 
 use crate::marks::Marks;
-use crate::reply::{done, fault_reply, invalid};
+use crate::reply::{carried_out, done, fault_reply, invalid};
 use crate::request::{Request, request_of};
 use bt_fault::script_reason;
 use bt_frame::{Arrival, Reply, Service, number_bytes};
@@ -19,15 +22,16 @@ use bt_value::Refusal;
 use std::alloc::{AllocError, Global};
 use std::marker::Model;
 
-// The payload of the reply to a script, which is carried out, in the memory of some bytes.
+// The payload of the reply to a script, which is carried out, in the memory of some bytes, and whether it can have changed the table.
 fn run_script<T, C: ScriptWorkforce<T>>(
     context: &Context<'_, T, C>,
     table: &mut Option<Table>,
     script: &[u8],
     room: Vec<u8>,
-) -> Result<Vec<u8>, AllocError>
+) -> Result<(Vec<u8>, bool), AllocError>
     requires ready { C.accepts context.now.crew.now }
-    ensures payload { IfOk result (λ payload. payload.items ≡ payloads.script_payload table.old script.now) }
+    ensures payload { IfOk result (λ run. run.0.items ≡ payloads.script_payload table.old script.now) }
+    ensures changes { IfOk result (λ run. run.1 ≡ payloads.has_change (payloads.script_marks table.old script.now)) }
     ensures state { OnOk result (table.new ≡ after_commands table.old (commands script.now)) }
 {
     let mut text = room;
@@ -38,7 +42,7 @@ fn run_script<T, C: ScriptWorkforce<T>>(
         Ok(_refused) => {
             let mut payload = writer.into_inner();
             marks.add_to(&mut payload)?;
-            Ok(payload)
+            Ok((payload, marks.has_change()))
         }
         // A vector takes all bytes if there is memory for them.
         Err(_fault) => Err(AllocError),
@@ -96,12 +100,13 @@ fn apply_changes<T, C: PackedWorkforce<T>>(
     requires ready { C.accepts context.now.crew.now }
     ensures state { OnOk result (table.new ≡ (exchanges.carried_out table.old Request.Apply changes.now).0) }
     ensures reply { IfOk result (λ reply. (reply.kind, reply.payload.items) ≡ (exchanges.carried_out table.old Request.Apply changes.now).1) }
+    ensures changes { IfOk result (λ reply. reply.is_change ≡ exchanges.request_changes table.old Request.Apply changes.now) }
 {
     match apply_by_size(context, table, changes) {
         Ok(()) => {
             let mut payload = room;
             payload.clear();
-            Ok(done(payload))
+            Ok(carried_out(payload, true))
         }
         Err(fault) => Ok(fault_reply(fault, room)?),
     }
@@ -116,7 +121,8 @@ fn ask_table<T, C: PackedWorkforce<T>>(
     room: Vec<u8>,
 ) -> Result<Reply, AllocError>
     requires ready { C.accepts context.now.crew.now }
-    ensures { IfOk result (λ reply. (reply.kind, reply.payload.items) ≡ (exchanges.carried_out table.now (Request.Ask question) bytes.now).1) }
+    ensures reply { IfOk result (λ reply. (reply.kind, reply.payload.items) ≡ (exchanges.carried_out table.now (Request.Ask question) bytes.now).1) }
+    ensures changes { IfOk result (λ reply. reply.is_change ≡ exchanges.request_changes table.now (Request.Ask question) bytes.now) }
 {
     match ask(context, table, question, bytes, ReplyRoom::of(room)) {
         Ok(payload) => Ok(done(payload)),
@@ -155,9 +161,13 @@ fn carry_out<T, C: ScriptWorkforce<T> + PackedWorkforce<T>>(
     requires ready { C.accepts context.now.crew.now }
     ensures state { OnOk result (table.new ≡ (exchanges.carried_out table.old request payload.now).0) }
     ensures reply { IfOk result (λ reply. (reply.kind, reply.payload.items) ≡ (exchanges.carried_out table.old request payload.now).1) }
+    ensures changes { IfOk result (λ reply. reply.is_change ≡ exchanges.request_changes table.old request payload.now) }
 {
     match request {
-        Request::Script => Ok(done(run_script(context, table, payload, room)?)),
+        Request::Script => {
+            let (replies, is_change) = run_script(context, table, payload, room)?;
+            Ok(carried_out(replies, is_change))
+        }
         Request::Check => Ok(done(check_script(context.alloc, table, payload, room)?)),
         Request::Explain => Ok(done(explain_script(context.alloc, table, payload, room)?)),
         Request::Apply => Ok(apply_changes(context, table, payload, room)?),
@@ -176,6 +186,7 @@ fn exchange<T, C: ScriptWorkforce<T> + PackedWorkforce<T>>(
     requires ready { C.accepts context.now.crew.now }
     ensures state { OnOk result (table.new ≡ exchanges.after table.old arrival payload.now) }
     ensures reply { IfOk result (λ reply. (reply.kind, reply.payload.items) ≡ exchanges.reply table.old arrival payload.now) }
+    ensures changes { IfOk result (λ reply. reply.is_change ≡ exchanges.changes table.old arrival payload.now) }
 {
     match arrival {
         Arrival::Frame(kind) => match request_of(kind) {
@@ -188,9 +199,29 @@ fn exchange<T, C: ScriptWorkforce<T> + PackedWorkforce<T>>(
     }
 }
 
+// The reply to what arrived and is no request.
+fn refuse(arrival: Arrival, room: Vec<u8>) -> Result<Reply, AllocError>
+    requires refused { IsNoRequest arrival }
+    ensures reply { IfOk result (λ reply. (table : State) (payload : List ℕ) → (reply.kind, reply.payload.items) ≡ exchanges.reply table arrival payload) }
+    ensures changes { IfOk result (λ reply. reply.is_change ≡ false) }
+{
+    match arrival {
+        Arrival::Frame(_) => unreachable!(),
+        Arrival::TooLong => invalid("TooLong", room),
+        Arrival::NoFrame => invalid("NoFrame", room),
+        Arrival::CutOff => invalid("CutOff", room),
+    }
+}
+
+/// The number of the format of payloads in a file: each is a run of whole frames of requests.
+pub const FORMAT: u64 = 1;
+
+/// The number of the engine in a file. It is another one if a request can lead to another table.
+pub const ENGINE: u64 = 1;
+
 /// A table, or none so far, that answers requests. A contract sees the table.
 #[derive(Drop)]
-pub(crate) struct TableService {
+pub struct TableService {
     table: Option<Table>,
 }
 
@@ -209,7 +240,7 @@ impl Model for TableService {
 
 impl TableService {
     /// No table.
-    pub(crate) fn new() -> Self
+    pub fn new() -> Self
         ensures { result ≡ None }
     {
         TableService { table: None }
@@ -220,9 +251,17 @@ impl<'a, T, C: ScriptWorkforce<T> + PackedWorkforce<T>> Service<Context<'a, T, C
     for TableService {
     ghost accepts = { λ context. C.accepts context.crew.now };
 
+    ghost blank = { None };
+
     ghost after = { exchanges.after };
 
     ghost reply = { exchanges.reply };
+
+    ghost changes = { exchanges.changes };
+
+    ghost same = { arrival_leaves };
+
+    ghost idle = { others_leave };
 
     fn exchange(
         &mut self,
@@ -232,5 +271,9 @@ impl<'a, T, C: ScriptWorkforce<T> + PackedWorkforce<T>> Service<Context<'a, T, C
         room: Vec<u8>,
     ) -> Result<Reply, AllocError> {
         exchange(context, &mut self.table, arrival, payload, room)
+    }
+
+    fn refuse(&self, arrival: Arrival, room: Vec<u8>) -> Result<Reply, AllocError> {
+        refuse(arrival, room)
     }
 }

@@ -1,3 +1,2 @@
-pub mod Exchanges
 pub mod WorkedRows
 pub mod offered

@@ -1,6 +1,6 @@
 -- Frames as bytes, and what arrives on a stream of them. Numbers are little endian.
 use Rattle.std.specs.Int.{from_le_bytes, to_le_bytes, w64}
-use Rattle.std.specs.Prelude.{ℕ, zero, suc, ◌≡◌, ◌==◌, ◌<◌, ◌≤◌, ◌^◌, ◌++◌, List, [], ◌∷◌, drop, get_or, length, nat_le, nat_lt, take, Option, None, Some, if◌then◌else◌}
+use Rattle.std.specs.Prelude.{ℕ, zero, suc, ◌≡◌, ◌==◌, ◌<◌, ◌≤◌, ◌-◌, ◌^◌, ◌++◌, ◌&&◌, Bool, false, List, [], ◌∷◌, drop, get_or, length, nat_le, nat_lt, take, Option, None, Some, if◌then◌else◌}
 use Rattle.std.specs.Cmp.Lexicographic.{pointwise}
 use Rattle.bt_frame.specs.declared.arrival.Arrival.{Arrival}
 use Rattle.bt_frame.specs.declared.arrival.Arrival.TheVariants.{CutOff, Frame, NoFrame, TooLong}
@@ -48,6 +48,19 @@ arrived_under most (Some header) bytes =
     if nat_lt (length bytes) header.1 then last CutOff
     else if nat_le header.1 most then (Frame header.0, take header.1 bytes, drop header.1 bytes)
     else (TooLong, [], drop header.1 bytes)
+
+-- a payload of this length is within a limit, and this many bytes have it whole
+abbrev pub is_whole : ℕ → ℕ → ℕ → Bool
+is_whole most size given = nat_le size most && nat_le size given
+
+-- bytes begin with a whole frame whose payload has at most a number of bytes
+abbrev pub begins_with_frame : ℕ → List ℕ → Bool
+begins_with_frame most bytes =
+    if nat_lt (length bytes) header_size then false
+    else elim (header_at (take header_size bytes)) [
+      | None ↦ false
+      | Some header ↦ is_whole most header.1 (length bytes - header_size)
+    ]
 
 -- what arrives first
 abbrev pub first_arrived : ℕ → List ℕ → Arrived

@@ -1,6 +1,7 @@
 //! Reading frames.
 ghost use Rattle.std.specs.Prelude.{◌≡◌, ◌<◌, true, IfNone, IfOk, IfSome, IsErrOf, OnOk, length};
 ghost use Rattle.bt_script.specs.Streams.{has_failed};
+ghost use Rattle.bt_frame.specs.Frames as frames;
 ghost use Rattle.bt_frame.specs.Receipts.{GaveUpTo, PassesOver, Receives, ReceivesNothing, ReceivesUnder};
 
 use crate::arrival::Arrival;
@@ -124,4 +125,24 @@ pub fn receive<R: Read>(
         return Ok(Some(Arrival::NoFrame));
     };
     Ok(Some(receive_payload(reader, header, most, piece, payload)?))
+}
+
+/// Whether bytes begin with a whole frame whose payload has at most `most` bytes.
+pub fn begins_with_frame(bytes: &[u8], most: u64) -> bool
+    ensures { result ≡ frames.begins_with_frame most bytes.now }
+{
+    if bytes.len() < HEADER_SIZE {
+        return false;
+    }
+    match header_of(&bytes[..HEADER_SIZE]) {
+        Some(header) => is_whole(header, most, bytes.len() - HEADER_SIZE),
+        None => false,
+    }
+}
+
+// Whether a payload has at most `most` bytes, and no more than follow its header.
+fn is_whole(header: Header, most: u64, given: usize) -> bool
+    ensures { result ≡ frames.is_whole most header.length given }
+{
+    header.length <= most && header.length <= given as u64
 }

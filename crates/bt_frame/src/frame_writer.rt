@@ -1,11 +1,12 @@
 //! Writing frames.
-ghost use Rattle.std.specs.Prelude.{◌≡◌, false, true, IsErrOf, OnErr, OnOk};
+ghost use Rattle.std.specs.Prelude.{◌≡◌, ◌<◌, ◌^◌, ◌++◌, false, true, IsErrOf, OnErr, OnOk, length};
 ghost use Rattle.std.specs.Io.KnownBytes.{Keeps};
 ghost use Rattle.bt_script.specs.Streams.{Took, TookPrefix, count_of, has_failed, has_unflushed, source_of};
 ghost use Rattle.bt_frame.specs.Frames.{FramesArrive, frame};
 
 use crate::header::{MAGIC, number_bytes};
 use bt_script::{Counted, RunFault, write_text};
+use std::alloc::AllocError;
 use std::io::Write;
 
 /// Flushes what was written. A flush that fails is a failed write.
@@ -38,4 +39,15 @@ pub fn send<W: Write>(writer: &mut Counted<W>, kind: u8, payload: &[u8]) -> Resu
     write_text(writer, &[kind])?;
     write_text(writer, payload)?;
     flush_written(writer)
+}
+
+/// Adds a frame of this kind and payload to bytes. After an `Err` a part of it may be there.
+pub fn add_frame(bytes: &mut Vec<u8>, kind: u8, payload: &[u8]) -> Result<(), AllocError>
+    ensures added { OnOk result (bytes.new.items ≡ bytes.old.items ++ frame kind payload.now) }
+    ensures fits { OnOk result (length payload.now < 2 ^ 64) }
+{
+    bytes.extend_from_slice(MAGIC.as_slice())?;
+    bytes.extend_from_slice(&number_bytes(payload.len() as u64))?;
+    bytes.push(kind)?;
+    bytes.extend_from_slice(payload)
 }

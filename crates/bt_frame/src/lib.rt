@@ -23,7 +23,7 @@ mod header;
 mod service;
 
 pub use arrival::Arrival;
-pub use frame_reader::receive;
-pub use frame_writer::{flush_written, send};
+pub use frame_reader::{begins_with_frame, receive};
+pub use frame_writer::{add_frame, flush_written, send};
 pub use header::number_bytes;
 pub use service::{Reply, Service, serve};

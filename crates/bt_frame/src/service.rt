@@ -1,8 +1,8 @@
 //! A service: what arrives gets a reply, until the input ends.
-ghost use Rattle.std.specs.Prelude.{◌≡◌, ◌<◌, ◌⊎◌, false, true, IfOk, IsErrOf, OnErr, OnOk, length, List, ℕ};
+ghost use Rattle.std.specs.Prelude.{◌≡◌, ◌<◌, ◌⊎◌, ◌||◌, Bool, false, true, IfOk, IsErrOf, OnErr, OnOk, length, List, ℕ};
 ghost use Rattle.bt_script.specs.Streams.{has_failed, has_unflushed, source_of};
 ghost use Rattle.bt_frame.specs.declared.arrival.Arrival.{Arrival as arrival_type};
-ghost use Rattle.bt_frame.specs.Services.{BreaksOff, Exchanges, HasTooMany, IsNext, WritesAnswers, WritesSomeAnswers, WritesWholeAnswers};
+ghost use Rattle.bt_frame.specs.Services.{BreaksOff, Exchanges, HasTest, HasTooMany, IsNext, IsNoRequest, ServesAll, WritesAnswers, WritesSomeAnswers, WritesWholeAnswers};
 
 use crate::arrival::Arrival;
 use crate::frame_reader::receive;
@@ -22,6 +22,8 @@ pub struct Reply {
     pub kind: u8,
     /// The payload of its frame.
     pub payload: Vec<u8>,
+    /// Whether what it replies to may have changed the service.
+    pub is_change: bool,
 }
 
 /// Has a reply to whatever arrives. `X` is what each call takes besides, such as who works.
@@ -29,11 +31,17 @@ pub trait Service<X> {
     /// What is required of it.
     ghost accepts: { X → Type 0 };
 
+    /// The service before anything arrived.
+    ghost blank: { Self };
+
     /// The service after something arrived with a payload.
     ghost after: { Self → arrival_type → List ℕ → Self };
 
     /// The kind and the payload of its reply.
     ghost reply: { Self → arrival_type → List ℕ → ℕ × List ℕ };
+
+    /// Whether something that arrived may change the service.
+    ghost changes: { Self → arrival_type → List ℕ → Bool };
 
     /// Carries out what arrived, and makes the reply in the memory of some bytes. An `Err` means that an allocation failed.
     fn exchange(
@@ -45,27 +53,47 @@ pub trait Service<X> {
     ) -> Result<Reply, AllocError>
         requires ready { accepts context.now }
         ensures state { OnOk result (self.new ≡ after self.old arrival payload.now) }
-        ensures reply { IfOk result (λ made. (made.kind, made.payload.items) ≡ reply self.old arrival payload.now) };
+        ensures reply { IfOk result (λ made. (made.kind, made.payload.items) ≡ reply self.old arrival payload.now) }
+        ensures changes { IfOk result (λ made. made.is_change ≡ changes self.old arrival payload.now) };
+
+    /// Makes the reply to what arrived and is no request, in the memory of some bytes. An `Err` means that an allocation failed.
+    fn refuse(&self, arrival: Arrival, room: Vec<u8>) -> Result<Reply, AllocError>
+        requires refused { IsNoRequest arrival }
+        ensures reply { IfOk result (λ made. (payload : List ℕ) → (made.kind, made.payload.items) ≡ reply self.now arrival payload) };
+
+    /// What cannot change the service leaves it as it is.
+    ghost same: { (service : Self) (arrival : arrival_type) (payload : List ℕ) → changes service arrival payload ≡ false → after service arrival payload ≡ service };
+
+    /// What is no request cannot change it.
+    ghost idle: { (service : Self) (arrival : arrival_type) (payload : List ℕ) → IsNoRequest arrival → changes service arrival payload ≡ false };
 }
 
-/// What follows an exchange.
+/// What follows an exchange. The test is whether the exchange may have changed the service.
 #[derive(Clone, Copy, Drop)]
 pub(crate) enum Next {
     /// There was one, and more may follow.
-    More,
+    More(bool),
     /// There was one, and after it no frame can be found.
-    Last,
+    Last(bool),
     /// The input is at its end, and there was none.
     End,
 }
 
+// Whether one of two tests is true.
+fn either(first: bool, second: bool) -> bool
+    ensures { result ≡ (first || second) }
+{
+    first || second
+}
+
 // Whether more frames can be found after an arrival.
-fn next_after(arrival: Arrival) -> Next
-    ensures { IsNext arrival result }
+fn next_after(arrival: Arrival, is_change: bool) -> Next
+    ensures next { IsNext arrival result }
+    ensures test { HasTest result is_change }
 {
     match arrival {
-        Arrival::Frame(_) | Arrival::TooLong => Next::More,
-        Arrival::NoFrame | Arrival::CutOff => Next::Last,
+        Arrival::Frame(_) | Arrival::TooLong => Next::More(is_change),
+        Arrival::NoFrame | Arrival::CutOff => Next::Last(is_change),
     }
 }
 
@@ -112,7 +140,7 @@ fn exchange_next<R: Read, W: Write, X, S: Service<X>>(
     requires ready { S.accepts context.now }
     requires piece { 0 < length buffers.old.piece.items }
     requires flushed { has_unflushed writer.old ≡ false }
-    ensures step { IfOk result (λ next. Exchanges S.after S.reply R.remaining W.contents most reader.old reader.new writer.old writer.new service.old service.new next) }
+    ensures step { IfOk result (λ next. Exchanges S.after S.reply R.remaining W.contents most reader.old reader.new writer.old writer.new service.old S.changes service.new next) }
     ensures reads { OnOk result (has_failed reader.new ≡ has_failed reader.old) }
     ensures writes { OnOk result (has_failed writer.new ≡ has_failed writer.old) }
     ensures flushed { OnOk result (has_unflushed writer.new ≡ false) }
@@ -129,7 +157,7 @@ fn exchange_next<R: Read, W: Write, X, S: Service<X>>(
     let reply = service.exchange(context, arrival, buffers.payload.as_slice(), room)?;
     send(writer, reply.kind, reply.payload.as_slice())?;
     buffers.reply = reply.payload;
-    Ok(next_after(arrival))
+    Ok(next_after(arrival, reply.is_change))
 }
 
 /// Serves what arrives: has each frame carried out, writes its reply and flushes it, before it reads on. It ends with the input, or after the reply to bytes in
@@ -137,7 +165,7 @@ fn exchange_next<R: Read, W: Write, X, S: Service<X>>(
 ///
 /// The replies are those of the definition `answers` for what arrives of the bytes that the reader had; after a fault a prefix of them is written. `Read`: the reader
 /// failed, or more than 2^64 - 2 frames arrived. `Write`: the writer failed. `OutOfMemory`: an allocation failed. Unless the writer failed, each reply of which a
-/// byte is written is whole.
+/// byte is written is whole. `Ok` says whether anything that arrived may have changed the service.
 pub fn serve<R: Read, W: Write, X, S: Service<X>>(
     alloc: Global,
     service: &mut S,
@@ -145,7 +173,7 @@ pub fn serve<R: Read, W: Write, X, S: Service<X>>(
     most: u64,
     reader: &mut Counted<R>,
     writer: &mut Counted<W>,
-) -> Result<(), RunFault>
+) -> Result<bool, RunFault>
     requires ready { S.accepts context.now }
     requires flushed { has_unflushed writer.old ≡ false }
     requires reads { has_failed reader.old ≡ false }
@@ -155,6 +183,9 @@ pub fn serve<R: Read, W: Write, X, S: Service<X>>(
     ensures healthy { OnOk result ((has_failed reader.new ≡ false) × (has_failed writer.new ≡ false)) }
     ensures flushed { OnOk result (has_unflushed writer.new ≡ false) }
 
+    // The same replies, and the service after all that arrived.
+    ensures served { IfOk result (λ is_change. ServesAll S.after S.reply W.contents most service.old (R.remaining (source_of reader.old)) writer.old writer.new S.changes service.new is_change) }
+
     // The fault, and what it leaves.
     ensures read { IsErrOf result RunFault.Read → (has_failed reader.new ≡ true) ⊎ HasTooMany most (R.remaining (source_of reader.old)) }
     ensures write { IsErrOf result RunFault.Write → has_failed writer.new ≡ true }
@@ -162,11 +193,12 @@ pub fn serve<R: Read, W: Write, X, S: Service<X>>(
     ensures whole { (IsErrOf result RunFault.Read ⊎ IsErrOf result RunFault.OutOfMemory) → WritesWholeAnswers S.after S.reply W.contents most service.old (R.remaining (source_of reader.old)) writer.old writer.new }
 {
     let mut buffers = Buffers::new(alloc)?;
+    let mut is_change = false;
     'exchanges: for _count in 0..u64::MAX {
         match exchange_next(alloc, service, context, most, &mut buffers, reader, writer) {
-            Ok(Next::More) => {}
-            Ok(Next::Last) => return Ok(()),
-            Ok(Next::End) => return Ok(()),
+            Ok(Next::More(test)) => is_change = either(is_change, test),
+            Ok(Next::Last(test)) => return Ok(either(is_change, test)),
+            Ok(Next::End) => return Ok(is_change),
             Err(fault) => return Err(fault),
         }
     }

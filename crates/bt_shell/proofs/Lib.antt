@@ -7,7 +7,6 @@ pub mod Refusals
 pub mod Replied
 pub mod Sound
 pub mod Turns
-pub mod Unchanged
 pub mod WorkedRows
 pub mod Written
 pub mod offered

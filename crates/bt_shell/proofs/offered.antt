@@ -1,2 +1,3 @@
 -- What the crates above cite of the proofs of this one.
 pub mod Joins
+pub mod Unchanged

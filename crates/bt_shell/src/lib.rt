@@ -15,6 +15,7 @@
 //! commands.
 #![tactic(auto)]
 
+mod arguments;
 mod check;
 mod log;
 mod program_run;
@@ -24,6 +25,7 @@ mod script_run;
 mod turn;
 mod workforce;
 
+pub use arguments::arguments_of;
 pub use bt_gang::{Context, Crew, Gate, NoGate};
 pub use bt_script::{
     BlockText, Bounds, Capacity, Command, Counted, IndexForm, Items, Parsed, RunFault,

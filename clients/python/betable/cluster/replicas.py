@@ -40,10 +40,10 @@ from ..durable.table import (
     ENGINE,
     REFUSED,
     IndexBuilding,
-    RequestReused,
     applied,
     check_checkpoint_bytes,
 )
+from ..errors import RequestReused
 from ..language import Definitions, commands
 from ..packed import MAGIC
 from ..reads import Reads, Runner, reader_of

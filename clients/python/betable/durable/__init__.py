@@ -31,10 +31,11 @@ docs/DURABLE.md says what is promised, and what each exception means. `table.py`
 damage that SQLite would pass over, `backups.py` has `restore`, `copies.py` has `copy`, and `file_lock.py` the lock of a file.
 """
 
+from ..errors import RequestReused
 from .backups import restore
 from .copies import copy
 from .table import (
-    Corrupt, Durable, InDoubt, IndexBuilding, InUse, NewerFormat, NotATable, ReplyDamaged, RequestReused, RolledBack, Runner, ScriptTooLong, open as open,
+    Corrupt, Durable, InDoubt, IndexBuilding, InUse, NewerFormat, NotATable, ReplyDamaged, RolledBack, Runner, ScriptTooLong, open as open,
 )  # fmt: skip
 
 # Without `open`, which would hide that of Python.

@@ -36,7 +36,7 @@ from typing import Any, NoReturn, TypeVar
 
 from ..batches import Batch, script_of_changes
 from ..calls import Calls, Row, as_script
-from ..errors import EngineEnded, before
+from ..errors import EngineEnded, RequestReused, before, check_request_id
 from ..language import CHANGING, DEFINING, Definitions, commands
 from ..reads import Reads, Runner as Runner, reader_of
 from ..replies import Place, Reply, answered
@@ -159,17 +159,6 @@ class IndexBuilding(Exception):
 
     def __str__(self) -> str:
         return f"no checkpoint is written while an index is being built: complete {', '.join(self.names)} by build, or drop it"
-
-
-class RequestReused(Exception):
-    """A request id came again with another script, which was not run."""
-
-    def __init__(self, request_id: str) -> None:
-        super().__init__(request_id)
-        self.request_id = request_id
-
-    def __str__(self) -> str:
-        return f"request {self.request_id!r} was made before with another script: use a new id for each script"
 
 
 # After these the table can be used, and is as it is on disk.
@@ -485,7 +474,7 @@ class Durable(AutomaticCheckpoints, Reads):
         return self._once(request_id, changes, lambda: self._apply_and_keep(changes) or done)
 
     def _once(self, request_id: str, script: bytes, run: Callable[[], bytes]) -> bytes:
-        _check_request_id(request_id)
+        check_request_id(request_id)
         hash = sha256(script).digest()
         with self._some_group():
             self._check_length(script)
@@ -524,7 +513,7 @@ class Durable(AutomaticCheckpoints, Reads):
     def forget(self, *request_ids: str) -> None:
         """Forgets request ids whose callers have their replies."""
         for request_id in request_ids:
-            _check_request_id(request_id)
+            check_request_id(request_id)
         with self._some_group(), self._all_or_nothing():
             self._request_bytes = None
             for request_id in request_ids:
@@ -916,12 +905,6 @@ def _write_back(db: sqlite3.Connection) -> None:
     """Writes all of SQLite's log to the file, and empties it."""
     if _value(db, "PRAGMA wal_checkpoint(TRUNCATE)") != 0:
         raise sqlite3.OperationalError("SQLite's log is in use")
-
-
-def _check_request_id(request_id: str) -> None:
-    if not isinstance(request_id, str):
-        raise TypeError(f"a request id is a str, and not {request_id!r}")
-    request_id.encode()
 
 
 def _value(db: sqlite3.Connection, query: str) -> Any:

@@ -21,9 +21,9 @@ from pathlib import Path
 from typing import Any, BinaryIO, NamedTuple
 
 from ..calls import Row
-from ..durable.table import CHECKPOINT_BYTES, FAULTS, Durable, ReplyDamaged, RequestReused, RolledBack, ScriptTooLong, open as open_table
+from ..durable.table import CHECKPOINT_BYTES, FAULTS, Durable, ReplyDamaged, RolledBack, ScriptTooLong, open as open_table
 from ..engine import Engine as TableEngine
-from ..errors import EngineEnded, Refused, RowError, ending
+from ..errors import EngineEnded, Refused, RequestReused, RowError, ending
 from ..language import counted
 from ..messages import delete
 from ..packed import Usage, change_count

@@ -16,4 +16,5 @@ returns c =
     let workers = with_arg _ _ _ _ _ empty c.number_option.ensures.rule c.number_option.ensures.local c.in_ok-arg.ensures in
     let cut = with_arg _ _ _ _ _ workers c.number_option-2.ensures.rule c.number_option-2.ensures.local c.in_ok-arg-2.ensures in
     let grain = with_arg _ _ _ _ _ cut c.number_option-3.ensures.rule c.number_option-3.ensures.local c.in_ok-arg-3.ensures in
-    IfOk-weaker c.arg-4.result _ _ (λ command. with_arg _ command _ _ _ grain c.number_option-4.ensures.rule c.number_option-4.ensures.local) c.arg-4.ensures
+    let most = with_arg _ _ _ _ _ grain c.number_option-4.ensures.rule c.number_option-4.ensures.local c.in_ok-arg-4.ensures in
+    IfOk-weaker c.arg-5.result _ _ (λ command. with_arg _ command _ _ _ most c.option.ensures.rule c.option.ensures.local) c.arg-5.ensures

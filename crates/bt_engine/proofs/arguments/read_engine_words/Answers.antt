@@ -1,8 +1,10 @@
-use Rattle.std.proofs.Common.{List, ◌≡◌, ◌⊎◌, ◌∙◌, ap, arith, codes, inl, inr, rules, subst}
-use Rattle.clap.specs.Words.{HasKind, IsAmong, Text, kind_of}
+use Rattle.std.proofs.Common.{List, ◌≡◌, ◌≢◌, ◌⊎◌, ◌∙◌, ap, arith, codes, inl, inr, refl, rules, subst}
+use Rattle.clap.specs.Words.{HasKind, IsAmong, Text, first_of, found_of, kind_of}
 use Rattle.clap.specs.declared.error.kind.ErrorKind.{ErrorKind}
 use Rattle.clap.specs.declared.error.kind.ErrorKind.TheVariants as kinds
-use Rattle.bt_engine.specs.Options.{ComesOf, HasFault, kinds_of_arguments, largest_most, rows_of_arguments}
+use Rattle.clap.specs.declared.error.kind.ErrorKind.TheVariants.{DisplayHelp}
+use Rattle.clap.proofs.WalkLemmas.{first_value-rows}
+use Rattle.bt_engine.specs.Options.{ComesOf, HasFault, NamesNoFile, kinds_of_arguments, largest_most, rows_of_arguments}
 use Rattle.bt_script.specs.declared.arguments.WordsError.{WordsError}
 use Rattle.bt_script.specs.declared.arguments.WordsError.TheVariants.{Faulty, Help, OutOfMemory}
 use Rattle.bt_gang.specs.declared.crew.TheConstants.{DEEPEST_CUT, LARGEST_GRAIN, MOST_WORKERS}
@@ -23,8 +25,17 @@ returns-in-Err-clause-err c =
     let given = subst (λ (arguments : List Text). HasKind (kinds_of_arguments arguments) c.in-Err.error) c.as_slice.ensures c.in-Err.ensures.kinds in
     has_fault c.args.arguments.now (kind_of c.in-Err.error) c.arguments_error.result given c.arguments_error.ensures
 
-pub returns-in-Ok : goal.returns-in-Ok
-returns-in-Ok c =
+-- arguments that are not read name no file
+no_file : (arguments : List Text) (fault : WordsError) → HasFault arguments fault → fault ≢ OutOfMemory → NamesNoFile arguments
+no_file arguments Faulty fault other serves = absurd (subst (IsAmong fault.0) serves fault.1)
+no_file arguments (Help text) fault other serves = absurd (subst (IsAmong DisplayHelp) serves fault)
+no_file arguments OutOfMemory fault other serves = absurd (other refl)
+
+pub returns-in-Err-clause-unkept : goal.returns-in-Err-clause-unkept
+returns-in-Err-clause-unkept c = no_file c.args.arguments.now c.arguments_error.result (returns-in-Err-clause-err c)
+
+pub returns-in_ok-text_of-in-Ok : goal.returns-in_ok-text_of-in-Ok
+returns-in_ok-text_of-in-Ok c =
     let m = c.in-Ok.matches in
     let rows = c.in-Ok.ensures.rows ∙ ap rows_of_arguments c.as_slice.ensures in
     let read = number_read c.args.arguments.now m rows c.in-Ok.ensures.parsed in
@@ -41,8 +52,10 @@ returns-in-Ok c =
       cut = cut.0;
       grain = grain.0;
       most = most.0;
+      keep = c.in_ok-text_of-in-Ok.ensures ∙ first_value-rows (found_of m) (codes "keep") ∙ ap (first_of (codes "keep")) rows;
       within = ((workers.1, cut.1, grain.1), most.1);
       ok = search rules;
       err = search rules;
+      unkept = search rules;
       faulty = search rules;
     }

@@ -1,5 +1,5 @@
 use Rattle.bt_shell.proofs.Contents.{batches_are_folded, cuts_do_not_show, no_tree_shows, shape_is_no_content, upkeep_keeps_contents}
-use Rattle.bt_shell.proofs.Unchanged.{reads_change_nothing}
+use Rattle.bt_shell.proofs.offered.Unchanged.{reads_change_nothing}
 use Rattle.bt_shell.proofs.offered.Joins.{are_one_run}
 use Rattle.bt_shell.proofs.script_run.laws.Goals as goal
 

@@ -1,7 +1,9 @@
 -- The exchanges of a service one after the other. Serves the loop over them.
-use Rattle.std.proofs.Common.{ℕ, ◌≡◌, ◌≤◌, ◌-◌, ◌+◌, ◌^◌, ◌∙◌, List, [], ◌∷◌, ◌++◌, refl, sym, ap, subst, append_assoc, append-nil, arith, length, length-append, take, Option, None, Some}
+use Rattle.std.proofs.Common.{ℕ, ◌≡◌, ◌≤◌, ◌-◌, ◌+◌, ◌^◌, ◌∙◌, Bool, true, false, List, [], ◌∷◌, ◌++◌, Option, None, Some, length, take}
+use Rattle.std.proofs.Common.{refl, sym, ap, subst, append_assoc, append-nil, arith, length-append}
 use Rattle.std.proofs.KnownBytes.{Consumes-nil}
 use Rattle.std.proofs.lemmas.List.{take_at}
+use Rattle.std.specs.Prelude.{◌||◌}
 use Rattle.std.specs.Io.KnownBytes.{Consumes, IsAtEnd}
 use Rattle.bt_script.specs.Streams.{Gave, Took, TookPrefix, count_of, source_of}
 use Rattle.bt_script.specs.declared.counted.Counted.{Counted}
@@ -13,7 +15,7 @@ use Rattle.bt_frame.specs.Receipts.{Receives, ReceivesNothing}
 use Rattle.bt_frame.specs.declared.arrival.Arrival.{Arrival}
 use Rattle.bt_frame.specs.declared.arrival.Arrival.TheVariants.{CutOff, Frame, NoFrame, TooLong}
 use Rattle.bt_frame.proofs.offered.Arrivals.{nothing_arrives}
-use Rattle.bt_frame.specs.Services.{BreaksOff, HasTooMany, IsInputOf, IsLast, WritesAnswers, WritesSomeAnswers, WritesWholeAnswers, after_arrivals, answers, reply_frame, served}
+use Rattle.bt_frame.specs.Services.{BreaksOff, HasTooMany, IsInputOf, IsLast, ServesAll, WritesSomeAnswers, WritesWholeAnswers, after_arrivals, answers, any_changes, reply_frame, served}
 
 -- ---- what a reader may have had
 
@@ -35,7 +37,7 @@ Gave-nil remaining a held = (Consumes-nil (remaining (source_of a)), omega (arit
 module _ {S : Type 0} (after : S → Arrival → List ℕ → S) (reply : S → Arrival → List ℕ → ℕ × List ℕ) where
   -- ---- replies to arrivals
 
-  answers-append : (state : S) (done more : List (Arrival × List ℕ))
+  pub answers-append : (state : S) (done more : List (Arrival × List ℕ))
       → answers after reply state (done ++ more) ≡ answers after reply state done ++ answers after reply (after_arrivals after reply state done) more
   unfolding answers after_arrivals
   answers-append state [] more = refl
@@ -44,7 +46,7 @@ module _ {S : Type 0} (after : S → Arrival → List ℕ → S) (reply : S → 
       ∙ sym (append_assoc (reply_frame after reply state arrival) (answers after reply (after state arrival.0 arrival.1) done)
       (answers after reply (after_arrivals after reply (after state arrival.0 arrival.1) done) more))
 
-  after-append : (state : S) (done more : List (Arrival × List ℕ)) → after_arrivals after reply state (done ++ more) ≡ after_arrivals after reply (after_arrivals after reply state done) more
+  pub after-append : (state : S) (done more : List (Arrival × List ℕ)) → after_arrivals after reply state (done ++ more) ≡ after_arrivals after reply (after_arrivals after reply state done) more
   unfolding after_arrivals
   after-append state [] more = refl
   after-append state (arrival ∷ done) more = after-append (after state arrival.0 arrival.1) done more
@@ -54,26 +56,49 @@ module _ {S : Type 0} (after : S → Arrival → List ℕ → S) (reply : S → 
   unfolding answers
   answers-next state arrival more = refl
 
-  answers-none : (state : S) → answers after reply state [] ≡ []
+  pub answers-none : (state : S) → answers after reply state [] ≡ []
   unfolding answers
   answers-none state = refl
 
-  after-one : (state : S) (arrival : Arrival × List ℕ) → after_arrivals after reply state (arrival ∷ []) ≡ (after state arrival.0 arrival.1)
+  pub after-one : (state : S) (arrival : Arrival × List ℕ) → after_arrivals after reply state (arrival ∷ []) ≡ (after state arrival.0 arrival.1)
   unfolding after_arrivals
   after-one state arrival = refl
 
-  after-none : (state : S) → after_arrivals after reply state [] ≡ state
+  pub after-none : (state : S) → after_arrivals after reply state [] ≡ state
   unfolding after_arrivals
   after-none state = refl
 
-  answers-one : (state : S) (arrival : Arrival × List ℕ) → answers after reply state (arrival ∷ []) ≡ reply_frame after reply state arrival
+  pub answers-one : (state : S) (arrival : Arrival × List ℕ) → answers after reply state (arrival ∷ []) ≡ reply_frame after reply state arrival
   answers-one state arrival =
       answers-next state arrival [] ∙ ap (λ (l : List ℕ). reply_frame after reply state arrival ++ l) (answers-none (after state arrival.0 arrival.1))
       ∙ append-nil (reply_frame after reply state arrival)
 
+  -- ---- whether an arrival may have changed it
+
+  changes-none : (changes : S → Arrival → List ℕ → Bool) (state : S) → any_changes after reply changes state [] ≡ false
+  unfolding any_changes
+  changes-none changes state = refl
+
+  or-assoc : (a b c : Bool) → (a || b || c) ≡ (a || (b || c))
+  or-assoc true b c = refl
+  or-assoc false b c = refl
+
+  or-none : (a : Bool) → (a || false) ≡ a
+  or-none true = refl
+  or-none false = refl
+
+  changes-push : (changes : S → Arrival → List ℕ → Bool) (state : S) (done : List (Arrival × List ℕ)) (arrival : Arrival × List ℕ)
+      → any_changes after reply changes state (done ++ arrival ∷ []) ≡ (any_changes after reply changes state done || changes (after_arrivals after reply state done) arrival.0 arrival.1)
+  unfolding any_changes after_arrivals
+  changes-push changes state [] arrival = or-none (changes state arrival.0 arrival.1)
+  changes-push changes state (first ∷ done) arrival =
+      let next = after state first.0 first.1 in
+      ap (λ (b : Bool). changes state first.0 first.1 || b) (changes-push changes next done arrival)
+      ∙ sym (or-assoc (changes state first.0 first.1) (any_changes after reply changes next done) (changes (after_arrivals after reply next done) arrival.0 arrival.1))
+
   -- What a service has done since the start: some bytes are read, and all that arrived of them has its reply.
-  pub record HasServed {R W : Type 0} (remaining : R → Option (List ℕ)) (contents : W → Option (List ℕ)) (most : ℕ) (begin : S) (reader read : Counted R) (writer written : Counted W)
-      (now : S) (count : ℕ) : Type 0 where
+  pub record HasServed {R W : Type 0} (remaining : R → Option (List ℕ)) (contents : W → Option (List ℕ)) (most : ℕ) (begin : S) (changes : S → Arrival → List ℕ → Bool)
+      (reader read : Counted R) (writer written : Counted W) (now : S) (count : ℕ) (test : Bool) : Type 0 where
     pub bytes : List ℕ
     pub done : List (Arrival × List ℕ)
     pub gave : Gave remaining reader read bytes
@@ -81,16 +106,18 @@ module _ {S : Type 0} (after : S → Arrival → List ℕ → S) (reply : S → 
     pub left : now ≡ after_arrivals after reply begin done
     pub took : Took contents writer written (answers after reply begin done)
     pub counted : length done ≡ count
+    pub tested : test ≡ any_changes after reply changes begin done
 
-  module _ {R W : Type 0} (remaining : R → Option (List ℕ)) (contents : W → Option (List ℕ)) (most : ℕ) (begin : S) (reader : Counted R) (writer : Counted W) where
-    abbrev Served : Counted R → Counted W → S → ℕ → Type 0
-    Served read written now count = HasServed remaining contents most begin reader read writer written now count
+  module _ {R W : Type 0} (remaining : R → Option (List ℕ)) (contents : W → Option (List ℕ)) (most : ℕ) (begin : S) (changes : S → Arrival → List ℕ → Bool)
+      (reader : Counted R) (writer : Counted W) where
+    abbrev Served : Counted R → Counted W → S → ℕ → Bool → Type 0
+    Served read written now count test = HasServed remaining contents most begin changes reader read writer written now count test
 
     abbrev known : Option (List ℕ)
     known = remaining (source_of reader)
 
     -- before the first exchange
-    pub serving_begins : Gave remaining reader reader [] → Took contents writer writer [] → Served reader writer begin 0
+    pub serving_begins : Gave remaining reader reader [] → Took contents writer writer [] → Served reader writer begin 0 false
     serving_begins nothing unwritten = record {
       bytes = [];
       done = [];
@@ -99,19 +126,22 @@ module _ {S : Type 0} (after : S → Arrival → List ℕ → S) (reply : S → 
       left = sym (after-none begin);
       took = subst (λ (l : List ℕ). Took contents writer writer l) (sym (answers-none begin)) unwritten;
       counted = refl;
+      tested = sym (changes-none changes begin);
     }
 
     -- a fault between two exchanges
-    pub stops_between : (read : Counted R) (written : Counted W) (now : S) (count : ℕ) → Served read written now count → WritesWholeAnswers after reply contents most begin known writer written
-    stops_between read written now count so_far =
+    pub stops_between : (read : Counted R) (written : Counted W) (now : S) (count : ℕ) (test : Bool)
+        → Served read written now count test → WritesWholeAnswers after reply contents most begin known writer written
+    stops_between read written now count test so_far =
         let found = rest_of known (remaining (source_of read)) so_far.bytes so_far.gave.0 in
         let all = arrivals most (so_far.bytes ++ found.rest) in
         let first : take (length so_far.done) all ≡ so_far.done = ap (take (length so_far.done)) (so_far.arrived found.rest)
         ∙ take_at so_far.done (arrivals most found.rest) (length so_far.done) refl in
         (so_far.bytes ++ found.rest, found.whole, (length so_far.done, subst (λ (l : List (Arrival × List ℕ)). Took contents writer written (answers after reply begin l)) (sym first) so_far.took))
 
-    pub stops_with_prefix : (read : Counted R) (written : Counted W) (now : S) (count : ℕ) → Served read written now count → WritesSomeAnswers after reply contents most begin known writer written
-    stops_with_prefix read written now count so_far =
+    pub stops_with_prefix : (read : Counted R) (written : Counted W) (now : S) (count : ℕ) (test : Bool)
+        → Served read written now count test → WritesSomeAnswers after reply contents most begin known writer written
+    stops_with_prefix read written now count test so_far =
         let found = rest_of known (remaining (source_of read)) so_far.bytes so_far.gave.0 in
         let whole : served after reply most begin (so_far.bytes ++ found.rest)
         ≡ answers after reply begin so_far.done ++ answers after reply (after_arrivals after reply begin so_far.done) (arrivals most found.rest) =
@@ -123,17 +153,17 @@ module _ {S : Type 0} (after : S → Arrival → List ℕ → S) (reply : S → 
         )
 
     -- more arrivals than are counted
-    pub stops_at_most : (read : Counted R) (written : Counted W) (now : S) (count : ℕ) → Served read written now count → 2 ^ 64 - 1 ≤ count → HasTooMany most known
-    stops_at_most read written now count so_far many =
+    pub stops_at_most : (read : Counted R) (written : Counted W) (now : S) (count : ℕ) (test : Bool) → Served read written now count test → 2 ^ 64 - 1 ≤ count → HasTooMany most known
+    stops_at_most read written now count test so_far many =
         let found = rest_of known (remaining (source_of read)) so_far.bytes so_far.gave.0 in
         let long = ap length (so_far.arrived found.rest) ∙ length-append so_far.done (arrivals most found.rest) in
         let counted = so_far.counted in
         (so_far.bytes ++ found.rest, found.whole, omega (arith, long, counted, many))
 
     -- the input is at its end
-    pub serving_ends : (mid read : Counted R) (written answered : Counted W) (now : S) (count : ℕ) → Served mid written now count → ReceivesNothing remaining mid read
-        → answered ≡ written → WritesAnswers after reply contents most begin known writer answered
-    serving_ends mid read written answered now count so_far nothing same =
+    pub serving_ends : (mid read : Counted R) (written answered : Counted W) (now left : S) (count : ℕ) (test : Bool) → Served mid written now count test → ReceivesNothing remaining mid read
+        → left ≡ now → answered ≡ written → ServesAll after reply contents most begin known writer answered changes left test
+    serving_ends mid read written answered now left count test so_far nothing unchanged same =
         let gave = Gave-trans remaining reader mid read so_far.bytes [] so_far.gave nothing.0 in
         let found = rest_of known (remaining (source_of read)) (so_far.bytes ++ []) gave.0 in
         let none : found.rest ≡ [] = found.ends nothing.1 in
@@ -141,11 +171,16 @@ module _ {S : Type 0} (after : S → Arrival → List ℕ → S) (reply : S → 
         let arrived : arrivals most ((so_far.bytes ++ []) ++ found.rest) ≡ so_far.done =
         ap (arrivals most) all ∙ so_far.arrived [] ∙ ap (λ (l : List (Arrival × List ℕ)). so_far.done ++ l) (nothing_arrives most) ∙ append-nil so_far.done in
         let took : Took contents writer answered (answers after reply begin so_far.done) =
-        subst (λ (w : Counted W). Took contents writer w (answers after reply begin so_far.done)) (sym same) so_far.took in
-        ((so_far.bytes ++ []) ++ found.rest, found.whole, subst (λ (l : List (Arrival × List ℕ)). Took contents writer answered (answers after reply begin l)) (sym arrived) took)
+        subst (λ (w : Counted W). Took contents writer w (answers after reply begin so_far.done)) (sym same) so_far.took in (
+          (so_far.bytes ++ []) ++ found.rest,
+          found.whole,
+          subst (λ (l : List (Arrival × List ℕ)). Took contents writer answered (answers after reply begin l)) (sym arrived) took,
+          unchanged ∙ so_far.left ∙ ap (after_arrivals after reply begin) (sym arrived),
+          so_far.tested ∙ ap (any_changes after reply changes begin) (sym arrived),
+        )
 
     -- one more arrival, in terms of those so far
-    module _ (mid read : Counted R) (written : Counted W) (now : S) (count : ℕ) (so_far : Served mid written now count) (arrival : Arrival) (payload : List ℕ)
+    module _ (mid read : Counted R) (written : Counted W) (now : S) (count : ℕ) (test : Bool) (so_far : Served mid written now count test) (arrival : Arrival) (payload : List ℕ)
         (received : Receives remaining mid read most arrival payload) where
       abbrev bytes : List ℕ
       bytes = so_far.bytes ++ received.0
@@ -185,8 +220,18 @@ module _ {S : Type 0} (after : S → Arrival → List ℕ → S) (reply : S → 
                 (answers after reply (after now arrival payload) more) so_far.took (ap (answers after reply begin) input_has ∙ replied so_far.left more) prefix,
           )
 
-      module _ (later : S) (answered : Counted W) (left : later ≡ after now arrival payload)
-          (took : Took contents written answered (reply_frame after reply now (arrival, payload))) where
+      module _ (later : S) (answered : Counted W) (is_change : Bool) (later_test : Bool) (joined : later_test ≡ (test || is_change)) (left : later ≡ after now arrival payload)
+          (took : Took contents written answered (reply_frame after reply now (arrival, payload))) (tested : is_change ≡ changes now arrival payload) where
+        left_all : later ≡ after_arrivals after reply begin (so_far.done ++ (arrival, payload) ∷ [])
+        left_all = left ∙ ap (λ (state : S). after state arrival payload) so_far.left
+            ∙ sym (after-append begin so_far.done ((arrival, payload) ∷ []) ∙ after-one (after_arrivals after reply begin so_far.done) (arrival, payload))
+
+        tested_all : later_test ≡ any_changes after reply changes begin (so_far.done ++ (arrival, payload) ∷ [])
+        tested_all =
+            joined ∙ ap (λ (b : Bool). b || is_change) so_far.tested
+            ∙ ap (λ (b : Bool). any_changes after reply changes begin so_far.done || b) (tested ∙ ap (λ (state : S). changes state arrival payload) so_far.left)
+            ∙ sym (changes-push changes begin so_far.done (arrival, payload))
+
         took_all : Took contents writer answered (answers after reply begin (so_far.done ++ (arrival, payload) ∷ []))
         took_all =
             subst (λ (l : List ℕ). Took contents writer answered l)
@@ -196,7 +241,7 @@ module _ {S : Type 0} (after : S → Arrival → List ℕ → S) (reply : S → 
             (Took-trans contents writer written answered (answers after reply begin so_far.done) (reply_frame after reply now (arrival, payload)) so_far.took took)
 
         -- more may arrive after it
-        pub serving_goes_on : (IsLast arrival → ⊥) → Served read answered later (count + 1)
+        pub serving_goes_on : (IsLast arrival → ⊥) → Served read answered later (count + 1) later_test
         serving_goes_on not_last = record {
           bytes = bytes;
           done = so_far.done ++ (arrival, payload) ∷ [];
@@ -205,10 +250,10 @@ module _ {S : Type 0} (after : S → Arrival → List ℕ → S) (reply : S → 
               arrived rest (λ cut. absurd (not_last (subst IsLast (sym cut) tt)))
               ∙ ap (λ (l : List ℕ). so_far.done ++ (arrival, payload) ∷ arrivals most l) (follows arrival not_last rest)
               ∙ sym (append_assoc so_far.done ((arrival, payload) ∷ []) (arrivals most rest));
-          left = left ∙ ap (λ (state : S). after state arrival payload) so_far.left
-              ∙ sym (after-append begin so_far.done ((arrival, payload) ∷ []) ∙ after-one (after_arrivals after reply begin so_far.done) (arrival, payload));
+          left = left_all;
           took = took_all;
           counted = let before = so_far.counted in omega (arith, length-append so_far.done ((arrival, payload) ∷ []), before);
+          tested = tested_all;
         }
           where
             follows : (a : Arrival) → (IsLast a → ⊥) → (rest : List ℕ) → following a rest ≡ rest
@@ -218,13 +263,18 @@ module _ {S : Type 0} (after : S → Arrival → List ℕ → S) (reply : S → 
             follows CutOff more rest = refl
 
         -- nothing more arrives after it
-        pub serving_ends_with : IsLast arrival → WritesAnswers after reply contents most begin known writer answered
+        pub serving_ends_with : IsLast arrival → ServesAll after reply contents most begin known writer answered changes later later_test
         serving_ends_with is_last =
             let none : following arrival found.rest ≡ [] = nothing_follows arrival is_last found.rest (λ cut. found.ends (received.3 cut)) in
             let all : arrivals most (bytes ++ found.rest) ≡ so_far.done ++ (arrival, payload) ∷ [] =
             input_has ∙ ap (λ (l : List ℕ). so_far.done ++ (arrival, payload) ∷ arrivals most l) none
-            ∙ ap (λ (l : List (Arrival × List ℕ)). so_far.done ++ (arrival, payload) ∷ l) (nothing_arrives most) in
-            (bytes ++ found.rest, found.whole, subst (λ (l : List (Arrival × List ℕ)). Took contents writer answered (answers after reply begin l)) (sym all) took_all)
+            ∙ ap (λ (l : List (Arrival × List ℕ)). so_far.done ++ (arrival, payload) ∷ l) (nothing_arrives most) in (
+              bytes ++ found.rest,
+              found.whole,
+              subst (λ (l : List (Arrival × List ℕ)). Took contents writer answered (answers after reply begin l)) (sym all) took_all,
+              left_all ∙ ap (after_arrivals after reply begin) (sym all),
+              tested_all ∙ ap (any_changes after reply changes begin) (sym all),
+            )
           where
             nothing_follows : (a : Arrival) → IsLast a → (rest : List ℕ) → (a ≡ CutOff → rest ≡ []) → following a rest ≡ []
             nothing_follows (Frame kind) is_last rest ends = absurd is_last
@@ -233,19 +283,19 @@ module _ {S : Type 0} (after : S → Arrival → List ℕ → S) (reply : S → 
             nothing_follows CutOff is_last rest ends = ends refl
 
     -- a fault of an exchange leaves a prefix of the replies
-    pub breaks_by : (mid read : Counted R) (written broken : Counted W) (now : S) (count : ℕ) → Served mid written now count → (fault : RunFault)
+    pub breaks_by : (mid read : Counted R) (written broken : Counted W) (now : S) (count : ℕ) (test : Bool) → Served mid written now count test → (fault : RunFault)
         → (fault ≡ Read → broken ≡ written) → (fault ≡ OutOfMemory → broken ≡ written) → (fault ≡ Write → BreaksOff after reply remaining contents most mid read written broken now)
         → WritesSomeAnswers after reply contents most begin known writer broken
-    breaks_by mid read written broken now count so_far Read unread memory write =
-        subst (λ (w : Counted W). WritesSomeAnswers after reply contents most begin known writer w) (sym (unread refl)) (stops_with_prefix mid written now count so_far)
-    breaks_by mid read written broken now count so_far OutOfMemory unread memory write =
-        subst (λ (w : Counted W). WritesSomeAnswers after reply contents most begin known writer w) (sym (memory refl)) (stops_with_prefix mid written now count so_far)
-    breaks_by mid read written broken now count so_far Write unread memory write =
+    breaks_by mid read written broken now count test so_far Read unread memory write =
+        subst (λ (w : Counted W). WritesSomeAnswers after reply contents most begin known writer w) (sym (unread refl)) (stops_with_prefix mid written now count test so_far)
+    breaks_by mid read written broken now count test so_far OutOfMemory unread memory write =
+        subst (λ (w : Counted W). WritesSomeAnswers after reply contents most begin known writer w) (sym (memory refl)) (stops_with_prefix mid written now count test so_far)
+    breaks_by mid read written broken now count test so_far Write unread memory write =
         let part = write refl in
-        serving_breaks mid read written now count so_far part.0 part.1 part.2 broken part.3
+        serving_breaks mid read written now count test so_far part.0 part.1 part.2 broken part.3
 
     -- between two exchanges, whole replies are written
-    pub whole_by : (mid : Counted R) (written broken : Counted W) (now : S) (count : ℕ) → Served mid written now count → broken ≡ written
+    pub whole_by : (mid : Counted R) (written broken : Counted W) (now : S) (count : ℕ) (test : Bool) → Served mid written now count test → broken ≡ written
         → WritesWholeAnswers after reply contents most begin known writer broken
-    whole_by mid written broken now count so_far same =
-        subst (λ (w : Counted W). WritesWholeAnswers after reply contents most begin known writer w) (sym same) (stops_between mid written now count so_far)
+    whole_by mid written broken now count test so_far same =
+        subst (λ (w : Counted W). WritesWholeAnswers after reply contents most begin known writer w) (sym same) (stops_between mid written now count test so_far)

@@ -1,4 +1,4 @@
--- A command that reads or is refused leaves the same table. Serves the laws of a run.
+-- A command that reads or is refused leaves the same table. Serves the laws of a run, and an engine that keeps its requests.
 use Rattle.std.proofs.Common.{ℕ, ◌≡◌, ◌≢◌, List, refl, Some, None, IfOk, Result, Ok, Err}
 use Rattle.bt_value.specs.declared.refusal.Refusal.{Refusal}
 use Rattle.bt_value.specs.Results.{map_ok}

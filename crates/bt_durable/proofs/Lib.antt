@@ -1,0 +1,7 @@
+mod Arriving
+mod KnownRequests
+mod RepeatedRequests
+mod RepliedParts
+mod ServedPayloads
+mod Unchanged
+mod WorkedRows

@@ -1,0 +1,5 @@
+pub mod Payloads
+pub mod Inputs
+pub mod Keeping
+pub mod Once
+pub mod Repeated

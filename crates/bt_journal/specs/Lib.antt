@@ -1,0 +1,7 @@
+pub mod Damage
+pub mod Disks
+pub mod Files
+pub mod Frames
+pub mod Heads
+pub mod Journals
+pub mod Stores

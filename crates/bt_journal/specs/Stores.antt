@@ -1,0 +1,56 @@
+-- The state that a file stands for, and what a store is.
+use Rattle.std.specs.Prelude.{◌≡◌, ◌⊎◌, ℕ, Bool, List, [], ◌∷◌, ◌++◌, false}
+use Rattle.bt_journal.specs.Disks.{Only}
+use Rattle.bt_journal.specs.Heads.{IsAccepted}
+use Rattle.bt_journal.specs.Files.{recovered, is_damaged, IsForged}
+use Rattle.bt_journal.specs.Journals.{IsSettled}
+use Rattle.bt_journal.specs.declared.head.Head.{Head}
+use Rattle.bt_journal.specs.declared.journal.Journal.{Journal}
+
+-- what a contract sees of a store: its file, the state of its machine, the head of its file, and whether it is open
+abbrev pub StoreValue : Type 0 → Type 0 → Type 0
+StoreValue D M = D × M × Head × Bool
+
+abbrev pub disk_of : {D M : Type 0} → StoreValue D M → D
+disk_of store = store.0
+
+abbrev pub state_in : {D M : Type 0} → StoreValue D M → M
+state_in store = store.1
+
+abbrev pub head_in : {D M : Type 0} → StoreValue D M → Head
+head_in store = store.2
+
+abbrev pub is_open : {D M : Type 0} → StoreValue D M → Bool
+is_open store = store.3
+
+module _ {M : Type 0} (after : M → List ℕ → M) where
+  -- the state after these payloads, one after the other
+  abbrev pub after_all : M → List (List ℕ) → M
+  after_all state [] = state
+  after_all state (payload ∷ payloads) = after_all (after state payload) payloads
+
+  -- the state that a file stands for, whatever a crash has left of it
+  abbrev pub state_of : M → List ℕ → M
+  state_of blank file = after_all blank (recovered file)
+
+  -- opening a file with this head finds this state: the file is accepted, and is not damaged
+  pub record Finds (blank : M) (head : Head) (expected : M) (file : List ℕ) : Type 0 where
+    pub accepted : IsAccepted head file
+    pub state : state_of blank file ≡ expected
+    pub sound : is_damaged file ≡ false
+
+  -- opening a file finds the state before a payload or after it, unless there is a forgery of its frame
+  abbrev pub IsBeforeOrAfterRun : M → Head → List ℕ → List ℕ → List ℕ → Type 0
+  IsBeforeOrAfterRun blank head old payload file =
+      Finds blank head (state_of blank old) file ⊎ Finds blank head (after (state_of blank old) payload) file ⊎ IsForged head (recovered old) payload file
+
+-- a crash leaves the file as it is, and opening it finds this state
+abbrev pub IsKept : {D M : Type 0} → (D → List ℕ) → (D → List ℕ → Type 0) → (M → List ℕ → M) → M → Head → D → M → Type 0
+IsKept contents outcome after blank head disk state = Only (contents disk) (outcome disk) × Finds after blank head state (contents disk)
+
+-- what is true of an open store: its journal is settled, and the machine has the state of the file
+pub record IsConsistent
+    {D M : Type 0} (contents : D → List ℕ) (outcome : D → List ℕ → Type 0) (is_healthy : D → Bool) (after : M → List ℕ → M) (blank : M)
+    (journal : Journal D) (machine : M) : Type 0 where
+  pub settled : IsSettled contents outcome is_healthy journal
+  pub same : machine ≡ state_of after blank (contents journal.disk)

@@ -1,0 +1,80 @@
+//! A file on a disk: what a read returns, and what a crash may leave.
+ghost use Rattle.std.specs.Prelude.{◌≡◌, ◌≤◌, Bool, IsTrue, List, ℕ, length, take, OnOk};
+ghost use Rattle.bt_journal.specs.Disks.{Only, Follows, Torn, Cut, Swapped, Holds, Elapses, HasCause};
+
+/// A call of the disk failed. It may have done its work, a part of it, or nothing.
+#[derive(Clone, Copy, Debug, Drop, PartialEq, Eq)]
+pub struct DiskFailed;
+
+/// A file whose calls say what a crash may leave of it, at any moment.
+///
+/// A call is one step of its clock. A crash within a call leaves what a crash before it or after it may leave: part of a write is
+/// [`Torn`](Disk::write_at), and a sync may be done or not. The bytes that a read returns are always among the outcomes of a crash, since a process that ends
+/// loses nothing that it wrote. So no clause on outcomes holds for want of any.
+pub trait Disk {
+    /// The bytes that a read returns, while the disk is healthy.
+    ghost contents: { Self → List ℕ };
+
+    /// The files that a crash at this moment may leave.
+    ghost outcome: { Self → List ℕ → Type 0 };
+
+    /// The moment, as a number that never falls.
+    ghost moment: { Self → ℕ };
+
+    /// The files that a crash at any moment from an earlier one to this one may have left.
+    ghost outcome_since: { Self → ℕ → List ℕ → Type 0 };
+
+    /// How many calls have failed.
+    ghost fault_count: { Self → ℕ };
+
+    /// No call has failed since the file was opened or replaced. After one has, nothing is known of the bytes that a read returns. After a sync that failed,
+    /// what was written before may be lost, and a later sync does not report it.
+    ghost is_healthy: { Self → Bool };
+
+    /// Writes bytes over those that are there, and after the end. Until a sync, a crash may leave any bytes in this range.
+    fn write_at(&mut self, at: usize, bytes: Vec<u8>) -> Result<(), DiskFailed>
+        requires { at ≤ length (contents self.old) }
+        ensures survives { OnOk result (outcome self.old (contents self.old) → outcome self.new (contents self.new)) }
+        ensures written { OnOk result (Holds (contents self.old) at bytes.items (contents self.new)) }
+        ensures crash { Follows (Torn at (length bytes.items)) (outcome self.old) (outcome self.new) }
+        ensures healthy { OnOk result (is_healthy self.new ≡ is_healthy self.old) }
+        ensures time { Elapses (moment self.old) (moment self.new) (outcome_since self.old) (outcome_since self.new) (outcome self.new) }
+        ensures cause { HasCause (fault_count self.old) (fault_count self.new) result };
+
+    /// Cuts the file to a length.
+    fn cut(&mut self, len: usize) -> Result<(), DiskFailed>
+        requires { len ≤ length (contents self.old) }
+        ensures survives { OnOk result (outcome self.old (contents self.old) → outcome self.new (contents self.new)) }
+        ensures cut { OnOk result (contents self.new ≡ take len (contents self.old)) }
+        ensures crash { Follows (Cut len) (outcome self.old) (outcome self.new) }
+        ensures healthy { OnOk result (is_healthy self.new ≡ is_healthy self.old) }
+        ensures time { Elapses (moment self.old) (moment self.new) (outcome_since self.old) (outcome_since self.new) (outcome self.new) }
+        ensures cause { HasCause (fault_count self.old) (fault_count self.new) result };
+
+    /// Replaces all bytes at once: a new file with these bytes is synced, and takes the name and the place of this one.
+    fn replace(&mut self, bytes: Vec<u8>) -> Result<(), DiskFailed>
+        ensures survives { OnOk result (outcome self.old (contents self.old) → outcome self.new (contents self.new)) }
+        ensures replaced { OnOk result (contents self.new ≡ bytes.items) }
+        ensures durable { OnOk result (Only bytes.items (outcome self.new)) }
+        ensures crash { Follows (Swapped bytes.items) (outcome self.old) (outcome self.new) }
+        ensures healthy { OnOk result (IsTrue (is_healthy self.new)) }
+        ensures time { Elapses (moment self.old) (moment self.new) (outcome_since self.old) (outcome_since self.new) (outcome self.new) }
+        ensures cause { HasCause (fault_count self.old) (fault_count self.new) result };
+
+    /// Waits until the disk has all that was written: from then on a crash leaves what a read returns.
+    fn sync(&mut self) -> Result<(), DiskFailed>
+        requires { IsTrue (is_healthy self.old) }
+        ensures survives { OnOk result (outcome self.old (contents self.old) → outcome self.new (contents self.new)) }
+        ensures durable { OnOk result (Only (contents self.old) (outcome self.new)) }
+        ensures contents { contents self.new ≡ contents self.old }
+        ensures healthy { OnOk result (IsTrue (is_healthy self.new)) }
+        ensures crash { (c : List ℕ) → outcome self.new c → outcome self.old c }
+        ensures time { Elapses (moment self.old) (moment self.new) (outcome_since self.old) (outcome_since self.new) (outcome self.new) }
+        ensures cause { HasCause (fault_count self.old) (fault_count self.new) result };
+
+    /// This moment is one of those since an earlier one.
+    ghost counts_now: { (file : Self) (t : ℕ) (c : List ℕ) → t ≤ moment file → outcome file c → outcome_since file t c };
+
+    /// Since this moment there is no other.
+    ghost only_now: { (file : Self) (c : List ℕ) → outcome_since file (moment file) c → outcome file c };
+}

@@ -1,0 +1,38 @@
+//! What a store keeps: a state that payloads change.
+ghost use Rattle.std.specs.Prelude.{◌≡◌, Bool, List, ℕ, false, IfOk, OnOk};
+
+use std::alloc::{AllocError, Global};
+
+/// A state that payloads change. The same payloads in the same order lead to the same state.
+pub trait Machine: Drop {
+    /// The state before any payload.
+    ghost blank: { Self };
+
+    /// The state after a payload.
+    ghost after: { Self → List ℕ → Self };
+
+    /// What a payload is answered, from the state before it.
+    ghost answer_to: { Self → List ℕ → List ℕ };
+
+    /// Whether a payload may change a state. One that does not is not kept.
+    ghost changes: { Self → List ℕ → Bool };
+
+    /// Goes on to the state after a payload, replaces the bytes of `answer` by its answer, and says whether the payload may have changed the state. After an
+    /// `Err` nothing is known of the state.
+    fn run(&mut self, payload: &[u8], answer: &mut Vec<u8>) -> Result<bool, AllocError>
+        ensures after { OnOk result (self.new ≡ after self.old payload.now) }
+        ensures answer { OnOk result (answer.new.items ≡ answer_to self.old payload.now) }
+        ensures changes { IfOk result (λ is_changed. is_changed ≡ changes self.old payload.now) }
+        ensures same { changes self.old payload.now ≡ false → after self.old payload.now ≡ self.old };
+}
+
+/// A machine whose whole state one payload can encode.
+pub trait Compact: Machine {
+    /// The state that this payload leads to. To those who read it, it is the same one.
+    ghost compacted: { Self → Self };
+
+    /// Goes on to the compacted state, and returns a payload that leads to it from the blank one.
+    fn compact(&mut self, alloc: Global) -> Result<Vec<u8>, AllocError>
+        ensures compacted { OnOk result (self.new ≡ compacted self.old) }
+        ensures payload { IfOk result (λ payload. Self.Machine.after Self.Machine.blank payload.items ≡ compacted self.old) };
+}

@@ -1,0 +1,146 @@
+//! A machine whose state a crash does not lose: each payload that changes it is in a file before it is acknowledged.
+ghost use Rattle.std.specs.Prelude.{◌≡◌, ◌⊎◌, ◌++◌, if◌then◌else◌, IsTrue, Bool, false, true, ◌<◌, ◌≤◌, ◌^◌, List, ℕ, [], ◌∷◌, length, IfErr, IfOk, IsErrOf, OnOk};
+ghost use Rattle.bt_journal.specs.Disks.{Only, LeavesOnly};
+ghost use Rattle.bt_journal.specs.Heads.{IsAlike};
+ghost use Rattle.bt_journal.specs.Files.{recovered, is_refusal, IsCause};
+ghost use Rattle.bt_journal.specs.Stores.{StoreValue, disk_of, state_in, head_in, is_open, state_of, Finds, IsKept, IsConsistent, IsBeforeOrAfterRun};
+
+use crate::disk::Disk;
+use crate::fault::Fault;
+use crate::head::Head;
+use crate::journal::Journal;
+use crate::machine::{Compact, Machine};
+use crate::steps::{compact, open_state, run_payload};
+use std::alloc::Global;
+use std::marker::Model;
+
+/// A machine, and the journal of the payloads that changed it.
+///
+/// After a call that failed, other than `TooLong` for a payload of a checkpoint, the store is closed: nothing is known of its machine, and the file may have
+/// the payload or not. Open the file again.
+#[derive(Drop)]
+pub struct Store<D: Disk, M: Machine> {
+    journal: Journal<D>,
+    machine: M,
+    is_open: bool,
+}
+
+impl<D: Disk, M: Machine> Model for Store<D, M> {
+    ghost Value = { StoreValue D M };
+
+    ghost view = { λ s. (s.journal.disk, s.machine, s.journal.head, s.is_open) };
+
+    ghost invariant = { λ s. IsTrue s.is_open → IsConsistent D.contents D.outcome D.is_healthy M.after M.blank s.journal s.machine };
+}
+
+impl<D: Disk, M: Machine> Store<D, M> {
+    /// Opens a file that a crash may have left and that has these bytes, and runs its payloads. It may crash too, at any moment; then the file stands for the
+    /// same state. An empty file gets the head. An `Err` returns the file.
+    pub fn open(
+        alloc: Global,
+        disk: D,
+        bytes: &[u8],
+        head: Head,
+        machine: M,
+    ) -> Result<Store<D, M>, (Fault, D)>
+        // After a restart, what is read is what is on the disk.
+        requires read { bytes.now ≡ D.contents disk }
+        requires durable { Only (D.contents disk) (D.outcome disk) }
+        requires healthy { IsTrue (D.is_healthy disk) }
+        requires blank { machine ≡ M.blank }
+
+        ensures open { IfOk result (λ store. IsTrue (is_open store)) }
+        ensures head { IfOk result (λ store. IsAlike head (head_in store)) }
+        ensures state { IfOk result (λ store. state_in store ≡ state_of M.after M.blank (D.contents disk)) }
+        ensures kept { IfOk result (λ store. IsKept D.contents D.outcome M.after M.blank (head_in store) (disk_of store) (state_in store)) }
+        ensures sound { IfOk result (λ _. Finds M.after M.blank head (state_of M.after M.blank (D.contents disk)) (D.contents disk)) }
+
+        // A crash at any moment of the call leaves a file in which the next one finds the same state.
+        ensures any_moment { IfOk result (λ store. LeavesOnly D.moment D.outcome_since disk (disk_of store)
+            (Finds M.after M.blank head (state_of M.after M.blank (D.contents disk)))) }
+        ensures any_moment_err { IfErr result (λ e. is_refusal e.0 ≡ false → LeavesOnly D.moment D.outcome_since disk e.1
+            (Finds M.after M.blank head (state_of M.after M.blank (D.contents disk)))) }
+
+        // An error has a cause, and a file that is refused is as it was.
+        ensures cause { IfErr result (λ e. IsCause head (D.contents disk) e.0) }
+        ensures failed { IfErr result (λ e. e.0 ≡ Fault.Failed → D.fault_count disk < D.fault_count e.1) }
+        ensures unchanged { IfErr result (λ e. is_refusal e.0 ≡ true → e.1 ≡ disk) }
+    {
+        let (journal, machine) = open_state(alloc, disk, bytes, head, machine)?;
+        Ok(Store {
+            journal,
+            machine,
+            is_open: true,
+        })
+    }
+
+    /// The machine. While the store is open, its state is that of the file.
+    pub fn machine(&self) -> &M
+        ensures { result.now ≡ state_in self.now }
+    {
+        &self.machine
+    }
+
+    /// Does nothing. Its contract is what is true of an open store between any two calls: a crash leaves a file of its state.
+    pub fn standing(&self)
+        ensures { IsTrue (is_open self.now) → IsKept D.contents D.outcome M.after M.blank (head_in self.now) (disk_of self.now) (state_in self.now) }
+    {
+        let _is_open = self.is_open;
+    }
+
+    /// Runs a payload, and replaces the bytes of `answer` by its answer. At `Ok` its change is acknowledged: from then on each crash leaves a file that has it.
+    /// At `Err` the store is closed: open the file again.
+    pub fn run(&mut self, alloc: Global, payload: &[u8], answer: &mut Vec<u8>) -> Result<(), Fault>
+        ensures open { OnOk result (IsTrue (is_open self.old) × IsTrue (is_open self.new)) }
+        ensures acknowledged { OnOk result (state_in self.new ≡ M.after (state_in self.old) payload.now) }
+        ensures answer { OnOk result (answer.new.items ≡ M.answer_to (state_in self.old) payload.now) }
+        ensures kept { OnOk result (IsKept D.contents D.outcome M.after M.blank (head_in self.new) (disk_of self.new) (state_in self.new)) }
+        ensures logged { OnOk result (recovered (D.contents (disk_of self.new))
+            ≡ recovered (D.contents (disk_of self.old)) ++ (if M.changes (state_in self.old) payload.now then payload.now ∷ [] else [])) }
+        ensures head { head_in self.new ≡ head_in self.old }
+
+        // A crash at any moment of the call leaves a file in which `open` finds the state before the payload or after it, unless there is a forgery.
+        ensures any_moment { IsTrue (is_open self.old) → LeavesOnly D.moment D.outcome_since (disk_of self.old) (disk_of self.new)
+            (IsBeforeOrAfterRun M.after M.blank (head_in self.old) (D.contents (disk_of self.old)) payload.now) }
+
+        // An error has a cause, and a closed store changes nothing.
+        ensures failed { IsErrOf result Fault.Failed → D.fault_count (disk_of self.old) < D.fault_count (disk_of self.new) }
+        ensures was_closed { IsErrOf result Fault.Closed → is_open self.old ≡ false }
+        ensures closed { is_open self.old ≡ false → (is_open self.new ≡ false) × (disk_of self.new ≡ disk_of self.old) }
+    {
+        if !self.is_open {
+            return Err(Fault::Closed);
+        }
+        self.is_open = false;
+        run_payload(alloc, &mut self.journal, &mut self.machine, payload, answer)?;
+        self.is_open = true;
+        Ok(())
+    }
+}
+
+impl<D: Disk, M: Compact> Store<D, M> {
+    /// Compacts the state, and puts a new file with one payload in the place of the old one. At `Err` the store is closed: open the file again.
+    pub fn checkpoint(&mut self, alloc: Global) -> Result<(), Fault>
+        ensures open { OnOk result (IsTrue (is_open self.old) × IsTrue (is_open self.new)) }
+        ensures acknowledged { OnOk result (state_in self.new ≡ M.compacted (state_in self.old)) }
+        ensures kept { OnOk result (IsKept D.contents D.outcome M.after M.blank (head_in self.new) (disk_of self.new) (state_in self.new)) }
+        ensures head { IsAlike (head_in self.old) (head_in self.new) }
+
+        // A crash at any moment of the call leaves a file in which `open` finds the state of before, or that state compacted.
+        ensures any_moment { IsTrue (is_open self.old) → LeavesOnly D.moment D.outcome_since (disk_of self.old) (disk_of self.new)
+            (λ file. Finds M.after M.blank (head_in self.old) (state_in self.old) file ⊎ Finds M.after M.blank (head_in self.old) (M.compacted (state_in self.old)) file) }
+
+        // An error has a cause, and a closed store changes nothing.
+        ensures failed { IsErrOf result Fault.Failed → D.fault_count (disk_of self.old) < D.fault_count (disk_of self.new) }
+        ensures was_closed { IsErrOf result Fault.Closed → is_open self.old ≡ false }
+        ensures closed { is_open self.old ≡ false → (is_open self.new ≡ false) × (disk_of self.new ≡ disk_of self.old) }
+    {
+        if !self.is_open {
+            return Err(Fault::Closed);
+        }
+        self.is_open = false;
+        compact(alloc, &mut self.journal, &mut self.machine)?;
+        self.is_open = true;
+        Ok(())
+    }
+}

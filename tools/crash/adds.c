@@ -1,0 +1,31 @@
+/* A client of tools/crash/engine: makes the requests of two numbers and those between them, each once, and prints each number after its reply. */
+#include "betable_engine.h"
+#include <stdio.h>
+#include <stdlib.h>
+
+int main(int count, char **words) {
+    if (count != 4)
+        return 2;
+    betable_engine engine = BETABLE_ENGINE_CLOSED;
+    betable_engine_options options = {.workers = 2, .keep = words[1]};
+    if (betable_engine_open(&engine, &options) != BETABLE_DONE)
+        return 1;
+    printf("%d\n", (int)betable_engine_process(&engine));
+    fflush(stdout);
+    betable_engine_status status = BETABLE_DONE;
+    for (long long number = atoll(words[2]), last = atoll(words[3]); number <= last && status == BETABLE_DONE; number++) {
+        char script[64];
+        unsigned char id[BETABLE_ENGINE_ID] = {0};
+        betable_fault fault;
+        int length = snprintf(script, sizeof script, "batch\nups 1,add,qty,%lld\nend\n", number);
+        for (int place = 0; place < 8; place++)
+            id[place] = (unsigned char)(number >> 8 * place & 255);
+        status = betable_engine_once(&engine, id, BETABLE_ENGINE_SCRIPT, (const unsigned char *)script, (size_t)length, &fault);
+        if (status == BETABLE_DONE) {
+            printf("%lld\n", number);
+            fflush(stdout);
+        }
+    }
+    betable_engine_close(&engine);
+    return status == BETABLE_DONE ? 0 : 1;
+}
