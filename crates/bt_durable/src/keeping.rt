@@ -1,5 +1,5 @@
 //! Serving requests whose changes are kept.
-ghost use Rattle.std.specs.Prelude.{◌≡◌, ◌<◌, ◌++◌, [], List, Option, ℕ, false, true, IfOk, IsErrOf, IsTrue, OnErr, OnOk, length};
+ghost use Rattle.std.specs.Prelude.{◌≡◌, ◌<◌, ◌≤◌, ◌++◌, [], List, Option, ℕ, false, true, IfOk, IsErrOf, IsTrue, OnErr, OnOk, length};
 ghost use Rattle.bt_script.specs.Streams.{has_failed, has_unflushed};
 ghost use Rattle.bt_frame.specs.Services.{IsLast};
 ghost use Rattle.bt_frame.specs.declared.arrival.Arrival.{Arrival as arrival_type};
@@ -12,7 +12,7 @@ use crate::groups::{Ahead, Ending, Room, receive_group};
 use crate::replying::{KeepFault, reply_to_group, reply_to_other};
 use crate::service_machine::ServiceMachine;
 use bt_frame::{Arrival, Service};
-use bt_journal::{Disk, Store};
+use bt_journal::{Disk, Fault, Store};
 use bt_script::{Counted, RunFault};
 use std::alloc::{AllocError, Global};
 use std::io::Write;
@@ -63,6 +63,7 @@ fn reply_to_ending<'a, D: Disk, X, S: Service<X> + Drop, W: Write>(
         × HasStopped S.after S.reply S.blank D.moment D.outcome D.outcome_since W.contents store.now store.now output.old output.new answered []) }
     ensures flushed { OnOk result (has_unflushed output.new ≡ false) }
     ensures write { IsErrOf result (KeepFault.Stream RunFault.Write) → has_failed output.new ≡ true }
+    ensures disk { IsErrOf result (KeepFault.Store Fault.Failed) → ⊥ }
 {
     store.standing();
     match ending {
@@ -94,6 +95,8 @@ fn serve_group<'a, I: Ahead + Drop, D: Disk, X, S: Service<X> + Drop, W: Write>(
     ensures piece { 0 < length room.new.piece.items }
     ensures flushed { OnOk result (has_unflushed output.new ≡ false) }
     ensures write { IsErrOf result (KeepFault.Stream RunFault.Write) → has_failed output.new ≡ true }
+    ensures disk { IsErrOf result (KeepFault.Store Fault.Failed) → D.fault_count (disk_of store.old) < D.fault_count (disk_of store.new) }
+    ensures counted { D.fault_count (disk_of store.old) ≤ D.fault_count (disk_of store.new) }
 {
     store.standing();
     let (rest, ending) = receive_group(input, most, room)?;
@@ -127,6 +130,8 @@ pub fn serve_and_keep<'a, I: Ahead + Drop, D: Disk, X, S: Service<X> + Drop, W: 
     ensures stopped { OnErr result ((answered : List (arrival_type × List ℕ)) × (pending : List (arrival_type × List ℕ)) × AreFirst most (I.remaining input) (answered ++ pending)
         × HasStopped S.after S.reply S.blank D.moment D.outcome D.outcome_since W.contents store.old store.new output.old output.new answered pending) }
     ensures write { IsErrOf result (KeepFault.Stream RunFault.Write) → has_failed output.new ≡ true }
+    ensures disk { IsErrOf result (KeepFault.Store Fault.Failed) → D.fault_count (disk_of store.old) < D.fault_count (disk_of store.new) }
+    ensures counted { D.fault_count (disk_of store.old) ≤ D.fault_count (disk_of store.new) }
 {
     store.standing();
     let mut room = Room::new(alloc)?;

@@ -1,5 +1,5 @@
 //! Replies that are written once the change is on the disk.
-ghost use Rattle.std.specs.Prelude.{◌≡◌, ◌++◌, [], ◌∷◌, List, ℕ, false, true, IsErrOf, IsTrue, OnErr, OnOk};
+ghost use Rattle.std.specs.Prelude.{◌≡◌, ◌<◌, ◌≤◌, ◌++◌, [], ◌∷◌, List, ℕ, false, true, IsErrOf, IsTrue, OnErr, OnOk};
 ghost use Rattle.bt_script.specs.Streams.{has_failed, has_unflushed};
 ghost use Rattle.bt_frame.specs.Services.{IsNoRequest};
 ghost use Rattle.bt_frame.specs.declared.arrival.Arrival.{Arrival as arrival_type};
@@ -71,6 +71,8 @@ pub(crate) fn reply_to_group<'a, D: Disk, X, S: Service<X> + Drop, W: Write>(
         × HasStopped S.after S.reply S.blank D.moment D.outcome D.outcome_since W.contents store.old store.new output.old output.new answered pending) }
     ensures flushed { OnOk result (has_unflushed output.new ≡ false) }
     ensures write { IsErrOf result (KeepFault.Stream RunFault.Write) → has_failed output.new ≡ true }
+    ensures disk { IsErrOf result (KeepFault.Store Fault.Failed) → D.fault_count (disk_of store.old) < D.fault_count (disk_of store.new) }
+    ensures counted { D.fault_count (disk_of store.old) ≤ D.fault_count (disk_of store.new) }
 {
     store.standing();
     store.run(alloc, group, answer)?;
@@ -94,6 +96,7 @@ pub(crate) fn reply_to_other<'a, D: Disk, X, S: Service<X> + Drop, W: Write>(
         ((arrival, payload) ∷ []) []) }
     ensures flushed { OnOk result (has_unflushed output.new ≡ false) }
     ensures write { IsErrOf result (KeepFault.Stream RunFault.Write) → has_failed output.new ≡ true }
+    ensures disk { IsErrOf result (KeepFault.Store Fault.Failed) → ⊥ }
 {
     store.standing();
     let reply = store.machine().refuse(arrival, Vec::new(alloc))?;

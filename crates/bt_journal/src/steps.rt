@@ -1,5 +1,5 @@
 //! The steps of a store on its journal and its machine.
-ghost use Rattle.std.specs.Prelude.{◌≡◌, ◌⊎◌, ◌++◌, if◌then◌else◌, IsTrue, false, true, ◌<◌, List, ℕ, [], ◌∷◌, length, IfErr, IfOk, IsErrOf, OnOk};
+ghost use Rattle.std.specs.Prelude.{◌≡◌, ◌⊎◌, ◌++◌, if◌then◌else◌, IsTrue, false, true, ◌<◌, ◌≤◌, List, ℕ, [], ◌∷◌, length, IfErr, IfOk, IsErrOf, OnOk};
 ghost use Rattle.bt_journal.specs.Disks.{Only, LeavesOnly};
 ghost use Rattle.bt_journal.specs.Heads.{IsAlike};
 ghost use Rattle.bt_journal.specs.Files.{recovered, is_refusal, IsCause};
@@ -68,6 +68,7 @@ pub(crate) fn run_payload<D: Disk, M: Machine>(
     ensures any_moment { LeavesOnly D.moment D.outcome_since journal.old.disk journal.new.disk
         (IsBeforeOrAfterRun M.after M.blank journal.old.head (D.contents journal.old.disk) payload.now) }
     ensures failed { IsErrOf result Fault.Failed → D.fault_count journal.old.disk < D.fault_count journal.new.disk }
+    ensures counted { D.fault_count journal.old.disk ≤ D.fault_count journal.new.disk }
     ensures no_other { IsErrOf result Fault.Closed → ⊥ }
 {
     let is_changed = machine.run(payload, answer)?;

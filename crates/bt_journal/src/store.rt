@@ -105,6 +105,7 @@ impl<D: Disk, M: Machine> Store<D, M> {
 
         // An error has a cause, and a closed store changes nothing.
         ensures failed { IsErrOf result Fault.Failed → D.fault_count (disk_of self.old) < D.fault_count (disk_of self.new) }
+        ensures counted { D.fault_count (disk_of self.old) ≤ D.fault_count (disk_of self.new) }
         ensures was_closed { IsErrOf result Fault.Closed → is_open self.old ≡ false }
         ensures closed { is_open self.old ≡ false → (is_open self.new ≡ false) × (disk_of self.new ≡ disk_of self.old) }
     {

@@ -34,6 +34,7 @@ groups-init g c =
     record {
       piece = search rules;
       flushed = search rules;
+      counted = omega arith;
       run = (
         [],
         none_arrived c.args.most (g.I.Read.remaining c.args.input),
@@ -61,6 +62,7 @@ groups-preserved g c =
     record {
       piece = search rules;
       flushed = search rules;
+      counted = omega (arith, c.groups.invariant.counted, c.serve_group.ensures.counted);
       run = one_more_group s.after s.reply s.blank d.moment d.outcome d.outcome_since g.W.Write.contents c.args.store.now c.groups.store c.serve_group.new.store c.args.output.now
           c.groups.output c.serve_group.new.output c.args.most (g.I.Read.remaining c.args.input) (g.I.Read.remaining c.groups.source)
           (g.I.Read.remaining c.in_ok-rest.rest) c.groups.invariant.run next;
