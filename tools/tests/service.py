@@ -612,7 +612,7 @@ BAD_REQUESTS = [
 # Bytes that are no request of HTTP.
 NO_REQUESTS = [
     b"\x00\xff\r\n\r\n",
-    b"GET / HTTP/9.9\r\n\r\n",
+    b"GET / HTTP/x\r\n\r\n",
     b"GET\r\n\r\n",
     b"POST /run HTTP/1.1\r\nContent-Length: x\r\n\r\n",
     b"\x16\x03\x01\x02\x00",
