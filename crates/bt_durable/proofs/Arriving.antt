@@ -1,5 +1,5 @@
 -- What arrives of an input, part after part.
-use Rattle.std.proofs.Common.{◌≡◌, ◌∙◌, ◌≤◌, ◌<◌, ◌^◌, ◌++◌, ℕ, List, [], ◌∷◌, Option, None, Some, IfSome, IfNone, Bool, true, false, ap, append-nil, append_assoc, arith, length, refl, subst, sym}
+use Rattle.std.proofs.Common.{◌≡◌, ◌∙◌, ◌<◌, ◌^◌, ◌++◌, ℕ, List, [], ◌∷◌, Option, None, Some, IfSome, IfNone, Bool, true, false, ap, append-nil, append_assoc, arith, length, refl, subst, sym}
 use Rattle.std.specs.Io.KnownBytes.{Consumes, IsAtEnd}
 use Rattle.std.specs.Prelude.{not}
 use Rattle.std.proofs.KnownBytes.{Consumes-nil, Consumes-trans}
@@ -13,7 +13,7 @@ use Rattle.bt_frame.specs.declared.arrival.Arrival.TheVariants.{CutOff, Frame, N
 use Rattle.bt_frame.proofs.offered.Arrivals.{nothing_arrives, sent_arrives}
 use Rattle.bt_durable.specs.Inputs.{AreAll, AreFirst, Arrive, Continue, Reads, ReadsGroup, ReadsNext, ReadsUpTo, received_of}
 use Rattle.bt_durable.specs.Payloads.{no_limit, requests}
-use Rattle.bt_durable.specs.declared.groups.Ending.TheVariants.{End, More, Other}
+use Rattle.bt_durable.specs.declared.groups.Ending.TheVariants.{End, More}
 
 -- ---- what a reader gave
 

@@ -1,4 +1,5 @@
 mod Arriving
+mod Faults
 mod KnownRequests
 mod RepeatedRequests
 mod RepliedParts

@@ -1,5 +1,5 @@
 -- A request that ran is known for as long as fewer requests than can be known have run since.
-use Rattle.std.proofs.Common.{◌≡◌, ◌∙◌, ℕ, zero, suc, ◌+◌, ◌-◌, ◌<◌, ◌≤◌, ◌==◌, Bool, true, false, codes, cond, List, [], ◌∷◌, Option, None, Some}
+use Rattle.std.proofs.Common.{◌≡◌, ◌∙◌, ℕ, zero, suc, ◌+◌, ◌-◌, ◌<◌, ◌≤◌, ◌==◌, Bool, true, false, codes, List, [], ◌∷◌, Option, None, Some}
 use Rattle.std.proofs.Common.{ap, arith, if◌then◌else◌, length, nat_eq, refl, subst, sym, take}
 use Rattle.std.proofs.lemmas.Bool.{eq-eqb, eqb-true}
 use Rattle.std.specs.Map.{lookup}

@@ -1,14 +1,14 @@
 -- Replies of a store, part after part, and what a crash leaves.
-use Rattle.std.proofs.Common.{◌≡◌, ◌∙◌, ◌≤◌, ◌-◌, ◌^◌, ◌++◌, ◌⊎◌, inl, inr, ⊎_elim, IsTrue, Bool, true, false, ℕ, List, [], ◌∷◌, Option, ap, append-nil, append_assoc, arith, refl, subst, sym}
+use Rattle.std.proofs.Common.{◌≡◌, ◌∙◌, ◌≤◌, ◌-◌, ◌^◌, ◌++◌, ◌⊎◌, inl, inr, ⊎_elim, IsTrue, Bool, true, false, ℕ, List, [], ◌∷◌, Option, ap, append-nil, append_assoc, refl, subst, sym}
 use Rattle.bt_script.specs.Streams.{Took, TookPrefix, count_of}
 use Rattle.bt_script.specs.declared.counted.Counted.{Counted}
-use Rattle.bt_script.proofs.offered.Streams.{Took-nil, Took-trans, prefix-all, prefix-more}
+use Rattle.bt_script.proofs.offered.Streams.{Took-nil, Took-trans, prefix-more}
 use Rattle.bt_frame.specs.Services.{after_arrivals, answers}
 use Rattle.bt_frame.specs.declared.arrival.Arrival.{Arrival}
-use Rattle.bt_frame.proofs.offered.Exchanges.{after-append, after-none, after-one, answers-append, answers-none, answers-one}
-use Rattle.bt_journal.specs.Disks.{LeavesOnly, Only}
+use Rattle.bt_frame.proofs.offered.Exchanges.{after-append, after-none, after-one, answers-append, answers-none}
+use Rattle.bt_journal.specs.Disks.{LeavesOnly}
 use Rattle.bt_journal.specs.Files.{recovered}
-use Rattle.bt_journal.specs.Stores.{Finds, IsBeforeOrAfterRun, IsKept, StoreValue, disk_of, head_in, is_open, state_in, state_of}
+use Rattle.bt_journal.specs.Stores.{IsBeforeOrAfterRun, IsKept, StoreValue, disk_of, head_in, is_open, state_in, state_of}
 use Rattle.bt_journal.specs.declared.head.Head.{Head}
 use Rattle.bt_journal.proofs.offered.Moments.{follows_on, leaves_also, started}
 use Rattle.bt_durable.specs.Inputs.{AreAll, AreFirst, Arrive, Continue, ReadsGroup}

@@ -5,7 +5,7 @@ use Rattle.bt_frame.specs.Services.{after_arrivals, answers}
 use Rattle.bt_frame.specs.declared.arrival.Arrival.{Arrival}
 use Rattle.bt_frame.specs.declared.arrival.Arrival.TheVariants.{Frame}
 use Rattle.bt_journal.specs.Frames.{mixed, sum_from}
-use Rattle.bt_durable.specs.Once.{OnceState, exchanged, once_after, once_reply}
+use Rattle.bt_durable.specs.Once.{OnceState, once_after, once_reply}
 use Rattle.bt_durable.specs.Payloads.{after_payload, replies_to}
 
 -- a service that counts the bytes of payloads, and replies with its count

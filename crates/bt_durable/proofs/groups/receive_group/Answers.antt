@@ -1,4 +1,4 @@
-use Rattle.std.proofs.Common.{◌≡◌, ◌∙◌, ◌++◌, rules, [], List, ℕ, ap, subst, sym}
+use Rattle.std.proofs.Common.{◌≡◌, ◌∙◌, ◌++◌, rules, List, ℕ, ap, subst, sym}
 use Rattle.bt_frame.specs.Frames.{frame}
 use Rattle.bt_durable.specs.Inputs.{ReadsGroup}
 use Rattle.bt_durable.proofs.Arriving.{no_group, one_request, up_to_end, up_to_more}

@@ -1,12 +1,9 @@
-use Rattle.std.proofs.Common.{◌≡◌, ◌∷◌, [], List, ℕ, OnErr, Result, Ok, Err, arith}
+use Rattle.std.proofs.Common.{◌∷◌, [], arith}
 use Rattle.bt_journal.specs.Stores.{disk_of, head_in, state_in}
 use Rattle.bt_durable.proofs.Arriving.{continue_after, one_is_first}
+use Rattle.bt_durable.proofs.Faults.{on_err}
 use Rattle.bt_durable.proofs.RepliedParts.{kept_first, replied_none}
 use Rattle.bt_durable.proofs.keeping.reply_to_ending.Goals as goal
-
-on_err : {A E : Type 0} (result : Result A E) {Fact : Type 0} → Fact → OnErr result Fact
-on_err (Ok a) fact = tt
-on_err (Err e) fact = fact
 
 pub returns-in-More-clause-replied : goal.returns-in-More-clause-replied
 returns-in-More-clause-replied g c =

@@ -1,15 +1,9 @@
-use Rattle.std.proofs.Common.{◌≡◌, ◌++◌, rules, [], List, ℕ, Bool, true, false, OnErr, Result, Ok, Err, arith, subst, sym}
-use Rattle.bt_frame.specs.declared.arrival.Arrival.{Arrival}
-use Rattle.bt_journal.specs.Stores.{disk_of, head_in, is_open, state_in}
-use Rattle.bt_durable.specs.Inputs.{Continue}
-use Rattle.bt_durable.specs.Keeping.{HasReplied}
+use Rattle.std.proofs.Common.{◌≡◌, rules, [], true, false, arith}
+use Rattle.bt_journal.specs.Stores.{disk_of, head_in, state_in}
 use Rattle.bt_durable.proofs.Arriving.{none_arrived, none_is_first}
+use Rattle.bt_durable.proofs.Faults.{on_err}
 use Rattle.bt_durable.proofs.RepliedParts.{broken_group, kept_first, last_group, one_more_group, replied_none, stopped_none}
 use Rattle.bt_durable.proofs.keeping.serve_and_keep.Goals as goal
-
-on_err : {A E : Type 0} (result : Result A E) {Fact : Type 0} → Fact → OnErr result Fact
-on_err (Ok a) fact = tt
-on_err (Err e) fact = fact
 
 pub returns-in_err-room-clause-stopped : goal.returns-in_err-room-clause-stopped
 returns-in_err-room-clause-stopped g c =

@@ -1,13 +1,10 @@
-use Rattle.std.proofs.Common.{◌≡◌, [], List, ℕ, OnErr, Result, Ok, Err, arith, subst, sym}
+use Rattle.std.proofs.Common.{[], List, ℕ, arith, subst, sym}
 use Rattle.bt_journal.specs.Stores.{disk_of, head_in, state_in}
 use Rattle.bt_durable.specs.Inputs.{ReadsGroup}
 use Rattle.bt_durable.proofs.Arriving.{none_is_first}
+use Rattle.bt_durable.proofs.Faults.{on_err}
 use Rattle.bt_durable.proofs.RepliedParts.{ending_stopped, group_served, group_stopped, kept_first, stopped_none}
 use Rattle.bt_durable.proofs.keeping.serve_group.Goals as goal
-
-on_err : {A E : Type 0} (result : Result A E) {Fact : Type 0} → Fact → OnErr result Fact
-on_err (Ok a) fact = tt
-on_err (Err e) fact = fact
 
 pub returns-in_err-rest-clause-stopped : goal.returns-in_err-rest-clause-stopped
 returns-in_err-rest-clause-stopped g c =

@@ -1,4 +1,4 @@
-use Rattle.std.proofs.Common.{◌≡◌, ◌∙◌, ◌++◌, ap}
+use Rattle.std.proofs.Common.{◌∙◌, ◌++◌, ap}
 use Rattle.bt_frame.specs.declared.arrival.Arrival.TheVariants.{Frame}
 use Rattle.bt_durable.proofs.KnownRequests.{put_known, state_is, stored}
 use Rattle.bt_durable.proofs.once.run_first.Goals as goal

@@ -1,15 +1,12 @@
-use Rattle.std.proofs.Common.{◌≡◌, ◌∙◌, [], List, ℕ, OnErr, Result, Ok, Err, append-nil, arith, refl, subst, sym}
+use Rattle.std.proofs.Common.{◌≡◌, ◌∙◌, [], List, ℕ, append-nil, arith, refl, subst}
 use Rattle.bt_script.specs.Streams.{Took, TookPrefix}
 use Rattle.bt_script.proofs.offered.Streams.{Took-kept, prefix-all}
 use Rattle.bt_frame.specs.Services.{answers}
 use Rattle.bt_journal.specs.Stores.{disk_of, state_in}
 use Rattle.bt_durable.specs.Payloads.{requests}
+use Rattle.bt_durable.proofs.Faults.{on_err}
 use Rattle.bt_durable.proofs.RepliedParts.{run_failed, run_replied, run_unwritten}
 use Rattle.bt_durable.proofs.replying.reply_to_group.Goals as goal
-
-on_err : {A E : Type 0} (result : Result A E) {Fact : Type 0} → Fact → OnErr result Fact
-on_err (Ok a) fact = tt
-on_err (Err e) fact = fact
 
 pub returns-in_err-run-clause-stopped : goal.returns-in_err-run-clause-stopped
 returns-in_err-run-clause-stopped g c =

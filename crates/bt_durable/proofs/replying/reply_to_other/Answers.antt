@@ -1,16 +1,13 @@
-use Rattle.std.proofs.Common.{◌≡◌, ◌∙◌, ◌∷◌, [], List, ℕ, OnErr, OnOk, Result, Ok, Err, ap, arith, refl, subst, sym}
+use Rattle.std.proofs.Common.{◌≡◌, ◌∙◌, ◌∷◌, [], List, ℕ, ap, arith, subst, sym}
 use Rattle.bt_script.specs.Streams.{Took, TookPrefix}
 use Rattle.bt_script.proofs.offered.Streams.{Took-nil}
 use Rattle.bt_frame.specs.Frames.{frame}
 use Rattle.bt_frame.specs.Services.{answers, reply_frame}
 use Rattle.bt_frame.proofs.offered.Exchanges.{answers-one}
 use Rattle.bt_journal.specs.Stores.{disk_of, head_in, state_in}
+use Rattle.bt_durable.proofs.Faults.{on_err}
 use Rattle.bt_durable.proofs.RepliedParts.{kept_first, replied_one, stopped_one}
 use Rattle.bt_durable.proofs.replying.reply_to_other.Goals as goal
-
-on_err : {A E : Type 0} (result : Result A E) {Fact : Type 0} → Fact → OnErr result Fact
-on_err (Ok a) fact = tt
-on_err (Err e) fact = fact
 
 pub returns-in_err-reply-clause-stopped : goal.returns-in_err-reply-clause-stopped
 returns-in_err-reply-clause-stopped g c =

@@ -1,4 +1,4 @@
-use Rattle.std.proofs.Common.{◌≡◌, ◌∙◌, List, ℕ, ap, sym}
+use Rattle.std.proofs.Common.{◌∙◌, ap, sym}
 use Rattle.bt_durable.proofs.ServedPayloads.{left_after, tested_after, text_after}
 use Rattle.bt_durable.proofs.service_machine.serve_payload.Goals as goal
 

@@ -1,4 +1,4 @@
-use Rattle.std.proofs.Common.{◌≡◌, ℕ, ◌==◌, Bool, true, false, List, Option, None, Some, if◌then◌else◌, refl, subst, sym}
+use Rattle.std.proofs.Common.{ℕ, ◌==◌, Bool, true, false, List, Option, None, Some, if◌then◌else◌, refl, subst, sym}
 use Rattle.std.specs.Io.Buffered.{reader_buffer, reader_capacity, reader_inner, reader_remaining}
 use Rattle.std.specs.Io.KnownBytes.{prepend_known}
 use Rattle.bt_durable.specs.Inputs.{AreAhead}
