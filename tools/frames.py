@@ -4,6 +4,7 @@ import struct
 
 MAGIC = b"BTF\1"
 SCRIPT, CHECK, APPLY, GET, PAGE, LAST_PAGE, SUMS, COLUMNS, USAGE, TREES, EXPLAIN, ONCE = range(1, 13)
+RESTORE, KNOWN = 14, 15
 DONE, REFUSED, INVALID = range(3)
 
 
@@ -14,6 +15,11 @@ def frame(kind, payload=b"", length=None):
 def once(number, payload, kind=SCRIPT):
     """A request that runs once, with this number as its id."""
     return frame(ONCE, number.to_bytes(16, "little") + bytes([kind]) + payload)
+
+
+def snapshot(script, rows):
+    """The payload of a request that restores a table: a script that makes it, and its rows as a CSV text."""
+    return struct.pack("<Q", len(script)) + script + rows
 
 
 def frames_of(output):

@@ -26,7 +26,7 @@ from unittest import SkipTest, TestCase
 
 from .. import frames
 from ..crews import CREWS
-from ..frames import APPLY, CHECK, COLUMNS, DONE, EXPLAIN, GET, INVALID, LAST_PAGE, PAGE, REFUSED, SCRIPT, SUMS, TREES, USAGE, frame, frames_of
+from ..frames import APPLY, CHECK, COLUMNS, DONE, EXPLAIN, GET, INVALID, LAST_PAGE, PAGE, REFUSED, RESTORE, SCRIPT, SUMS, TREES, USAGE, frame, frames_of
 from . import csv_puts, python_changes, python_columns, python_ranges
 from .clients import WORKED, betable, build_extension, library
 from .common import SECONDS, TOP, fault_of, run
@@ -231,7 +231,7 @@ class Frames(TestCase):
                 self.assertEqual(answered(first + garbage + last), [done(b"table 3\n", (8, 1)), (INVALID, b"NoFrame")])
 
     def test_a_kind_that_is_unknown_is_answered_and_the_next_request_too(self):
-        unknown = [kind for kind in range(256) if not SCRIPT <= kind <= EXPLAIN]
+        unknown = [kind for kind in range(256) if not SCRIPT <= kind <= EXPLAIN and kind != RESTORE]
         given = b"".join(frame(kind, TABLE) + frame(SCRIPT, b"get 1\n") for kind in unknown)
         wanted = [(INVALID, b"UnknownKind"), done(b"refused 3 NoTable\n", (18, 2))] * len(unknown)
         self.assertEqual(answered(given), wanted)

@@ -473,7 +473,9 @@ def file_after(operations, path):
 
 
 @needs("cc")
-class Faults(KeptTables):
+class FaultyCalls(KeptTables):
+    """Runs the engine with a fault at one of its calls of the system."""
+
     @classmethod
     def setUpClass(cls):
         super().setUpClass()
@@ -482,14 +484,20 @@ class Faults(KeptTables):
         cls.library = f"{folder.name}/faults.so"
         output_of(["cc", "-std=c11", "-shared", "-fPIC", TOP / "tools/crash/faults.c", "-o", cls.library])
 
-    def run_with(self, killed=-1, failed=-1, part=NOTHING, refused=-1):
-        """Runs all steps on a new file, with a fault: the status, the number of replies, the error, and the operations on files."""
-        for path in self.path.parent.iterdir():
-            path.unlink()
+    def run_with(self, *steps, killed=-1, failed=-1, part=NOTHING, refused=-1):
+        """Runs steps with a fault: the status, the number of replies, the error, and the operations on files."""
         trace = self.path.parent.with_name("trace")
         words = f"{self.path.parent} {trace} {killed} {failed} {failed} {part} {errno.ENOSPC} {refused}"
-        status, texts, errors = keep(self.path, *STEPS, env={"LD_PRELOAD": self.library, "FAULTS": words})
+        status, texts, errors = keep(self.path, *steps, env={"LD_PRELOAD": self.library, "FAULTS": words})
         return status, len(texts), errors, list(operations_of(trace.read_bytes()))
+
+
+class Faults(FaultyCalls):
+    def run_anew(self, **fault):
+        """Runs all steps on a new file, with a fault."""
+        for path in self.path.parent.iterdir():
+            path.unlink()
+        return self.run_with(*STEPS, **fault)
 
     def count_of_steps(self):
         """After how many steps the table is as it is in the file."""
@@ -508,26 +516,26 @@ class Faults(KeptTables):
         self.assertEqual(keep(self.path, *STEPS[found:], "image primary\n")[1][-1], replies("".join(STEPS) + "image primary\n")[len(replies("".join(STEPS))) :])
 
     def test_the_process_is_killed_at_each_call(self):
-        operations = self.run_with()[3]
+        operations = self.run_anew()[3]
         for killed in range(len(operations)):
             for part in (NOTHING, HALF, ALL_BUT_A_BYTE, WHOLE):
                 with self.subTest(killed=killed, part=part):
-                    status, answered, _, _ = self.run_with(killed=killed, part=part)
+                    status, answered, _, _ = self.run_anew(killed=killed, part=part)
                     self.assertEqual(status, -signal.SIGKILL)
                     self.can_go_on(answered)
 
     def test_each_call_fails(self):
-        operations = self.run_with()[3]
+        operations = self.run_anew()[3]
         for failed in range(len(operations)):
             for part in (NOTHING, HALF):
                 with self.subTest(failed=failed, part=part):
-                    status, answered, errors, _ = self.run_with(failed=failed, part=part)
+                    status, answered, errors, _ = self.run_anew(failed=failed, part=part)
                     self.assertIn((status, errors), ((1, "betable: the disk failed\n"), (2, "betable: the file cannot be opened\n")))
                     self.can_go_on(answered)
 
     def test_the_power_is_lost_after_each_call(self):
         """What was not synced is there, or not, or in part. A reply is written after the sync that follows its write."""
-        status, answered, errors, operations = self.run_with()
+        status, answered, errors, operations = self.run_anew()
         self.assertEqual((status, answered, errors), (0, len(STEPS), ""))
         random.seed(89)
         synced = 0
@@ -552,7 +560,7 @@ class Faults(KeptTables):
         """Some are not needed."""
         refused = unneeded = 0
         while unneeded < 20:
-            status, answered, errors, _ = self.run_with(refused=refused)
+            status, answered, errors, _ = self.run_anew(refused=refused)
             if status == 0:
                 self.assertEqual((answered, errors), (len(STEPS), ""))
                 unneeded += 1

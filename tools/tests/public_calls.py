@@ -22,8 +22,6 @@ UNCALLED: dict[str, str] = {
     "bt_show::KeyRange::after": "the rest of a range after a page, for callers in Rattle; the library for C takes packed bounds instead",
     "bt_show::KeyRange::before": "the same for a page from the end of a range",
     "bt_engine::serve_table": "is the loop of requests on any streams and by any workforce, for callers in Rattle; the program frees no memory at its end",
-    "bt_journal::Compact::compact": "is what a machine offers that has checkpoints; a table has none yet",
-    "bt_journal::Store::checkpoint": "calls it",
     "bt_journal::damage": "is a law, and does nothing",
     "bt_journal::salts": "is a law, and does nothing",
 }

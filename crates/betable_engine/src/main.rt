@@ -6,7 +6,7 @@
 
 mod stop;
 
-ghost use Rattle.std.specs.Prelude.{◌≡◌, IfOk, IfSome, IsSome, IsTrue, None, false};
+ghost use Rattle.std.specs.Prelude.{◌≡◌, [], IfOk, IfSome, IsSome, IsTrue, None, false};
 ghost use Rattle.bt_journal.specs.Disks.{Only};
 ghost use Rattle.bt_engine.specs.Options.{NamesNoFile};
 ghost use Rattle.bt_script.specs.Options.{AreWithinLimits};
@@ -14,7 +14,7 @@ ghost use Rattle.bt_script.specs.Streams.{has_unflushed};
 
 use bt_durable::{Ahead, OnceService, ServiceMachine, serve_and_keep};
 use bt_engine::{ENGINE, EngineWords, FORMAT, TableService, crew_of, engine, read_engine_words};
-use bt_frame::Service;
+use bt_frame::CompactService;
 use bt_gang::Context;
 use bt_journal::{Disk, Head, Store};
 use bt_script::WordsError;
@@ -65,7 +65,7 @@ where
 fn open_and_serve<X, S, D, I, W>(
     alloc: Global,
     context: &X,
-    service: S,
+    service: OnceService<S>,
     disk: D,
     bytes: Vec<u8>,
     head: Head,
@@ -74,12 +74,12 @@ fn open_and_serve<X, S, D, I, W>(
     output: &mut Counted<W>,
 ) -> Result<(), Stop>
 where
-    S: Service<X> + Drop,
+    S: CompactService<X> + Drop,
     D: Disk + Drop,
     I: Ahead + Drop,
     W: Write,
-    requires ready { S.accepts context.now }
-    requires blank { service ≡ S.blank }
+    requires ready { S.Service.accepts context.now }
+    requires blank { service ≡ (S.Service.blank, []) }
     requires read { bytes.items ≡ D.contents disk }
     requires durable { Only (D.contents disk) (D.outcome disk) }
     requires healthy { IsTrue (D.is_healthy disk) }

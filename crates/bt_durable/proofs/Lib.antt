@@ -1,8 +1,10 @@
 mod Arriving
+mod CompactedParts
 mod Faults
 mod KnownRequests
 mod RepeatedRequests
 mod RepliedParts
+mod RestoredRequests
 mod ServedPayloads
 mod Unchanged
 mod WorkedRows

@@ -1,13 +1,14 @@
 -- A request that ran is known for as long as fewer requests than can be known have run since.
-use Rattle.std.proofs.Common.{◌≡◌, ◌∙◌, ℕ, zero, suc, ◌+◌, ◌-◌, ◌<◌, ◌≤◌, ◌==◌, Bool, true, false, codes, List, [], ◌∷◌, Option, None, Some}
-use Rattle.std.proofs.Common.{ap, arith, if◌then◌else◌, length, nat_eq, refl, subst, sym, take}
+use Rattle.std.proofs.Common.{◌≡◌, ◌∙◌, ℕ, zero, suc, ◌+◌, ◌-◌, ◌<◌, ◌≤◌, ◌==◌, ◌++◌, ◌||◌, Bool, true, false, codes, List, [], ◌∷◌, Option, None, Some}
+use Rattle.std.proofs.Common.{ap, arith, if◌then◌else◌, length, nat_eq, nat_le, refl, subst, sym, take}
+use Rattle.std.specs.Prelude.{is_some}
 use Rattle.std.proofs.lemmas.Bool.{eq-eqb, eqb-true}
 use Rattle.std.specs.Map.{lookup}
 use Rattle.bt_frame.specs.Services.{after_arrivals}
 use Rattle.bt_frame.specs.declared.arrival.Arrival.{Arrival}
 use Rattle.bt_frame.specs.declared.arrival.Arrival.TheVariants.{CutOff, Frame, NoFrame, TooLong}
-use Rattle.bt_durable.specs.Once.{Exchange, Known, OnceRequest, OnceState, RequestsRunOnce, exchanged, most_known, of_frame, once_after, once_kind, once_reply}
-use Rattle.bt_durable.specs.Once.{request_in, run_first, run_known, run_once, sum_of}
+use Rattle.bt_durable.specs.Once.{Exchange, Known, OnceRequest, OnceState, RequestsRunOnce, exchanged, known_in, known_kind, most_known, noted, noted_unless}
+use Rattle.bt_durable.specs.Once.{of_frame, of_other_frame, once_after, once_kind, once_reply, request_in, run_first, run_known, run_once, sum_of}
 
 module _ {V : Type 0} (test : ℕ → Bool) (value : V) where
   -- what is found among the first entries is found
@@ -39,6 +40,15 @@ module _ {V : Type 0} (test : ℕ → Bool) (value : V) where
         | false ↦ λ b. rw b (found_kept n most more (omega (arith, fits)) (rw b at is))
       ]) refl
 
+  -- also with more entries after them
+  found_before : (n : ℕ) (known more : List (ℕ × V)) → lookup test (take n known) ≡ Some value → lookup test (take n (known ++ more)) ≡ Some value
+  found_before zero known more is = cc
+  found_before (suc n) [] more is = cc
+  found_before (suc n) (first ∷ rest) more is = (elim (test first.0) as (λ (b : Bool). test first.0 ≡ b → lookup test (take (suc n) (first ∷ (rest ++ more))) ≡ Some value) [
+    | true ↦ λ b. rw b (rw b at is)
+    | false ↦ λ b. rw b (found_before n rest more (rw b at is))
+  ]) refl
+
 -- after another request, which was not known
 found_after : (id other n most : ℕ) (entry value : Known) (known : List (ℕ × Known)) → n ≤ most → lookup (nat_eq other) known ≡ None → lookup (nat_eq id) (take n known) ≡ Some value
     → lookup (nat_eq id) (take (suc n) ((other, entry) ∷ take most known)) ≡ Some value
@@ -64,10 +74,24 @@ module _ {S : Type 0} (after : S → Arrival → List ℕ → S) (reply : S → 
   after_once n state sum None fits is = found_more (nat_eq id) value n state.1 is
   after_once n state sum (Some request) fits is = after_known n state sum request (lookup (nat_eq request.0) state.1) fits refl is
 
+  after_noted_unless : (n : ℕ) (state : OnceState S) (entry : ℕ × Known) (is_refused : Bool) → IsKnown n state → IsKnown (suc n) (noted_unless state entry is_refused).0
+  after_noted_unless n state entry true is = found_more (nat_eq id) value n state.1 is
+  after_noted_unless n state entry false is =
+      found_more (nat_eq id) value n (state.1 ++ entry ∷ []) (found_before (nat_eq id) value n state.1 (entry ∷ []) is)
+
+  after_noted : (n : ℕ) (state : OnceState S) (entry : Option (ℕ × Known)) → IsKnown n state → IsKnown (suc n) (noted state entry).0
+  after_noted n state None is = found_more (nat_eq id) value n state.1 is
+  after_noted n state (Some entry) is = after_noted_unless n state entry (nat_le most_known (length state.1) || is_some (lookup (nat_eq entry.0) state.1)) is
+
+  after_other_frame : (n : ℕ) (state : OnceState S) (kind : ℕ) (payload : List ℕ) (is_known : Bool) → IsKnown n state
+      → IsKnown (suc n) (of_other_frame after reply changes state kind payload is_known).0
+  after_other_frame n state kind payload true is = after_noted n state (known_in payload) is
+  after_other_frame n state kind payload false is = found_more (nat_eq id) value n state.1 is
+
   after_frame : (n : ℕ) (state : OnceState S) (kind : ℕ) (payload : List ℕ) (is_once : Bool) → n < most_known → IsKnown n state
       → IsKnown (suc n) (of_frame after reply changes state kind payload is_once).0
   after_frame n state kind payload true fits is = after_once n state (sum_of payload) (request_in payload) fits is
-  after_frame n state kind payload false fits is = found_more (nat_eq id) value n state.1 is
+  after_frame n state kind payload false fits is = after_other_frame n state kind payload (kind == known_kind) is
 
   after_one : (n : ℕ) (state : OnceState S) (arrival : Arrival) (payload : List ℕ) → n < most_known → IsKnown n state → IsKnown (suc n) (once_after after reply changes state arrival payload)
   after_one n state (Frame kind) payload fits is = after_frame n state kind payload (kind == once_kind) fits is

@@ -1,5 +1,6 @@
 pub mod Payloads
 pub mod Inputs
 pub mod Keeping
+pub mod Compacting
 pub mod Once
 pub mod Repeated

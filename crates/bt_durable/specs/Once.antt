@@ -1,7 +1,9 @@
 -- Requests that run once: each has an id. If a request with the id ran before, its reply is returned, and nothing runs.
-use Rattle.std.specs.Prelude.{ℕ, ◌≡◌, ◌<◌, ◌-◌, ◌==◌, Bool, false, true, List, ◌∷◌, Option, None, Some, codes, drop, get_or, if◌then◌else◌, length, nat_eq, nat_le, take}
-use Rattle.std.specs.Int.{from_le_bytes, w128}
+use Rattle.std.specs.Prelude.{ℕ, ◌≡◌, ◌<◌, ◌-◌, ◌==◌, ◌++◌, ◌||◌, ◌^◌, Bool, false, true, List, [], ◌∷◌}
+use Rattle.std.specs.Prelude.{Option, None, Some, codes, drop, get_or, if◌then◌else◌, is_some, length, map, nat_eq, nat_le, take}
+use Rattle.std.specs.Int.{from_le_bytes, to_le_bytes, w64, w128}
 use Rattle.std.specs.Map.{lookup}
+use Rattle.bt_frame.specs.Frames.{frame}
 use Rattle.bt_frame.specs.Services.{after_arrivals}
 use Rattle.bt_frame.specs.declared.arrival.Arrival.{Arrival}
 use Rattle.bt_frame.specs.declared.arrival.Arrival.TheVariants.{CutOff, Frame, NoFrame, TooLong}
@@ -10,6 +12,14 @@ use Rattle.bt_journal.specs.Frames.{sum_from}
 -- the kind of a request that runs once
 abbrev pub once_kind : ℕ
 once_kind = 12
+
+-- the kind of a request that notes what is known of another one
+abbrev pub known_kind : ℕ
+known_kind = 15
+
+-- the kind of the reply to a request that was carried out
+abbrev pub done_kind : ℕ
+done_kind = 0
 
 -- the kind of the reply to what is no request
 abbrev pub invalid_kind : ℕ
@@ -35,6 +45,15 @@ sum_of payload = sum_from 0 (drop 16 payload)
 abbrev pub Known : Type 0
 Known = ℕ × ℕ × List ℕ
 
+-- what is known of the request with an id, as a payload: the id in sixteen bytes, the sum in eight, the kind of the reply in one, and the payload of the reply
+abbrev pub known_payload : ℕ × Known → List ℕ
+known_payload entry = to_le_bytes w128 entry.0 ++ (to_le_bytes w64 entry.1.0 ++ (entry.1.1 ∷ entry.1.2))
+
+-- what a payload encodes of it, if it is long enough
+abbrev pub known_in : List ℕ → Option (ℕ × Known)
+known_in payload =
+    if nat_le 25 (length payload) then Some (from_le_bytes w128 payload, (from_le_bytes w64 (drop 16 payload), get_or payload 24 0, drop 25 payload)) else None
+
 -- a service, and what is known of requests by their ids, the last one first
 abbrev pub OnceState : Type 0 → Type 0
 OnceState S = S × List (ℕ × Known)
@@ -50,6 +69,16 @@ refused state name = (state, (invalid_kind, name), false)
 -- the kind and the payload of the reply to a request whose id is known: those of before, if the same was asked
 abbrev pub reply_again : ℕ → Known → ℕ × List ℕ
 reply_again sum known = if known.0 == sum then (known.1, known.2) else (invalid_kind, codes "RequestReused")
+
+-- an entry is noted as that of the oldest request, unless its id is known, or no more are known
+abbrev pub noted_unless : {S : Type 0} → OnceState S → ℕ × Known → Bool → Exchange S
+noted_unless state entry true = refused state (codes "RequestReused")
+noted_unless state entry false = ((state.0, state.1 ++ entry ∷ []), (done_kind, []), true)
+
+-- what is known of a request is noted
+abbrev pub noted : {S : Type 0} → OnceState S → Option (ℕ × Known) → Exchange S
+noted state None = refused state (codes "NoRequestId")
+noted state (Some entry) = noted_unless state entry (nat_le most_known (length state.1) || is_some (lookup (nat_eq entry.0) state.1))
 
 module _ {S : Type 0} (after : S → Arrival → List ℕ → S) (reply : S → Arrival → List ℕ → ℕ × List ℕ) where
   -- a request whose id is not known: it runs, and its reply is stored
@@ -73,10 +102,15 @@ module _ {S : Type 0} (after : S → Arrival → List ℕ → S) (reply : S → 
     abbrev pub passed : OnceState S → Arrival → List ℕ → Exchange S
     passed state arrival payload = ((after state.0 arrival payload, state.1), reply state.0 arrival payload, changes state.0 arrival payload)
 
+    -- a frame, which notes what is known of a request, or is left to the service
+    abbrev pub of_other_frame : OnceState S → ℕ → List ℕ → Bool → Exchange S
+    of_other_frame state kind payload true = noted state (known_in payload)
+    of_other_frame state kind payload false = passed state (Frame kind) payload
+
     -- a frame, which is a request that runs once, or is not
     abbrev pub of_frame : OnceState S → ℕ → List ℕ → Bool → Exchange S
     of_frame state kind payload true = run_once state (sum_of payload) (request_in payload)
-    of_frame state kind payload false = passed state (Frame kind) payload
+    of_frame state kind payload false = of_other_frame state kind payload (kind == known_kind)
 
     -- what arrived with a payload
     abbrev pub exchanged : OnceState S → Arrival → List ℕ → Exchange S
@@ -105,3 +139,23 @@ module _ {S : Type 0} (after : S → Arrival → List ℕ → S) (reply : S → 
         → let first = exchanged state (Frame once_kind) payload in
         let later = after_arrivals once_after once_reply first.0 arrived in
         exchanged later (Frame once_kind) payload ≡ (later, first.1, false)
+
+-- ---- what is known, as requests
+
+-- the requests that note these entries
+abbrev pub known_requests : List (ℕ × Known) → List (Arrival × List ℕ)
+known_requests entries = map (λ entry. (Frame known_kind, known_payload entry)) entries
+
+-- their frames, one after the other
+abbrev pub known_frames : List (ℕ × Known) → List ℕ
+known_frames [] = []
+known_frames (entry ∷ entries) = frame known_kind (known_payload entry) ++ known_frames entries
+
+-- the payload of each entry has the entry
+abbrev pub AreKept : List (ℕ × Known) → Type 0
+AreKept [] = Unit {0}
+AreKept (entry ∷ entries) = (known_in (known_payload entry) ≡ Some entry) × (length (known_payload entry) < 2 ^ 64) × AreKept entries
+
+-- a service that is compacted, and the same is known of requests
+abbrev pub is_compacted_once : {S : Type 0} → (S → S → Type 0) → OnceState S → OnceState S → Type 0
+is_compacted_once is_compacted old new = is_compacted old.0 new.0 × (new.1 ≡ old.1)

@@ -4,14 +4,17 @@ ghost use Rattle.bt_script.specs.Streams.{has_failed, has_unflushed};
 ghost use Rattle.bt_frame.specs.Services.{IsLast};
 ghost use Rattle.bt_frame.specs.declared.arrival.Arrival.{Arrival as arrival_type};
 ghost use Rattle.bt_journal.specs.Stores.{IsKept, disk_of, head_in, is_open, state_in};
+ghost use Rattle.bt_durable.specs.Compacting.{HasEnded, HasServed};
 ghost use Rattle.bt_durable.specs.Inputs.{AreAll, AreFirst, Continue, IsAfterGroup, ReadsEnding};
+ghost use Rattle.bt_durable.specs.Once.{is_compacted_once, once_after, once_reply};
 ghost use Rattle.bt_durable.specs.Payloads.{after_payload};
 ghost use Rattle.bt_durable.specs.Keeping.{HasReplied, HasStopped};
 
 use crate::groups::{Ahead, Ending, Room, receive_group};
+use crate::once::OnceService;
 use crate::replying::{KeepFault, reply_to_group, reply_to_other};
 use crate::service_machine::ServiceMachine;
-use bt_frame::{Arrival, Service};
+use bt_frame::{Arrival, CompactService, Service};
 use bt_journal::{Disk, Fault, Store};
 use bt_script::{Counted, RunFault};
 use std::alloc::{AllocError, Global};
@@ -105,23 +108,20 @@ fn serve_group<'a, I: Ahead + Drop, D: Disk, X, S: Service<X> + Drop, W: Write>(
     Ok((rest, more))
 }
 
-/// Serves what arrives, until the input ends or no next frame can be found. It reads the requests that it can read without waiting, carries them out, and writes
-/// their replies once what they change is on the disk. A payload of more than `most` bytes is passed over.
-///
-/// The replies are those of the definition `answers` for what arrives of the bytes that the input had, from the state of the store. `Stream`: a stream or an
-/// allocation failed, or more than 2^64 - 2 groups arrived. `Store`: a call of the store failed.
-pub fn serve_and_keep<'a, I: Ahead + Drop, D: Disk, X, S: Service<X> + Drop, W: Write>(
+// Serves what arrives, until the input ends, no next frame can be found, or the file has `most_size` bytes. Returns the input, and whether more may arrive.
+fn serve_until<'a, I: Ahead + Drop, D: Disk, X, S: Service<X> + Drop, W: Write>(
     alloc: Global,
     store: &mut Store<D, ServiceMachine<'a, X, S>>,
     most: u64,
+    most_size: usize,
     input: I,
     output: &mut Counted<W>,
-) -> Result<(), KeepFault>
+) -> Result<(I, bool), KeepFault>
     requires opened { IsTrue (is_open store.old) }
     requires flushed { has_unflushed output.old ≡ false }
 
-    // All that arrives has its reply, and its changes are on the disk.
-    ensures replied { OnOk result ((arrived : List (arrival_type × List ℕ)) × AreAll most (I.remaining input) arrived
+    // All that arrived has its reply, and its changes are on the disk.
+    ensures replied { IfOk result (λ served. (arrived : List (arrival_type × List ℕ)) × Continue served.1 most (I.remaining input) (I.remaining served.0) arrived
         × HasReplied S.after S.reply S.blank D.moment D.outcome D.outcome_since W.contents store.old store.new output.old output.new arrived) }
     ensures kept { OnOk result (IsKept D.contents D.outcome (after_payload S.after S.reply) S.blank (head_in store.new) (disk_of store.new) (state_in store.new)) }
     ensures flushed { OnOk result (has_unflushed output.new ≡ false) }
@@ -138,13 +138,71 @@ pub fn serve_and_keep<'a, I: Ahead + Drop, D: Disk, X, S: Service<X> + Drop, W: 
     let mut answer = Vec::new(alloc);
     let mut source = input;
     'groups: for _ in 0..u64::MAX {
-        store.standing();
         let (rest, more) = serve_group(alloc, store, most, &mut room, &mut answer, source, output)?;
         source = rest;
         if !more {
             store.standing();
+            return Ok((source, false));
+        }
+        if store.size() >= most_size {
+            store.standing();
+            return Ok((source, true));
+        }
+    }
+    store.standing();
+    Ok((source, true))
+}
+
+// A file gets a checkpoint once it has this many bytes, and twice as many as after the last time.
+const SMALLEST_SIZE: usize = 16_777_216;
+
+// How many bytes a file has at the next checkpoint, if it has this many now.
+fn next_size(size: usize) -> usize {
+    size.saturating_mul(2).max(SMALLEST_SIZE)
+}
+
+/// Serves what arrives, until the input ends or no next frame can be found. It reads the requests that it can read without waiting, carries them out, and writes
+/// their replies once what they change is on the disk. A payload of more than `most` bytes is passed over. Each time the file has become twice as long, and 16 MiB,
+/// the state takes the place of the requests in it, compacted.
+///
+/// The replies are those of the definition `answers` for what arrives of the bytes that the input had, from the state of the store and from those that it was
+/// compacted to. `Stream`: a stream or an allocation failed, or 2^64 - 1 checkpoints were made. `Store`: a call of the store failed.
+pub fn serve_and_keep<'a, I: Ahead + Drop, D: Disk, X, S: CompactService<X> + Drop, W: Write>(
+    alloc: Global,
+    store: &mut Store<D, ServiceMachine<'a, X, OnceService<S>>>,
+    most: u64,
+    input: I,
+    output: &mut Counted<W>,
+) -> Result<(), KeepFault>
+    requires opened { IsTrue (is_open store.old) }
+    requires flushed { has_unflushed output.old ≡ false }
+
+    // All that arrives has its reply, and its changes are on the disk.
+    ensures replied { OnOk result ((arrived : List (arrival_type × List ℕ)) × AreAll most (I.remaining input) arrived
+        × HasServed (once_after S.after S.reply S.changes) (once_reply S.after S.reply S.changes) (S.blank, []) (is_compacted_once S.is_compacted)
+        D.moment D.outcome D.outcome_since W.contents store.old store.new output.old output.new arrived) }
+    ensures kept { OnOk result (IsKept D.contents D.outcome (after_payload (once_after S.after S.reply S.changes) (once_reply S.after S.reply S.changes)) (S.blank, [])
+        (head_in store.new) (disk_of store.new) (state_in store.new)) }
+    ensures flushed { OnOk result (has_unflushed output.new ≡ false) }
+
+    // After a fault, the changes of all that has a byte of its reply are.
+    ensures stopped { OnErr result ((answered : List (arrival_type × List ℕ)) × (pending : List (arrival_type × List ℕ)) × AreFirst most (I.remaining input) (answered ++ pending)
+        × HasEnded (once_after S.after S.reply S.changes) (once_reply S.after S.reply S.changes) (S.blank, []) (is_compacted_once S.is_compacted)
+        D.moment D.outcome D.outcome_since W.contents store.old store.new output.old output.new answered pending) }
+    ensures write { IsErrOf result (KeepFault.Stream RunFault.Write) → has_failed output.new ≡ true }
+    ensures disk { IsErrOf result (KeepFault.Store Fault.Failed) → D.fault_count (disk_of store.old) < D.fault_count (disk_of store.new) }
+    ensures counted { D.fault_count (disk_of store.old) ≤ D.fault_count (disk_of store.new) }
+{
+    store.standing();
+    let mut source = input;
+    'runs: for _ in 0..u64::MAX {
+        let most_size = next_size(store.size());
+        let (rest, more) = serve_until(alloc, store, most, most_size, source, output)?;
+        source = rest;
+        if !more {
             return Ok(());
         }
+        store.checkpoint(alloc)?;
     }
     store.standing();
     Err(KeepFault::Stream(RunFault::Read))

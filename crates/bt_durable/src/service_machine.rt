@@ -1,10 +1,12 @@
 //! A service as the machine of a store.
 ghost use Rattle.std.specs.Prelude.{◌≡◌, IfOk, List, OnOk, ℕ};
 ghost use Rattle.bt_frame.specs.Services.{IsNoRequest};
+ghost use Rattle.bt_durable.specs.Once.{is_compacted_once};
 ghost use Rattle.bt_durable.specs.Payloads.{after_payload, payload_changes, replies_to};
 
-use bt_frame::{Arrival, Reply, Service, serve};
-use bt_journal::Machine;
+use crate::once::{OnceService, compact_once};
+use bt_frame::{Arrival, CompactService, Reply, Service, serve};
+use bt_journal::{Compact, Machine};
 use bt_script::Counted;
 use std::alloc::{AllocError, Global};
 use std::marker::Model;
@@ -92,5 +94,13 @@ impl<'a, X, S: Service<X> + Drop> Machine for ServiceMachine<'a, X, S> {
         )?;
         *answer = replies;
         Ok(is_change)
+    }
+}
+
+impl<'a, X, S: CompactService<X> + Drop> Compact for ServiceMachine<'a, X, OnceService<S>> {
+    ghost is_compacted = { is_compacted_once S.CompactService.is_compacted };
+
+    fn compact(&mut self, _alloc: Global) -> Option<Vec<u8>> {
+        compact_once(&mut self.service, self.context)
     }
 }

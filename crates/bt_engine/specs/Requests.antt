@@ -2,7 +2,7 @@
 use Rattle.std.specs.Prelude.{ℕ, ◌==◌, Option, None, Some, if◌then◌else◌}
 use Rattle.bt_packed.specs.declared.question.Question.TheVariants.{Columns, LastPage, Page, Row, Sums, Trees, Usage}
 use Rattle.bt_engine.specs.declared.request.Request.{Request}
-use Rattle.bt_engine.specs.declared.request.Request.TheVariants.{Apply, Ask, Check, Explain, Script}
+use Rattle.bt_engine.specs.declared.request.Request.TheVariants.{Apply, Ask, Check, Explain, Restore, Script}
 
 -- the request of a frame of this kind, if it is one
 abbrev pub request_of : ℕ → Option Request
@@ -18,4 +18,5 @@ request_of kind =
     else if kind == 9 then Some (Ask Usage)
     else if kind == 10 then Some (Ask Trees)
     else if kind == 11 then Some Explain
+    else if kind == 14 then Some Restore
     else None

@@ -14,12 +14,12 @@ use Rattle.bt_shell.specs.declared.log.ReplyKind.TheVariants.{Changed}
 use Rattle.bt_frame.specs.Services.{IsNoRequest}
 use Rattle.bt_frame.specs.declared.arrival.Arrival.{Arrival}
 use Rattle.bt_frame.specs.declared.arrival.Arrival.TheVariants.{CutOff, Frame, NoFrame, TooLong}
-use Rattle.bt_engine.specs.Exchanges.{after, after_changes, changes, frame_changes, of_frame}
+use Rattle.bt_engine.specs.Exchanges.{after, after_changes, changes, frame_changes, of_frame, restored_into}
 use Rattle.bt_engine.specs.Payloads.{has_change, is_change, mark}
 use Rattle.bt_engine.specs.Requests.{request_of}
 use Rattle.bt_engine.specs.declared.marks.Mark.{Mark}
 use Rattle.bt_engine.specs.declared.request.Request.{Request}
-use Rattle.bt_engine.specs.declared.request.Request.TheVariants.{Apply, Ask, Check, Explain, Script}
+use Rattle.bt_engine.specs.declared.request.Request.TheVariants.{Apply, Ask, Check, Explain, Restore, Script}
 
 no_change : (kind : ReplyKind) → is_change kind ≡ false → kind ≢ Changed
 no_change kind none is = true≢false (sym (ap is_change is) ∙ none)
@@ -57,6 +57,7 @@ frame_leaves state (Some Check) payload none = refl
 frame_leaves state (Some Apply) payload none = refused_leave state (applied_to state payload) none
 frame_leaves state (Some (Ask question)) payload none = refl
 frame_leaves state (Some Explain) payload none = refl
+frame_leaves state (Some Restore) payload none = refused_leave state (restored_into state payload) none
 
 -- what may not change a table leaves it as it is
 pub arrival_leaves : (state : State) (arrival : Arrival) (payload : List ℕ) → changes state arrival payload ≡ false → after state arrival payload ≡ state

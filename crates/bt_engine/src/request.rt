@@ -2,6 +2,7 @@
 ghost use Rattle.std.specs.Prelude.{◌≡◌};
 ghost use Rattle.bt_engine.specs.Requests as requests;
 
+use bt_frame::RESTORE;
 use bt_packed::Question;
 
 /// What a request asks for, by the kind of its frame.
@@ -17,6 +18,8 @@ pub enum Request {
     Ask(Question),
     /// Finds why the first command of a script is refused because of its records.
     Explain,
+    /// Makes the table of a snapshot.
+    Restore,
 }
 
 /// What a frame of this kind asks for, if it is one of a request.
@@ -35,6 +38,7 @@ pub fn request_of(kind: u8) -> Option<Request>
         9 => Some(Request::Ask(Question::Usage)),
         10 => Some(Request::Ask(Question::Trees)),
         11 => Some(Request::Explain),
+        RESTORE => Some(Request::Restore),
         _ => None,
     }
 }

@@ -1,5 +1,5 @@
 //! A table as a service: requests are carried out on it.
-ghost use Rattle.std.specs.Prelude.{◌≡◌, ◌≢◌, Err, IfErr, IfOk, List, None, Ok, OnOk, false, ℕ};
+ghost use Rattle.std.specs.Prelude.{◌≡◌, ◌≢◌, Err, IfErr, IfNone, IfOk, IfSome, List, None, Ok, OnOk, false, ℕ};
 ghost use Rattle.bt_script.specs.Commands.{commands};
 ghost use Rattle.bt_shell.specs.Runs.{after_commands};
 ghost use Rattle.bt_packed.specs.Questions.{applied_to};
@@ -7,16 +7,17 @@ ghost use Rattle.bt_shell.specs.Steps.{State};
 ghost use Rattle.bt_engine.specs.Exchanges as exchanges;
 ghost use Rattle.bt_engine.specs.Payloads as payloads;
 ghost use Rattle.bt_engine.specs.Unchanged.{arrival_leaves, others_leave};
-ghost use Rattle.bt_frame.specs.Services.{IsNoRequest};
+ghost use Rattle.bt_frame.specs.Services.{AddsRestore, IsNoRequest};
 
 use crate::marks::Marks;
 use crate::reply::{carried_out, done, fault_reply, invalid};
 use crate::request::{Request, request_of};
 use bt_fault::script_reason;
-use bt_frame::{Arrival, Reply, Service, number_bytes};
+use bt_frame::{Arrival, CompactService, RESTORE, Reply, Service, add_frame, number_bytes};
 use bt_packed::{Fault, PackedWorkforce, Question, ReplyRoom, apply, ask};
 use bt_script::Counted;
 use bt_shell::{Context, ScriptWorkforce, check_commands, run_commands};
+use bt_snapshot::{compact, restore};
 use bt_table::{Alone, Table};
 use bt_value::Refusal;
 use std::alloc::{AllocError, Global};
@@ -150,6 +151,50 @@ fn explain_script(
     Ok(payload)
 }
 
+// Makes the table of a snapshot, if there is none.
+fn restore_table<T, C: ScriptWorkforce<T>>(
+    context: &Context<'_, T, C>,
+    table: &mut Option<Table>,
+    snapshot: &[u8],
+) -> Result<(), Fault>
+    requires ready { C.accepts context.now.crew.now }
+    ensures done { OnOk result (exchanges.restored_into table.old snapshot.now ≡ Ok table.new) }
+    ensures fault { IfErr result (λ fault. fault.refusal ≢ Refusal.OutOfMemory → (exchanges.restored_into table.old snapshot.now ≡ Err fault) × (table.new ≡ table.old)) }
+{
+    if table.is_some() {
+        return Err(Fault::of_call(Refusal::TableExists));
+    }
+    match restore(context, snapshot) {
+        Ok(restored) => {
+            *table = Some(restored);
+            Ok(())
+        }
+        Err(refusal) => Err(Fault::of_call(refusal)),
+    }
+}
+
+// The reply to a snapshot, which is restored.
+fn restore_snapshot<T, C: ScriptWorkforce<T>>(
+    context: &Context<'_, T, C>,
+    table: &mut Option<Table>,
+    snapshot: &[u8],
+    room: Vec<u8>,
+) -> Result<Reply, AllocError>
+    requires ready { C.accepts context.now.crew.now }
+    ensures state { OnOk result (table.new ≡ (exchanges.carried_out table.old Request.Restore snapshot.now).0) }
+    ensures reply { IfOk result (λ reply. (reply.kind, reply.payload.items) ≡ (exchanges.carried_out table.old Request.Restore snapshot.now).1) }
+    ensures changes { IfOk result (λ reply. reply.is_change ≡ exchanges.request_changes table.old Request.Restore snapshot.now) }
+{
+    match restore_table(context, table, snapshot) {
+        Ok(()) => {
+            let mut text = room;
+            text.clear();
+            Ok(carried_out(text, true))
+        }
+        Err(fault) => Ok(fault_reply(fault, room)?),
+    }
+}
+
 // The reply to a request, which is carried out.
 fn carry_out<T, C: ScriptWorkforce<T> + PackedWorkforce<T>>(
     context: &Context<'_, T, C>,
@@ -172,6 +217,7 @@ fn carry_out<T, C: ScriptWorkforce<T> + PackedWorkforce<T>>(
         Request::Explain => Ok(done(explain_script(context.alloc, table, payload, room)?)),
         Request::Apply => Ok(apply_changes(context, table, payload, room)?),
         Request::Ask(question) => Ok(ask_table(context, table, question, payload, room)?),
+        Request::Restore => Ok(restore_snapshot(context, table, payload, room)?),
     }
 }
 
@@ -275,5 +321,37 @@ impl<'a, T, C: ScriptWorkforce<T> + PackedWorkforce<T>> Service<Context<'a, T, C
 
     fn refuse(&self, arrival: Arrival, room: Vec<u8>) -> Result<Reply, AllocError> {
         refuse(arrival, room)
+    }
+}
+
+// Compacts a table, and adds to some bytes the frame of a request that restores it. `None`: nothing has changed.
+fn compact_table<T, C: ScriptWorkforce<T>>(
+    context: &Context<'_, T, C>,
+    table: &mut Option<Table>,
+    bytes: Vec<u8>,
+) -> Option<Vec<u8>>
+    requires ready { C.accepts context.now.crew.now }
+    ensures compacted { IfSome result (λ _. exchanges.is_compacted table.old table.new) }
+    ensures restores { IfSome result (λ all. AddsRestore exchanges.after None bytes.items all.items table.new) }
+    ensures unchanged { IfNone result (table.new ≡ table.old) }
+{
+    let Some(old) = table else {
+        return None;
+    };
+    let compacted = compact(context, old)?;
+    let mut all = bytes;
+    if add_frame(&mut all, RESTORE, compacted.snapshot.as_slice()).is_err() {
+        return None;
+    }
+    *table = Some(compacted.table);
+    Some(all)
+}
+
+impl<'a, T, C: ScriptWorkforce<T> + PackedWorkforce<T>> CompactService<Context<'a, T, C>>
+    for TableService {
+    ghost is_compacted = { exchanges.is_compacted };
+
+    fn compact(&mut self, context: &Context<'a, T, C>, bytes: Vec<u8>) -> Option<Vec<u8>> {
+        compact_table(context, &mut self.table, bytes)
     }
 }

@@ -122,8 +122,8 @@ impl IndexDef {
             && has_place(&self.condition, columns)
     }
 
-    // The condition on the rows, if there is one.
-    pub(crate) fn condition(&self) -> &Option<Condition>
+    /// The condition on the rows, if there is one.
+    pub fn condition(&self) -> &Option<Condition>
         ensures { result.now ≡ self.now.condition }
     {
         &self.condition

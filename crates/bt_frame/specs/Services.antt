@@ -1,5 +1,5 @@
 -- What a service writes for what arrives.
-use Rattle.std.specs.Prelude.{ℕ, ◌≡◌, ◌≤◌, ◌-◌, ◌^◌, ◌++◌, ◌||◌, Bool, false, List, [], ◌∷◌, length, take, Option, IfSome}
+use Rattle.std.specs.Prelude.{ℕ, ◌≡◌, ◌<◌, ◌≤◌, ◌-◌, ◌^◌, ◌++◌, ◌||◌, Bool, false, List, [], ◌∷◌, length, take, Option, IfSome}
 use Rattle.bt_script.specs.Streams.{Took, TookPrefix}
 use Rattle.bt_script.specs.declared.counted.Counted.{Counted}
 use Rattle.bt_frame.specs.Frames.{arrivals, frame}
@@ -39,6 +39,15 @@ HasTest End test = ⊥
 abbrev pub IsNoRequest : Arrival → Type 0
 IsNoRequest (Frame kind) = ⊥
 IsNoRequest other = Unit {0}
+
+-- the kind of a request that restores a service
+abbrev pub restore_kind : ℕ
+restore_kind = 14
+
+-- bytes with one more frame, of a request that leads from one state to another and restores it
+abbrev pub AddsRestore : {S : Type 0} → (S → Arrival → List ℕ → S) → S → List ℕ → List ℕ → S → Type 0
+AddsRestore after blank bytes all restored =
+    (payload : List ℕ) × (all ≡ bytes ++ frame restore_kind payload) × (length payload < 2 ^ 64) × (after blank (Frame restore_kind) payload ≡ restored)
 
 -- a service: what it is after something arrived with a payload, and the kind and the payload of its reply
 module _ {S : Type 0} (after : S → Arrival → List ℕ → S) (reply : S → Arrival → List ℕ → ℕ × List ℕ) where

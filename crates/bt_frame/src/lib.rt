@@ -26,4 +26,4 @@ pub use arrival::Arrival;
 pub use frame_reader::{begins_with_frame, receive};
 pub use frame_writer::{add_frame, flush_written, send};
 pub use header::number_bytes;
-pub use service::{Reply, Service, serve};
+pub use service::{CompactService, RESTORE, Reply, Service, serve};

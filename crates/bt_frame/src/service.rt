@@ -1,8 +1,8 @@
 //! A service: what arrives gets a reply, until the input ends.
-ghost use Rattle.std.specs.Prelude.{◌≡◌, ◌<◌, ◌⊎◌, ◌||◌, Bool, false, true, IfOk, IsErrOf, OnErr, OnOk, length, List, ℕ};
+ghost use Rattle.std.specs.Prelude.{◌≡◌, ◌<◌, ◌⊎◌, ◌||◌, Bool, false, true, IfNone, IfOk, IfSome, IsErrOf, OnErr, OnOk, length, List, ℕ};
 ghost use Rattle.bt_script.specs.Streams.{has_failed, has_unflushed, source_of};
 ghost use Rattle.bt_frame.specs.declared.arrival.Arrival.{Arrival as arrival_type};
-ghost use Rattle.bt_frame.specs.Services.{BreaksOff, Exchanges, HasTest, HasTooMany, IsNext, IsNoRequest, ServesAll, WritesAnswers, WritesSomeAnswers, WritesWholeAnswers};
+ghost use Rattle.bt_frame.specs.Services.{AddsRestore, BreaksOff, Exchanges, HasTest, HasTooMany, IsNext, IsNoRequest, ServesAll, WritesAnswers, WritesSomeAnswers, WritesWholeAnswers};
 
 use crate::arrival::Arrival;
 use crate::frame_reader::receive;
@@ -66,6 +66,23 @@ pub trait Service<X> {
 
     /// What is no request cannot change it.
     ghost idle: { (service : Self) (arrival : arrival_type) (payload : List ℕ) → IsNoRequest arrival → changes service arrival payload ≡ false };
+}
+
+/// The kind of a request that restores a service.
+pub const RESTORE: u8 = 14;
+
+/// A service whose state one request can make.
+pub trait CompactService<X>: Service<X> {
+    /// Whether a state is another one compacted. To those who read it, it is the same one.
+    ghost is_compacted: { Self → Self → Type 0 };
+
+    /// Goes on to the compacted state, and adds to some bytes the frame of a request of kind 14 that leads to it from the blank one. `None` if the state cannot be
+    /// compacted now, or if memory ran out; it is as it was then.
+    fn compact(&mut self, context: &X, bytes: Vec<u8>) -> Option<Vec<u8>>
+        requires ready { Self.Service.accepts context.now }
+        ensures compacted { IfSome result (λ _. is_compacted self.old self.new) }
+        ensures restores { IfSome result (λ all. AddsRestore Self.Service.after Self.Service.blank bytes.items all.items self.new) }
+        ensures unchanged { IfNone result (self.new ≡ self.old) };
 }
 
 /// What follows an exchange. The test is whether the exchange may have changed the service.

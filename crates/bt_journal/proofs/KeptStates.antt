@@ -1,7 +1,7 @@
 -- The states that files stand for.
-use Rattle.std.proofs.Common.{◌≡◌, ◌⊎◌, inl, inr, Bool, List, ℕ, [], ◌∷◌, ◌++◌, refl, sym, ◌∙◌, ap}
+use Rattle.std.proofs.Common.{◌≡◌, inl, inr, Bool, List, ℕ, [], ◌∷◌, ◌++◌, refl, sym, ◌∙◌, ap}
 use Rattle.bt_journal.specs.Files.{recovered, Opens, IsBeforeOrAfter, IsSwapped}
-use Rattle.bt_journal.specs.Stores.{after_all, state_of, Finds, IsBeforeOrAfterRun, IsConsistent, IsKept}
+use Rattle.bt_journal.specs.Stores.{after_all, state_of, Finds, IsBeforeOrAfterCheckpoint, IsBeforeOrAfterRun, IsConsistent, IsKept}
 use Rattle.bt_journal.specs.declared.head.Head.{Head}
 use Rattle.bt_journal.specs.declared.journal.Journal.{Journal}
 use Rattle.bt_journal.proofs.SettledJournals.{settled_opens}
@@ -19,12 +19,6 @@ module _ {M : Type 0} (after : M → List ℕ → M) where
   before_or_after blank head old payload file (inr (inl now)) =
       inr (inl (finds blank head (after (state_of after blank old) payload) (recovered old ++ payload ∷ []) file (after_all-push blank (recovered old) payload) now))
   before_or_after blank head old payload file (inr (inr forged)) = inr (inr forged)
-
-  -- a swap for a payload that leads to a state
-  pub old_or_compacted : (blank : M) (head : Head) (state compacted : M) (payloads : List (List ℕ)) (payload file : List ℕ) → state ≡ after_all after blank payloads → after blank payload ≡ compacted
-      → IsSwapped head payloads payload file → Finds after blank head state file ⊎ Finds after blank head compacted file
-  old_or_compacted blank head state compacted payloads payload file is leads (inl was) = inl (finds blank head state payloads file (sym is) was)
-  old_or_compacted blank head state compacted payloads payload file is leads (inr now) = inr (finds blank head compacted (payload ∷ []) file leads now)
 
 -- the file of a journal stands for the state of its machine
 pub stands : {D M : Type 0} (contents : D → List ℕ) (outcome : D → List ℕ → Type 0) (is_healthy : D → Bool) (after : M → List ℕ → M) (blank : M) (journal : Journal D) (machine : M)

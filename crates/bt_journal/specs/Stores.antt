@@ -1,5 +1,5 @@
 -- The state that a file stands for, and what a store is.
-use Rattle.std.specs.Prelude.{◌≡◌, ◌⊎◌, ℕ, Bool, List, [], ◌∷◌, ◌++◌, false}
+use Rattle.std.specs.Prelude.{◌≡◌, ◌⊎◌, ℕ, Bool, List, [], ◌∷◌, false}
 use Rattle.bt_journal.specs.Disks.{Only}
 use Rattle.bt_journal.specs.Heads.{IsAccepted}
 use Rattle.bt_journal.specs.Files.{recovered, is_damaged, IsForged}
@@ -43,6 +43,11 @@ module _ {M : Type 0} (after : M → List ℕ → M) where
   abbrev pub IsBeforeOrAfterRun : M → Head → List ℕ → List ℕ → List ℕ → Type 0
   IsBeforeOrAfterRun blank head old payload file =
       Finds blank head (state_of blank old) file ⊎ Finds blank head (after (state_of blank old) payload) file ⊎ IsForged head (recovered old) payload file
+
+  -- opening a file finds this state, or a state that is it compacted
+  abbrev pub IsBeforeOrAfterCheckpoint : (M → M → Type 0) → M → Head → M → List ℕ → Type 0
+  IsBeforeOrAfterCheckpoint is_compacted blank head state file =
+      Finds blank head state file ⊎ ((compacted : M) × is_compacted state compacted × Finds blank head compacted file)
 
 -- a crash leaves the file as it is, and opening it finds this state
 abbrev pub IsKept : {D M : Type 0} → (D → List ℕ) → (D → List ℕ → Type 0) → (M → List ℕ → M) → M → Head → D → M → Type 0

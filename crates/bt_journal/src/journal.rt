@@ -112,6 +112,7 @@ impl<D: Disk> Journal<D> {
 
         // An error has a cause.
         ensures failed { IsErrOf result Fault.Failed → D.fault_count self.old.disk < D.fault_count self.new.disk }
+        ensures counted { D.fault_count self.old.disk ≤ D.fault_count self.new.disk }
         ensures too_long { IsErrOf result Fault.TooLong → 2 ^ 62 ≤ length payload.now }
         ensures no_other { IsErrOf result Fault.Closed → ⊥ }
     {

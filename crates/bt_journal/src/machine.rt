@@ -1,5 +1,5 @@
 //! What a store keeps: a state that payloads change.
-ghost use Rattle.std.specs.Prelude.{◌≡◌, Bool, List, ℕ, false, IfOk, OnOk};
+ghost use Rattle.std.specs.Prelude.{◌≡◌, Bool, List, ℕ, false, IfNone, IfOk, IfSome, OnOk};
 
 use std::alloc::{AllocError, Global};
 
@@ -28,11 +28,13 @@ pub trait Machine: Drop {
 
 /// A machine whose whole state one payload can encode.
 pub trait Compact: Machine {
-    /// The state that this payload leads to. To those who read it, it is the same one.
-    ghost compacted: { Self → Self };
+    /// Whether a state is another one compacted. To those who read it, it is the same one.
+    ghost is_compacted: { Self → Self → Type 0 };
 
-    /// Goes on to the compacted state, and returns a payload that leads to it from the blank one.
-    fn compact(&mut self, alloc: Global) -> Result<Vec<u8>, AllocError>
-        ensures compacted { OnOk result (self.new ≡ compacted self.old) }
-        ensures payload { IfOk result (λ payload. Self.Machine.after Self.Machine.blank payload.items ≡ compacted self.old) };
+    /// Goes on to the compacted state, and returns a payload that leads to it from the blank one. `None` if the state cannot be compacted now, or if memory ran
+    /// out; it is as it was then.
+    fn compact(&mut self, alloc: Global) -> Option<Vec<u8>>
+        ensures compacted { IfSome result (λ _. is_compacted self.old self.new) }
+        ensures payload { IfSome result (λ payload. Self.Machine.after Self.Machine.blank payload.items ≡ self.new) }
+        ensures unchanged { IfNone result (self.new ≡ self.old) };
 }

@@ -1,9 +1,9 @@
 //! The steps of a store on its journal and its machine.
-ghost use Rattle.std.specs.Prelude.{◌≡◌, ◌⊎◌, ◌++◌, if◌then◌else◌, IsTrue, false, true, ◌<◌, ◌≤◌, List, ℕ, [], ◌∷◌, length, IfErr, IfOk, IsErrOf, OnOk};
+ghost use Rattle.std.specs.Prelude.{◌≡◌, ◌++◌, if◌then◌else◌, IsTrue, false, true, ◌<◌, ◌≤◌, List, ℕ, [], ◌∷◌, length, IfErr, IfOk, IsErrOf, OnOk};
 ghost use Rattle.bt_journal.specs.Disks.{Only, LeavesOnly};
 ghost use Rattle.bt_journal.specs.Heads.{IsAlike};
 ghost use Rattle.bt_journal.specs.Files.{recovered, is_refusal, IsCause};
-ghost use Rattle.bt_journal.specs.Stores.{state_of, Finds, IsKept, IsConsistent, IsBeforeOrAfterRun};
+ghost use Rattle.bt_journal.specs.Stores.{state_of, Finds, IsKept, IsConsistent, IsBeforeOrAfterCheckpoint, IsBeforeOrAfterRun};
 
 use crate::disk::Disk;
 use crate::fault::Fault;
@@ -79,23 +79,27 @@ pub(crate) fn run_payload<D: Disk, M: Machine>(
     Ok(())
 }
 
-/// Compacts the state, and replaces the payloads by one that leads to it.
+/// Compacts the state, and replaces the payloads by one that leads to it. Returns whether it did: the state may be one that cannot be compacted.
 pub(crate) fn compact<D: Disk, M: Compact>(
     alloc: Global,
     journal: &mut Journal<D>,
     machine: &mut M,
-) -> Result<(), Fault>
+) -> Result<bool, Fault>
     requires { IsConsistent D.contents D.outcome D.is_healthy M.after M.blank journal.old machine.old }
     ensures consistent { OnOk result (IsConsistent D.contents D.outcome D.is_healthy M.after M.blank journal.new machine.new) }
-    ensures acknowledged { OnOk result (machine.new ≡ M.compacted machine.old) }
+    ensures compacted { IfOk result (λ is_done. is_done ≡ true → M.is_compacted machine.old machine.new) }
+    ensures unchanged { IfOk result (λ is_done. is_done ≡ false → (journal.new ≡ journal.old) × (machine.new ≡ machine.old)) }
     ensures kept { OnOk result (IsKept D.contents D.outcome M.after M.blank journal.new.head journal.new.disk machine.new) }
     ensures head { IsAlike journal.old.head journal.new.head }
     ensures any_moment { LeavesOnly D.moment D.outcome_since journal.old.disk journal.new.disk
-        (λ file. Finds M.after M.blank journal.old.head machine.old file ⊎ Finds M.after M.blank journal.old.head (M.compacted machine.old) file) }
+        (IsBeforeOrAfterCheckpoint M.after M.is_compacted M.blank journal.old.head machine.old) }
     ensures failed { IsErrOf result Fault.Failed → D.fault_count journal.old.disk < D.fault_count journal.new.disk }
+    ensures counted { D.fault_count journal.old.disk ≤ D.fault_count journal.new.disk }
     ensures no_other { IsErrOf result Fault.Closed → ⊥ }
 {
-    let payload = machine.compact(alloc)?;
+    let Some(payload) = machine.compact(alloc) else {
+        return Ok(false);
+    };
     journal.restart(alloc, &payload)?;
-    Ok(())
+    Ok(true)
 }

@@ -1,9 +1,10 @@
 //! A machine whose state a crash does not lose: each payload that changes it is in a file before it is acknowledged.
-ghost use Rattle.std.specs.Prelude.{◌≡◌, ◌⊎◌, ◌++◌, if◌then◌else◌, IsTrue, Bool, false, true, ◌<◌, ◌≤◌, ◌^◌, List, ℕ, [], ◌∷◌, length, IfErr, IfOk, IsErrOf, OnOk};
+ghost use Rattle.std.specs.Prelude.{◌≡◌, ◌+◌, ◌++◌, if◌then◌else◌, IsTrue, Bool, false, true, ◌<◌, ◌≤◌, ◌^◌, List, ℕ, [], ◌∷◌, length, IfErr, IfOk, IsErrOf, OnOk};
 ghost use Rattle.bt_journal.specs.Disks.{Only, LeavesOnly};
-ghost use Rattle.bt_journal.specs.Heads.{IsAlike};
+ghost use Rattle.bt_journal.specs.Frames.{extent};
+ghost use Rattle.bt_journal.specs.Heads.{IsAlike, head_size};
 ghost use Rattle.bt_journal.specs.Files.{recovered, is_refusal, IsCause};
-ghost use Rattle.bt_journal.specs.Stores.{StoreValue, disk_of, state_in, head_in, is_open, state_of, Finds, IsKept, IsConsistent, IsBeforeOrAfterRun};
+ghost use Rattle.bt_journal.specs.Stores.{StoreValue, disk_of, state_in, head_in, is_open, state_of, Finds, IsKept, IsConsistent, IsBeforeOrAfterCheckpoint, IsBeforeOrAfterRun};
 
 use crate::disk::Disk;
 use crate::fault::Fault;
@@ -16,7 +17,7 @@ use std::marker::Model;
 
 /// A machine, and the journal of the payloads that changed it.
 ///
-/// After a call that failed, other than `TooLong` for a payload of a checkpoint, the store is closed: nothing is known of its machine, and the file may have
+/// After a call that failed, the store is closed: nothing is known of its machine, and the file may have
 /// the payload or not. Open the file again.
 #[derive(Drop)]
 pub struct Store<D: Disk, M: Machine> {
@@ -81,6 +82,13 @@ impl<D: Disk, M: Machine> Store<D, M> {
         &self.machine
     }
 
+    /// The number of bytes of the head and the payloads in the file, with their frames.
+    pub fn size(&self) -> usize
+        ensures { IsTrue (is_open self.now) → result ≡ head_size + extent (recovered (D.contents (disk_of self.now))) }
+    {
+        self.journal.end
+    }
+
     /// Does nothing. Its contract is what is true of an open store between any two calls: a crash leaves a file of its state.
     pub fn standing(&self)
         ensures { IsTrue (is_open self.now) → IsKept D.contents D.outcome M.after M.blank (head_in self.now) (disk_of self.now) (state_in self.now) }
@@ -120,19 +128,22 @@ impl<D: Disk, M: Machine> Store<D, M> {
 }
 
 impl<D: Disk, M: Compact> Store<D, M> {
-    /// Compacts the state, and puts a new file with one payload in the place of the old one. At `Err` the store is closed: open the file again.
-    pub fn checkpoint(&mut self, alloc: Global) -> Result<(), Fault>
+    /// Compacts the state, and puts a new file with one payload in the place of the old one. Returns whether it did: `false` if the state cannot be compacted
+    /// now, or if memory ran out, and then nothing has changed. At `Err` the store is closed: open the file again.
+    pub fn checkpoint(&mut self, alloc: Global) -> Result<bool, Fault>
         ensures open { OnOk result (IsTrue (is_open self.old) × IsTrue (is_open self.new)) }
-        ensures acknowledged { OnOk result (state_in self.new ≡ M.compacted (state_in self.old)) }
+        ensures acknowledged { IfOk result (λ is_done. is_done ≡ true → M.is_compacted (state_in self.old) (state_in self.new)) }
+        ensures unchanged { IfOk result (λ is_done. is_done ≡ false → self.new ≡ self.old) }
         ensures kept { OnOk result (IsKept D.contents D.outcome M.after M.blank (head_in self.new) (disk_of self.new) (state_in self.new)) }
         ensures head { IsAlike (head_in self.old) (head_in self.new) }
 
         // A crash at any moment of the call leaves a file in which `open` finds the state of before, or that state compacted.
         ensures any_moment { IsTrue (is_open self.old) → LeavesOnly D.moment D.outcome_since (disk_of self.old) (disk_of self.new)
-            (λ file. Finds M.after M.blank (head_in self.old) (state_in self.old) file ⊎ Finds M.after M.blank (head_in self.old) (M.compacted (state_in self.old)) file) }
+            (IsBeforeOrAfterCheckpoint M.after M.is_compacted M.blank (head_in self.old) (state_in self.old)) }
 
         // An error has a cause, and a closed store changes nothing.
         ensures failed { IsErrOf result Fault.Failed → D.fault_count (disk_of self.old) < D.fault_count (disk_of self.new) }
+        ensures counted { D.fault_count (disk_of self.old) ≤ D.fault_count (disk_of self.new) }
         ensures was_closed { IsErrOf result Fault.Closed → is_open self.old ≡ false }
         ensures closed { is_open self.old ≡ false → (is_open self.new ≡ false) × (disk_of self.new ≡ disk_of self.old) }
     {
@@ -140,8 +151,8 @@ impl<D: Disk, M: Compact> Store<D, M> {
             return Err(Fault::Closed);
         }
         self.is_open = false;
-        compact(alloc, &mut self.journal, &mut self.machine)?;
+        let is_done = compact(alloc, &mut self.journal, &mut self.machine)?;
         self.is_open = true;
-        Ok(())
+        Ok(is_done)
     }
 }

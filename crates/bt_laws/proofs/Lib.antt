@@ -1,3 +1,4 @@
+pub mod CompactedTables
 pub mod CutScripts
 pub mod FlushBounds
 pub mod FromScratch

@@ -1,6 +1,6 @@
 -- The rows of a dump are the rows that were dumped.
 use Rattle.std.proofs.Common.{ℕ, zero, suc, ◌≡◌, ◌∙◌, ◌+◌, ◌≤◌, ◌==◌, ◌&&◌, ◌++◌, Bool, true, false, List, [], ◌∷◌, length, map, None, Result}
-use Rattle.std.proofs.Common.{Ok, Err, ap, sym, subst, refl, arith, append_assoc, append-nil, length-append, if◌then◌else◌, codes, T, eq-eqb}
+use Rattle.std.proofs.Common.{Ok, Err, ap, sym, subst, refl, arith, append_assoc, length-append, if◌then◌else◌, codes, T, eq-eqb}
 use Rattle.std.proofs.lemmas.List.{length-map}
 use Rattle.std.specs.Cmp.Lexicographic.{pointwise}
 use Rattle.std.specs.FinMap.{is_sorted}
@@ -37,7 +37,9 @@ use Rattle.bt_table.specs.Tables.{Intact, PlainTable}
 use Rattle.bt_table.specs.declared.reply.Reply.TheVariants.{Loaded}
 use Rattle.bt_table.proofs.offered.SoundTables.{rows_sorted}
 use Rattle.std.proofs.lemmas.Bool.Decides.{nat_tests}
-use Rattle.bt_laws.specs.Dumps.{AreShown, HasPlainHeader, IsReadyFor, dump_of, header_line}
+use Rattle.bt_snapshot.specs.Snapshots.{AreShown, dump_of, header_line}
+use Rattle.bt_snapshot.proofs.offered.Lines.{visited_from}
+use Rattle.bt_laws.specs.Dumps.{HasPlainHeader, IsReadyFor}
 use Rattle.bt_laws.specs.StoredTables.{HasOnlyBytes, IsStored}
 use Rattle.bt_laws.specs.CanonicalForms.{AreOfOneDefinition, HaveSameRows, image_after, is_of_all_rows}
 use Rattle.bt_laws.proofs.FromScratch.{loaded_from_scratch, of_table, rebuilt_from_scratch, table_of, trees_alike}
@@ -238,10 +240,6 @@ module _ (table other : PlainTable) (stored : IsStored table) (header : HasPlain
         ∙ ap (λ (text : List ℕ). Ok text) (sym (trees_alike name tree loaded both one)) ∙ sym (rebuilt_from_scratch table stored.sound name tree first all)
 
 -- ---- the text that is made row by row
-
-visited_from : (text : List ℕ) (rows : RowMap) → fold (λ all row. all ++ record_line row.1) text rows ≡ text ++ flat_map record_line (map (λ r. r.1) rows)
-visited_from text [] = sym (append-nil text)
-visited_from text (r ∷ rows) = visited_from (text ++ record_line r.1) rows ∙ append_assoc text (record_line r.1) (flat_map record_line (map (λ r. r.1) rows))
 
 pub visited : (rows : RowMap) → fold (λ text row. text ++ record_line row.1) [] rows ≡ flat_map record_line (map (λ row. row.1) rows)
 visited rows = visited_from [] rows

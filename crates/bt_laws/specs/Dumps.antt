@@ -1,31 +1,12 @@
--- A table as a text that another table loads.
-use Rattle.std.specs.Prelude.{◌≡◌, ◌++◌, List, [], None, Ok, codes, false, flat_map, length, map, true, ℕ}
+-- A table that loads the dump of another one.
+use Rattle.std.specs.Prelude.{◌≡◌, List, [], Ok, false, length, true, ℕ}
 use Rattle.bt_record.specs.Records.{has_mark}
-use Rattle.bt_row.specs.RecordTexts.{record_text}
-use Rattle.bt_row.specs.declared.rows.schema.Column.{Column}
 use Rattle.bt_value.specs.declared.value.Value.{Value}
 use Rattle.bt_table.specs.Calls.{Load, NamedTree, Rebuild, load_refusals, step, tree_named, with_rows}
 use Rattle.bt_table.specs.Tables.{Intact, PlainTable}
 use Rattle.bt_table.specs.declared.reply.Reply.TheVariants.{Loaded}
-use Rattle.bt_view.specs.Ranges.{scan}
-use Rattle.bt_show.specs.RecordTexts.{record_line}
+use Rattle.bt_snapshot.specs.Snapshots.{AreShown, dump_of, header_line}
 use Rattle.bt_laws.specs.CanonicalForms.{AreOfOneDefinition, image_after, is_of_all_rows}
-
--- ---- the text
-
--- the header: the names of the columns as a record, and a line feed
-abbrev pub header_line : List Column → List ℕ
-header_line columns = record_text (map (λ c. c.name) columns) ++ codes "\n"
-
--- the dump of rows with these columns: the header, followed by the line of each row
-abbrev pub dump_of : List Column → List (List Value) → List ℕ
-dump_of columns rows = header_line columns ++ flat_map record_line rows
-
--- the rows that a table shows
-abbrev pub AreShown : PlainTable → List (List Value) → Type 0
-AreShown table rows = scan (Intact table) (codes "primary") None None ≡ Ok rows
-
--- ---- two tables
 
 -- the header does not begin with a byte order mark, which a load would drop; no column name of the language does
 abbrev pub HasPlainHeader : PlainTable → Type 0

@@ -14,9 +14,12 @@
 //! - [`records_as_values`]: a record of a batch encodes the message of the values that it is read as. So values can be given to a table in
 //!   place of the records that encode them, with the same refusals.
 //! - [`dump_and_load`]: a table that loads the dump of another table has the same rows, and the same images.
+//! - [`compacted_tables`]: a table that was compacted is the table after each of its trees was rebuilt. So it has the same columns, rows and
+//!   indexes.
 #![tactic(auto)]
 
 mod canonical;
+mod compacted;
 mod cuts;
 mod dumps;
 mod flushes;
@@ -24,6 +27,7 @@ mod heights;
 mod values;
 
 pub use canonical::canonical_form;
+pub use compacted::compacted_tables;
 pub use cuts::cut_script;
 pub use dumps::dump_and_load;
 pub use flushes::flush_sizes;

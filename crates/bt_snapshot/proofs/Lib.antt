@@ -1,0 +1,3 @@
+mod Sameness
+mod Snapshots
+pub mod offered

@@ -1,0 +1,2 @@
+-- The lemmas of this crate that crates above cite.
+pub mod Lines
