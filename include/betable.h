@@ -61,7 +61,23 @@ typedef enum {
     /* The session is open already. Nothing was done. */
     BETABLE_ALREADY_OPEN = 4,
     /* A call on packed bytes was refused, and nothing has changed. Its fault says why. Or betable_explain has found a reason. */
-    BETABLE_REFUSED = 5
+    BETABLE_REFUSED = 5,
+    /* The session has no table in a file: it was not opened by betable_keep_open, or an earlier call of it failed. Nothing was done. Open the file again. */
+    BETABLE_NOT_KEPT = 6,
+    /* The file, or the requests, are too long: 2^62 bytes. */
+    BETABLE_FILE_TOO_LONG = 7,
+    /* The file does not begin with the head of a table. */
+    BETABLE_NOT_A_TABLE = 8,
+    /* The file has another format. */
+    BETABLE_OTHER_FORMAT = 9,
+    /* Another engine wrote the file. */
+    BETABLE_OTHER_ENGINE = 10,
+    /* The file is damaged. */
+    BETABLE_DAMAGED = 11,
+    /* Of the calls of betable_file.h: a call of the system failed, and errno says why. */
+    BETABLE_FILE_FAILED = 12,
+    /* Of the calls of betable_file.h: the file is open already, in this process or another one. */
+    BETABLE_FILE_IN_USE = 13
 } betable_status;
 
 /* Why a call on packed bytes was refused, and where. Written if the result is REFUSED. */
@@ -228,6 +244,53 @@ bool betable_is_lost(betable_session *session) BETABLE_NOT_NULL;
 
 /* Closes a session and frees its memory. DONE or NOT_OPEN. */
 betable_status betable_close(betable_session *session) BETABLE_NOT_NULL;
+
+/* A table in a file. These calls say which calls of the file the host is to make, and make none themselves: betable_file.h has calls that make them. The file is
+ * that of `betable_engine --keep`. It is proved that a crash loses nothing that was told, if the host makes the calls in order, makes all of them before it tells
+ * a reply, and makes none after one that failed. */
+
+/* A call of the file that the host is to make. */
+typedef enum {
+    BETABLE_WRITE = 0,   /* Write the bytes from an offset on. */
+    BETABLE_CUT = 1,     /* Give the file another length. */
+    BETABLE_REPLACE = 2, /* Write the bytes to a new file, sync it, give it the name of this one, and sync the folder. The later calls are for the new file. */
+    BETABLE_SYNC = 3     /* Sync the file. */
+} betable_file_call_kind;
+
+typedef struct {
+    /* What it is: a betable_file_call_kind. */
+    uint32_t kind;
+    /* The offset of a WRITE, or the new length of a CUT. Otherwise 0. */
+    uint64_t at;
+    /* The number of bytes of a WRITE or a REPLACE, which betable_copy_file_call copies. Otherwise 0. */
+    uint64_t length;
+} betable_file_call;
+
+/* Opens a session whose table is in a file, by the requests in the bytes of the file. The host has opened the file, locked it, synced it and read it. An empty
+ * file becomes one of a table; the salt of each is a random number. Then make the calls of the file. DONE, OUT_OF_MEMORY, ALREADY_OPEN, FILE_TOO_LONG,
+ * NOT_A_TABLE, OTHER_FORMAT, OTHER_ENGINE or DAMAGED. */
+betable_status betable_keep_open(betable_session *session, const unsigned char *file, size_t length, uint64_t salt) BETABLE_NOT_NULL;
+
+/* Carries out requests, which are frames as docs/ENGINE.md describes them. The frames of the replies are read by betable_replies_length and betable_copy_replies.
+ * A crash leaves the changes of all requests of a call, or of none. After DONE make the calls of the file, and tell no reply before. DONE, OUT_OF_MEMORY, NOT_OPEN,
+ * NOT_KEPT or FILE_TOO_LONG. After all but DONE later calls return NOT_KEPT. */
+betable_status betable_keep_run(betable_session *session, const unsigned char *requests, size_t length) BETABLE_NOT_NULL;
+
+/* Whether the file should get a checkpoint: it has 16 MiB, and is twice as long as after the last one, or as it was when it was opened. */
+bool betable_keep_is_due(betable_session *session) BETABLE_NOT_NULL;
+
+/* Replaces the requests in the file by the state. Then make the calls of the file. There are none if the table cannot be compacted now, as while an index is
+ * building. The result is one of betable_keep_run. */
+betable_status betable_keep_checkpoint(betable_session *session) BETABLE_NOT_NULL;
+
+/* The number of calls of the file that the last betable_keep_open, betable_keep_run or betable_keep_checkpoint asks for. */
+size_t betable_file_call_count(betable_session *session) BETABLE_NOT_NULL;
+
+/* Tells what the call of the file at a place is, counted from 0. False if there is none; then nothing is written. */
+bool betable_file_call_at(betable_session *session, size_t place, betable_file_call *call) BETABLE_NOT_NULL;
+
+/* Copies the bytes of a call of the file from a place on, as many as there are and as fit, and returns their number. */
+size_t betable_copy_file_call(betable_session *session, size_t place, size_t from, unsigned char *out, size_t room) BETABLE_NOT_NULL;
 
 #ifdef __cplusplus
 }
