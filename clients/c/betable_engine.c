@@ -1,7 +1,7 @@
-/* The calls of betable_engine.h: requests and replies in frames, over two pipes. A frame is the letters BTF, the version 1, the length of the payload in eight
- * bytes, the kind in one byte, and the payload. */
+/* The calls of betable_engine.h: requests and replies in frames, over two pipes, or to a table of this process. A frame is the letters BTF, the version 1, the
+ * length of the payload in eight bytes, the kind in one byte, and the payload. */
 #define _GNU_SOURCE /* pipe2 */
-#include "betable_engine.h"
+#include "betable_engine_local.h"
 
 #include <errno.h>
 #include <fcntl.h>
@@ -32,6 +32,12 @@ struct betable_engine_state {
     buffer arrived; /* bytes of replies that were read while a request was written */
     buffer reply;   /* the payload of the last reply, which is a text and then marks */
     size_t text_length, mark_count, refused_count;
+    /* Of a table of this process: the frames of requests that were not carried out, how many requests of the last run have a reply that was not received, and how
+       many bytes of its replies were copied. */
+    const betable_engine_local *local;
+    void *table;
+    buffer requests;
+    size_t answered, copied;
 };
 typedef struct betable_engine_state state;
 
@@ -182,9 +188,12 @@ static void free_state(betable_engine *engine) {
     close_end(&engine->at->to);
     close_end(&engine->at->from);
     wait_for_end(engine);
+    if (engine->at->local != NULL)
+        engine->at->local->close(engine->at->table);
     free(engine->at->kinds.at);
     free(engine->at->arrived.at);
     free(engine->at->reply.at);
+    free(engine->at->requests.at);
     free(engine->at);
     engine->at = NULL;
 }
@@ -241,6 +250,54 @@ static betable_engine_status write_without_signal(betable_engine *engine, unsign
     return status;
 }
 
+/* ---- a table of this process ---- */
+
+static betable_engine_status add_frame(state *of, const unsigned char *header, size_t start, const unsigned char *bytes, size_t length) {
+    if (!make_room(&of->requests, start + length))
+        return BETABLE_OUT_OF_MEMORY;
+    memcpy(of->requests.at + of->requests.end, header, start);
+    if (length > 0)
+        memcpy(of->requests.at + of->requests.end + start, bytes, length);
+    of->requests.end += start + length;
+    return BETABLE_DONE;
+}
+
+/* Carries out the requests that were sent, if no reply to those before them is left. */
+static betable_engine_status run_requests(state *of) {
+    if (of->answered > 0)
+        return BETABLE_DONE;
+    size_t length = of->requests.end;
+    of->requests.end = of->copied = 0;
+    betable_engine_status status = of->local->run(of->table, length == 0 ? (const unsigned char *)"" : of->requests.at, length);
+    of->answered = status == BETABLE_DONE ? count_of(&of->kinds) : 0;
+    return status;
+}
+
+static bool copy_bytes(state *of, unsigned char *out, size_t count) {
+    size_t copied = of->local->copy_replies(of->table, of->copied, out, count);
+    of->copied += copied;
+    return copied == count;
+}
+
+betable_engine_status betable_engine_open_local(betable_engine *engine, const betable_engine_local *calls, void *table) {
+    if ((engine->at = malloc(sizeof *engine->at)) == NULL)
+        return BETABLE_OUT_OF_MEMORY;
+    *engine->at = (state){.to = -1, .from = -1, .local = calls, .table = table};
+    engine->wait_status = 0;
+    return BETABLE_DONE;
+}
+
+betable_engine_status betable_engine_checkpoint(betable_engine *engine) {
+    if (engine->at == NULL)
+        return BETABLE_NOT_OPEN;
+    if (engine->at->local == NULL)
+        return BETABLE_NOT_KEPT;
+    clear_reply(engine->at);
+    return count_of(&engine->at->kinds) > 0 ? BETABLE_ENGINE_OUT_OF_ORDER : engine->at->local->checkpoint(engine->at->table);
+}
+
+/* ---- sending ---- */
+
 /* Sends a request, which runs once if it has an id. */
 static betable_engine_status send_request(betable_engine *engine, const unsigned char *id, betable_engine_request kind, const unsigned char *bytes, size_t length) {
     unsigned char header[ONCE_HEADER] = {'B', 'T', 'F', 1};
@@ -256,7 +313,8 @@ static betable_engine_status send_request(betable_engine *engine, const unsigned
         return BETABLE_NOT_OPEN;
     if (!make_room(&engine->at->kinds, 1))
         return BETABLE_OUT_OF_MEMORY;
-    betable_engine_status status = write_without_signal(engine, header, start, bytes, length);
+    betable_engine_status status = engine->at->local != NULL ? add_frame(engine->at, header, start, bytes, length)
+                                                             : write_without_signal(engine, header, start, bytes, length);
     if (status == BETABLE_DONE)
         engine->at->kinds.at[engine->at->kinds.end++] = (unsigned char)kind;
     return status;
@@ -270,6 +328,8 @@ betable_engine_status betable_engine_send(betable_engine *engine, betable_engine
 
 /* Reads this many bytes: those that have arrived, and then those of the pipe. False if the pipe ends first. */
 static bool read_bytes(state *of, unsigned char *out, size_t count) {
+    if (of->local != NULL)
+        return copy_bytes(of, out, count);
     size_t first = count < count_of(&of->arrived) ? count : count_of(&of->arrived);
     if (first > 0)
         memcpy(out, of->arrived.at + of->arrived.start, first);
@@ -338,7 +398,11 @@ betable_engine_status betable_engine_receive(betable_engine *engine, betable_fau
     clear_reply(of);
     if (count_of(&of->kinds) == 0)
         return BETABLE_ENGINE_OUT_OF_ORDER;
+    betable_engine_status status = of->local != NULL ? run_requests(of) : BETABLE_DONE;
     int kind = of->kinds.at[of->kinds.start++];
+    if (status != BETABLE_DONE)
+        return status;
+    of->answered -= of->local != NULL;
     if (!read_bytes(of, header, HEADER))
         return ended(engine);
     uint64_t length = number_at(header + 4);
@@ -467,11 +531,16 @@ betable_engine_status betable_engine_close(betable_engine *engine) {
     if (engine->at == NULL)
         return BETABLE_NOT_OPEN;
     unsigned char piece[4096];
-    ssize_t count;
+    ssize_t count = 0;
     close_end(&engine->at->to);
-    do
-        count = read(engine->at->from, piece, sizeof piece);
-    while (count > 0 || (count < 0 && errno == EINTR));
+    if (engine->at->local == NULL)
+        do
+            count = read(engine->at->from, piece, sizeof piece);
+        while (count > 0 || (count < 0 && errno == EINTR));
+    else if (engine->at->requests.end > 0) {
+        engine->at->answered = 0;
+        run_requests(engine->at);
+    }
     free_state(engine);
     return BETABLE_DONE;
 }

@@ -1,5 +1,6 @@
 /* The engine from C: a process that keeps a table, and works on each call by several threads. docs/ENGINE.md says when to use it, and when a session of
- * betable.h. Compile betable_engine.c into your program; it needs betable.h, and not the library.
+ * betable.h. Compile betable_engine.c into your program; it needs betable.h, and not the library. Without a process, the same calls are on a table in a file:
+ * see betable_engine_open_file.
  *
  *     betable_engine engine = BETABLE_ENGINE_CLOSED;
  *     betable_engine_options options = {.workers = 4};
@@ -58,8 +59,8 @@ typedef struct {
     const char *keep;
 } betable_engine_options;
 
-/* The result of a call: DONE, OUT_OF_MEMORY, NOT_OPEN, ALREADY_OPEN or REFUSED of betable_status, or one of the numbers below. After all but DONE and REFUSED,
- * the replies are empty, except for INVALID. */
+/* The result of a call: DONE, OUT_OF_MEMORY, NOT_OPEN, ALREADY_OPEN or REFUSED of betable_status, or one of the numbers below. Of a table in a file of this process
+ * also a result of betable_file_run. After all but DONE and REFUSED, the replies are empty, except for INVALID. */
 typedef int betable_engine_status;
 
 enum {
@@ -98,6 +99,15 @@ typedef enum {
  * nothing of it is left. */
 betable_engine_status betable_engine_open(betable_engine *engine, const betable_engine_options *options) BETABLE_NOT_NULL;
 
+/* Opens a table in a file in this process, by betable_file_open, whose results it has too. The calls below work on the thread of the caller, and their changes are
+ * on the disk when they return. Requests that are sent ahead are carried out together, with one sync, at the next betable_engine_receive or betable_engine_close.
+ * It is in betable_engine_file.c: compile that too, and link the library. A child that the process has forked cannot use it, and may close its copy. */
+betable_engine_status betable_engine_open_file(betable_engine *engine, const char *path) BETABLE_NOT_NULL;
+
+/* Replaces the requests in the file of betable_engine_open_file by the state: see betable_file_checkpoint. NOT_KEPT for a process, which makes its checkpoints by
+ * itself. */
+betable_engine_status betable_engine_checkpoint(betable_engine *engine) BETABLE_NOT_NULL;
+
 /* The calls of betable.h. Each returns DONE, REFUSED (as there), OUT_OF_MEMORY, NOT_OPEN, ENDED, INVALID, OUT_OF_ORDER or OTHER_PROGRAM. OUT_OF_MEMORY: this
  * process has no memory for the reply; the engine has carried out the request, and goes on. */
 betable_engine_status betable_engine_run(betable_engine *engine, const unsigned char *script, size_t length) BETABLE_NOT_NULL;
@@ -117,7 +127,7 @@ betable_engine_status betable_engine_trees(betable_engine *engine, const unsigne
 
 /* Makes a request that runs once, with an id of sixteen bytes that no other request has, such as a random one. If a request with the id ran before, nothing runs,
  * and the result and the reply are those of the first time, also if the engine ended since and was opened again. So make a request again if its reply did not
- * arrive. The last 100,000 requests are known. The engine has to keep its table (`keep`). The result is that of the call of this kind; or INVALID, with the reply
+ * arrive. The last 100,000 requests are known. The table has to be in a file. The result is that of the call of this kind; or INVALID, with the reply
  * RequestReused, if another request had the id. */
 betable_engine_status betable_engine_once(
     betable_engine *engine, const unsigned char *id, betable_engine_request kind, const unsigned char *bytes, size_t length, betable_fault *fault) BETABLE_NOT_NULL;
