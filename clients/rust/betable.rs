@@ -23,7 +23,8 @@
 //! }
 //! ```
 //!
-//! An [`Engine`] has the same calls. It is a process of its own, which works on each call by several threads: docs/ENGINE.md says when to use which.
+//! An [`Engine`] has the same calls. It is a process of its own, which works on each call by several threads: docs/ENGINE.md says when to use which. A
+//! [`KeptSession`] has them on a table in a file.
 //!
 //! A call takes a session by `&mut`, so one call at a time uses it. It is `Send`, so it goes from thread to thread, and `Mutex<Session>` is used by several. It
 //! is closed when it is dropped. Cargo builds this crate with Cargo.toml; clients/rust/build uses only rustc. Both link the libbt_c.a of the folder that
@@ -32,6 +33,8 @@
 mod changes;
 mod engine;
 mod fault;
+mod frames;
+mod kept;
 mod library;
 mod link;
 mod packed;
@@ -44,7 +47,8 @@ mod values;
 
 pub use changes::{Changes, Op};
 pub use engine::{EngineOptions, Process};
-pub use fault::Fault;
+pub use fault::{Fault, FileRefusal};
+pub use kept::KeptFile;
 pub use library::{Library, OutOfMemory};
 pub use link::Link;
 pub use reason::{Problem, Reason};
@@ -58,7 +62,7 @@ use std::error::Error;
 use std::fmt;
 use std::ops::Range;
 
-/// A table, or none so far, that lives between scripts: that of a [`Session`] or of an [`Engine`].
+/// A table, or none so far, that lives between scripts: that of a [`Session`], of an [`Engine`] or of a [`KeptSession`].
 pub struct Table<L> {
     link: L,
     /// The trees, if a typed call has read them since the last script.
@@ -76,6 +80,9 @@ pub type Session = Table<Library>;
 
 /// A table in a process of its own, which works on each call by several threads. A script or a check fails with a [`Fault`].
 pub type Engine = Table<Process>;
+
+/// A table in the memory of this process and in a file: what a call has changed is on the disk when it returns. A script or a check fails with a [`Fault`].
+pub type KeptSession = Table<KeptFile>;
 
 impl<L> Table<L> {
     pub(crate) fn of(link: L) -> Table<L> {

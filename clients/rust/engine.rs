@@ -1,14 +1,11 @@
-//! The engine: a table in a process of its own, which answers requests in frames.
-//!
-//! A frame is the letters `BTF`, the version 1, the length of the payload in eight bytes, the kind in one byte, and the payload. Numbers are little endian.
+//! The engine: a table in a process of its own, which answers requests.
 
 use crate::changes::Changes;
 use crate::fault::Fault;
-use crate::link::{COMMAND_REFUSED, Calls};
+use crate::frames::{Exchange, HEADER, MAGIC, header, number, result_of};
 use crate::packed::Request;
-use crate::reason::Reason;
 use crate::values::reserve;
-use crate::{Engine, Part, Replies, Table};
+use crate::{Engine, Table};
 use std::collections::VecDeque;
 use std::io::{self, BufReader, BufWriter, ErrorKind, Read, Write};
 use std::os::unix::process::CommandExt;
@@ -61,17 +58,6 @@ impl Engine {
         link.results.pop_front().or_else(|| (link.in_flight > 0).then(|| link.receive()))
     }
 
-    /// Runs a script once. Its id is one that no other script has, such as a random one. If a script with the id ran before, nothing runs, and the replies are
-    /// those of the first time, also if the engine ended since and was made again. So send a script again if its replies did not arrive. The last 100,000 are known.
-    /// The engine has to [keep](EngineOptions::keep) its table.
-    pub fn once(&mut self, id: &[u8; 16], script: &[u8]) -> Result<Replies, Fault> {
-        if !self.link.is_kept {
-            return Err(Fault::NotKept);
-        }
-        self.trees.clear();
-        self.link.replies(ONCE, &[id, &[SCRIPT], script])
-    }
-
     /// The id of the process.
     pub fn id(&self) -> u32 {
         self.link.child.id()
@@ -98,20 +84,6 @@ impl Changes<'_, Process> {
         Ok(())
     }
 }
-
-const SCRIPT: u8 = 1;
-const CHECK: u8 = 2;
-const EXPLAIN: u8 = 11;
-const ONCE: u8 = 12;
-
-const MAGIC: [u8; 4] = *b"BTF\x01";
-const HEADER: usize = 13;
-const NUMBER: usize = 8;
-const MARK: usize = NUMBER + 1;
-
-const DONE: u8 = 0;
-const REFUSED: u8 = 1;
-const INVALID: u8 = 2;
 
 // A reply to changes has at most 37 bytes. That many of them fit in a pipe of one page, so the engine reads on, and a request that is written while they are
 // not read does not wait for ever.
@@ -144,19 +116,9 @@ impl Process {
         Fault::Ended { status: self.child.wait().ok() }
     }
 
-    // What arrived is no reply.
-    fn other_version(&mut self) -> Fault {
-        let _ = self.child.kill().and_then(|()| self.child.wait());
-        Fault::OtherVersion
-    }
-
     // Writes a request. Its payload is these bytes, one after the other.
     fn write(&mut self, kind: u8, payload: &[&[u8]]) -> Result<(), Fault> {
-        let length: usize = payload.iter().map(|part| part.len()).sum();
-        let mut header = [0; HEADER];
-        header[..4].copy_from_slice(&MAGIC);
-        header[4..12].copy_from_slice(&(length as u64).to_le_bytes());
-        header[12] = kind;
+        let header = header(kind, payload);
         let requests = self.requests.as_mut().ok_or(Fault::Ended { status: None })?;
         match [&header[..]].iter().chain(payload).try_for_each(|part| requests.write_all(part)).and_then(|()| requests.flush()) {
             Ok(()) => Ok(()),
@@ -180,18 +142,12 @@ impl Process {
         if header[..4] != MAGIC {
             return Err(self.other_version());
         }
-        let length = number(&header[4..12]);
-        self.read_payload(length, payload)?;
-        let fault = match (header[12], length) {
-            (DONE, _) => return Ok(()),
-            (REFUSED, 24) => Fault::refused(number(&payload[..8]), number(&payload[8..16]), number(&payload[16..])),
-            (INVALID, _) if payload == b"TooLong" => Fault::TooLarge,
-            (INVALID, _) if payload == b"RequestReused" => Fault::RequestReused,
-            (INVALID, _) => Fault::OtherVersion,
-            _ => self.other_version(),
-        };
-        payload.clear();
-        Err(fault)
+        self.read_payload(number(&header[4..12]), payload)?;
+        let result = result_of(header[12], payload).unwrap_or_else(|| Err(self.other_version()));
+        if result.is_err() {
+            payload.clear();
+        }
+        result
     }
 
     // Without memory for the payload it is passed over.
@@ -214,8 +170,10 @@ impl Process {
         self.in_flight -= 1;
         self.read(&mut Vec::new())
     }
+}
 
-    // Makes a request, and reads its reply after those to the changes that were sent ahead.
+impl Exchange for Process {
+    // Reads the reply after those to the changes that were sent ahead.
     fn exchange(&mut self, kind: u8, payload: &[&[u8]], reply: &mut Vec<u8>) -> Result<(), Fault> {
         while self.in_flight > 0 {
             let result = self.receive();
@@ -226,37 +184,13 @@ impl Process {
         self.read(reply)
     }
 
-    // The replies to a script, or to its check, by their marks.
-    fn replies(&mut self, kind: u8, request: &[&[u8]]) -> Result<Replies, Fault> {
-        let mut payload = Vec::new();
-        self.exchange(kind, request, &mut payload)?;
-        replies_of(payload).ok_or_else(|| self.other_version())
-    }
-}
-
-impl Calls for Process {
-    type Failure = Fault;
-
-    fn run(&mut self, script: &[u8]) -> Result<Replies, Fault> {
-        self.replies(SCRIPT, &[script])
+    fn other_version(&mut self) -> Fault {
+        let _ = self.child.kill().and_then(|()| self.child.wait());
+        Fault::OtherVersion
     }
 
-    fn check(&mut self, script: &[u8]) -> Result<Vec<Part>, Fault> {
-        Ok(self.replies(CHECK, &[script])?.parts)
-    }
-
-    fn explain(&mut self, script: &[u8]) -> Result<Option<Reason>, Fault> {
-        let mut payload = Vec::new();
-        self.exchange(EXPLAIN, &[script], &mut payload)?;
-        match payload.len() / NUMBER {
-            0 => Ok(None),
-            4 => Ok(Some(Reason::of([0, 1, 2, 3].map(|place| number(&payload[NUMBER * place..][..NUMBER]))))),
-            _ => Err(self.other_version()),
-        }
-    }
-
-    fn call(&mut self, request: Request, packed: &[u8], reply: &mut Vec<u8>) -> Result<(), Fault> {
-        self.exchange(request as u8, &[packed], reply)
+    fn is_kept(&self) -> bool {
+        self.is_kept
     }
 }
 
@@ -264,31 +198,4 @@ impl Drop for Process {
     fn drop(&mut self) {
         let _ = self.end();
     }
-}
-
-// The number in these eight bytes.
-fn number(bytes: &[u8]) -> u64 {
-    bytes.try_into().map_or(0, u64::from_le_bytes)
-}
-
-// The text of replies is followed by a mark for each command, which is where its reply ends and what it did, and by the length of the text.
-fn replies_of(mut payload: Vec<u8>) -> Option<Replies> {
-    let length = payload.len().checked_sub(NUMBER)?;
-    let text = usize::try_from(number(&payload[length..])).ok().filter(|text| *text <= length && (length - text) % MARK == 0)?;
-    let mut parts = Vec::with_capacity((length - text) / MARK);
-    let mut start = 0;
-    for mark in payload[text..length].chunks_exact(MARK) {
-        let (end, code) = (usize::try_from(number(&mark[..NUMBER])).ok()?, u32::from(mark[NUMBER]));
-        if !(start..=text).contains(&end) || code > COMMAND_REFUSED {
-            return None;
-        }
-        parts.push(Part { bytes: start..end, is_refused: code == COMMAND_REFUSED });
-        start = end;
-    }
-    if start < text {
-        return None;
-    }
-    payload.truncate(text);
-    let refused_count = parts.iter().filter(|part| part.is_refused).count();
-    Some(Replies { bytes: payload, parts, refused_count })
 }

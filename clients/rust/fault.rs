@@ -32,12 +32,46 @@ pub enum Fault {
     /// The engine has ended, or was killed, before the whole reply arrived. Its table is gone, and later calls fail in the same way. The status is that of its
     /// process, or `None` if it is not known.
     Ended { status: Option<ExitStatus> },
+    /// A file was not opened, and is as it was.
+    FileRefused { reason: FileRefusal },
+    /// A call of the system failed, with this number of `errno`. A call of an open table may have been kept: open the file again to see.
+    FileFailed { code: i32 },
+    /// Nothing was done, since an earlier call on the table in the file failed: open the file again.
+    Closed,
     /// Another script had the id of a script that is to run once.
     RequestReused,
     /// A script was to run once, and the engine does not keep its table.
     NotKept,
     /// The program of the engine could not be started.
     NotStarted { kind: io::ErrorKind },
+}
+
+/// Why a file is not opened.
+#[derive(Clone, Copy, Debug, PartialEq, Eq)]
+#[non_exhaustive]
+pub enum FileRefusal {
+    /// It is open already, in this process or another one. Also for a call in a forked child.
+    InUse,
+    /// It does not begin with the head of a table.
+    NotATable,
+    OtherFormat,
+    /// Another engine wrote it.
+    OtherEngine,
+    Damaged,
+    TooLong,
+}
+
+impl fmt::Display for FileRefusal {
+    fn fmt(&self, out: &mut fmt::Formatter<'_>) -> fmt::Result {
+        out.write_str(match self {
+            FileRefusal::InUse => "the file is in use",
+            FileRefusal::NotATable => "the file is no table",
+            FileRefusal::OtherFormat => "the file has another format",
+            FileRefusal::OtherEngine => "another engine wrote the file",
+            FileRefusal::Damaged => "the file is damaged",
+            FileRefusal::TooLong => "the file is too long",
+        })
+    }
 }
 
 impl Fault {
@@ -92,6 +126,9 @@ impl fmt::Display for Fault {
             Fault::OtherVersion => out.write_str("the library or the engine is of another version than the crate"),
             Fault::Ended { status: Some(status) } => write!(out, "the engine has ended: {status}"),
             Fault::Ended { status: None } => out.write_str("the engine has ended"),
+            Fault::FileRefused { reason } => reason.fmt(out),
+            Fault::FileFailed { code } => io::Error::from_raw_os_error(*code).fmt(out),
+            Fault::Closed => out.write_str("an earlier call failed: open the file again"),
             Fault::RequestReused => out.write_str("another script had this id: use a new one for each script"),
             Fault::NotKept => out.write_str("only an engine that keeps its table runs a script once"),
             Fault::NotStarted { kind } => write!(out, "the engine was not started: {kind}"),
