@@ -15,7 +15,8 @@
 The library is libbt_c.so, in the folder that BETABLE_LIBRARY names, or else beside this package, in out/ of the repository, where bin/build_c builds it, or
 where the Debian package has it. docs/SCRIPT.md has the language, and docs/PYTHON.md the calls and their errors.
 
-`Engine` has the same calls on a table in a process of its own, the program betable_engine, whose threads share the work (docs/ENGINE.md).
+`Engine` has the same calls on a table in a process of its own, the program betable_engine, whose threads share the work (docs/ENGINE.md). `open` has them on a
+table in a file, in this process.
 
 Without the extension `_packed`, calls on values go by scripts, and a warning says so.
 
@@ -27,7 +28,11 @@ from pathlib import Path
 
 from .calls import MOST_MESSAGES, Calls
 from .engine import Engine
-from .errors import EngineEnded, OutOfMemory, Refused, RequestReused, RowError, RowTypeError, RowValueError
+from .errors import (
+    Corrupt, EngineEnded, InDoubt, IndexBuilding, InUse, NewerFormat, NotATable, OtherEngine, OutOfMemory, Refused, RequestReused, RowError, RowTypeError,
+    RowValueError,
+)  # fmt: skip
+from .kept import KeptSession, open as open
 from .messages import OPERATIONS, Message, delete, field, put, record, upsert, upsert_form
 from .packed import Usage
 from .reasons import Problem, Reason
@@ -39,13 +44,22 @@ from .session import Session
 _VERSION = Path(__file__).parent / "VERSION"
 __version__ = (_VERSION if _VERSION.exists() else Path(__file__).parents[3] / "VERSION").read_text().strip()
 
+# Without `open`, which would hide that of Python.
 __all__ = [
     "MOST_MESSAGES",
     "OPERATIONS",
     "Calls",
+    "Corrupt",
     "Engine",
     "EngineEnded",
+    "InDoubt",
+    "InUse",
+    "IndexBuilding",
+    "KeptSession",
     "Message",
+    "NewerFormat",
+    "NotATable",
+    "OtherEngine",
     "OutOfMemory",
     "Problem",
     "Reason",

@@ -13,33 +13,20 @@ from __future__ import annotations
 import fcntl
 import os
 import select
-import struct
 import subprocess
 import weakref
 from collections import deque
 from collections.abc import Callable
 from contextlib import suppress
-from functools import partial
-from hashlib import blake2b
 from typing import Any, NoReturn
 
-from .byte_calls import ByteCalls, Outcome, PackedFault, Request
-from .calls import as_script
-from .errors import EngineEnded, OutOfMemory, RequestReused, check_request_id
+from .byte_calls import ByteCalls, Outcome, Request
+from .errors import EngineEnded, OutOfMemory
+from .frames import HEAD, MAGIC, FramedCalls, FramedSession, outcome_of, taken
 from .installed import path_of
 from .packed import HEADER_OF_NONE
-from .reasons import Problem, Reason
-from .replies import Place
-from .session import PackedSession
 
 PROGRAM = "betable_engine"
-MAGIC = b"BTF\x01"
-HEAD = struct.Struct("<4sQB")
-# Replies: the status, the numbers of a refusal, the place where the reply to a command ends and what it did, and the length of the replies.
-DONE, REFUSED, INVALID = range(3)
-FAULT, REASON, MARK, LENGTH_BYTES = struct.Struct("<3Q"), struct.Struct("<4Q"), struct.Struct("<QB"), 8
-COMMAND_REFUSED = 2
-ID_BYTES = 16  # of a request that runs once
 MOST_WORKERS, DEEPEST_CUT, LARGEST_GRAIN, LARGEST_FRAME = 64, 6, 65_536, 1 << 40
 # The C library of the process keeps the memory that a batch frees, unless the variable is set, as bin/betable has it (tools/run_program.sh).
 ENVIRONMENT = {"GLIBC_TUNABLES": "glibc.malloc.hugetlb=1:glibc.malloc.top_pad=67108864"}
@@ -91,7 +78,7 @@ class _Asked:
         return first[HEAD.size - 1], b"".join([first[HEAD.size :], *others]) if others else first[HEAD.size :]
 
 
-class EngineCalls:
+class EngineCalls(FramedCalls):
     """The calls on bytes of a process that it starts."""
 
     most_ahead = 1
@@ -99,7 +86,6 @@ class EngineCalls:
     def __init__(self, words: list[str], most_frame: int, kept: str | None = None) -> None:
         self._most_frame, self._kept = most_frame, kept
         self._asked: deque[_Asked] = deque()
-        self._marks = b""
         self.answered = 0
         self._end: tuple[int, str] | None = None  # how the process has ended, and what it has said
         self._is_forked = False
@@ -181,10 +167,10 @@ class EngineCalls:
 
     def _reply(self, asked: _Asked) -> tuple[int, bytes]:
         """The reply to a request that the engine has taken."""
-        status, payload = self._answer(asked)
-        if status == INVALID:
-            raise RuntimeError(f"the engine has not taken a request: {payload.decode(errors='replace')}")
-        return status, payload
+        return taken(self._answer(asked))
+
+    def _exchange(self, request: int, payload: bytes) -> tuple[int, bytes]:
+        return self._answer(self._add(request, payload))
 
     def _answer(self, asked: _Asked) -> tuple[int, bytes]:
         """The reply to a request. Those to the requests before it come first."""
@@ -221,52 +207,15 @@ class EngineCalls:
     def is_lost(self) -> bool:
         return self._end is not None
 
-    def run(self, script: bytes) -> bytes:
-        return self._take_marks(self._reply(self._add(Request.SCRIPT, script))[1])
-
     def run_once(self, request_id: str, script: bytes) -> bytes:
         if self._kept is None:
             raise ValueError("only an engine that keeps its table ('keep') runs a request once")
-        identity = blake2b(request_id.encode(), digest_size=ID_BYTES).digest()
-        asked = self._add(Request.ONCE, identity + bytes((Request.SCRIPT,)) + script)
-        if self._answer(asked) == (INVALID, b"RequestReused"):
-            raise RequestReused(request_id)
-        return self._take_marks(self._reply(asked)[1])
-
-    def check(self, script: bytes) -> None:
-        self._take_marks(self._reply(self._add(Request.CHECK, script))[1])
-
-    def _take_marks(self, payload: bytes) -> bytes:
-        """The text of the replies to a script, after which the marks of its commands come."""
-        length = int.from_bytes(payload[-LENGTH_BYTES:], "little")
-        self._marks = payload[length:-LENGTH_BYTES]
-        return payload[:length]
-
-    def places(self) -> list[Place]:
-        begin, found = 0, []
-        for end, kind in MARK.iter_unpack(self._marks):
-            found.append((begin, end, kind == COMMAND_REFUSED))
-            begin = end
-        return found
-
-    def explain(self, script: bytes) -> Reason | None:
-        payload = self._reply(self._add(Request.EXPLAIN, script))[1]
-        if not payload:
-            return None
-        refusal, item, field, problem = REASON.unpack(payload)
-        return Reason(refusal, item, field, Problem(problem))
-
-    def ask(self, request: Request, packed: bytes) -> Outcome:
-        return self._outcome(self._add(request, packed))
+        return super().run_once(request_id, script)
 
     def send(self, changes: bytes) -> Callable[[], Outcome]:
         asked = self._add(Request.APPLY, changes)
         self._send()
-        return lambda: self._outcome(asked)
-
-    def _outcome(self, asked: _Asked) -> Outcome:
-        status, payload = self._reply(asked)
-        return PackedFault(*FAULT.unpack(payload)) if status == REFUSED else payload
+        return lambda: outcome_of(self._reply(asked))
 
     # ---- the end ----
 
@@ -317,7 +266,7 @@ def _leave_to_parent() -> None:
 os.register_at_fork(after_in_child=_leave_to_parent)
 
 
-class Engine(PackedSession):
+class Engine(FramedSession):
     """A table, or none so far, in a process of its own, which works on each call with several threads. It has the calls of a session. The process ends when the
     engine is closed or dropped, and when this process ends, however it does. If it ends by itself or is killed, a call raises EngineEnded."""
 
@@ -346,13 +295,6 @@ class Engine(PackedSession):
 
     def __enter__(self) -> Engine:
         return self
-
-    def once(self, request_id: str, script: str | bytes) -> bytes:
-        """Like `replies`, but a script that comes again with the same request id is not run again: the call returns the replies of the first time, also after
-        the engine has ended and was made again. So a caller that got no reply sends the request again. The last 100,000 requests are known. RequestReused if
-        another script had the id. It needs `keep`."""
-        check_request_id(request_id)
-        return self._ran(as_script(script), False, partial(self._bytes.run_once, request_id))[0]
 
     @property
     def pid(self) -> int:

@@ -122,6 +122,55 @@ class RequestReused(Exception):
         return f"request {self.request_id!r} was made before with another script: use a new id for each script"
 
 
+class NotATable(Exception):
+    """The file is no table of this kind."""
+
+
+class NewerFormat(Exception):
+    """The file was written by another version of this package, in a format that this one cannot read."""
+
+
+class OtherEngine(Exception):
+    """The file was written by an engine that may give other replies than this one."""
+
+
+class InUse(Exception):
+    """Another process, or another object of this one, has the table open."""
+
+
+class Corrupt(Exception):
+    """What the file has is not what was kept. `number` is that of the script at fault, 0 for the checkpoint, or None if it is neither."""
+
+    def __init__(self, path: str, number: int | None, reason: str) -> None:
+        super().__init__(path, number, reason)
+        self.path, self.number, self.reason = path, number, reason
+
+    def __str__(self) -> str:
+        place = "" if self.number is None else "the checkpoint: " if self.number == 0 else f"script {self.number}: "
+        return f"{self.path}: {place}{self.reason}"
+
+
+class InDoubt(Exception):
+    """The disk failed, so that it is not known whether the script or group was kept. The table is closed; opening it again shows which. `__cause__` is what failed.
+    `taken` is how many rows of a call of several batches were kept before it, in earlier batches."""
+
+    taken = 0
+
+    def __str__(self) -> str:
+        return super().__str__() + before(self.taken)
+
+
+class IndexBuilding(Exception):
+    """A checkpoint cannot be written while an index is being built, since rows alone don't say how far it is. `names` are those of the indexes."""
+
+    def __init__(self, names: list[str]) -> None:
+        super().__init__(names)
+        self.names = names
+
+    def __str__(self) -> str:
+        return f"no checkpoint is written while an index is being built: complete {', '.join(self.names)} by build, or drop it"
+
+
 def check_request_id(request_id: str) -> None:
     """That it can be the id of a request."""
     if not isinstance(request_id, str):
@@ -156,11 +205,15 @@ class RowValueError(RowError, ValueError):
 
 @contextmanager
 def told_with(taken: int) -> Iterator[None]:
-    """A context in which a batch of a call is applied. A fault of memory, and the end of an engine, say how many rows of the call were applied before."""
+    """A context in which a batch of a call is applied. A fault of memory or of the disk, and the end of an engine, say how many rows of the call were applied
+    before."""
     try:
         yield
     except (OutOfMemory, EngineEnded) as fault:
         raise fault.with_taken(taken) from None
+    except InDoubt as fault:
+        fault.taken = taken
+        raise
 
 
 def ending(status: int) -> str:

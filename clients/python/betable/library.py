@@ -13,6 +13,7 @@ from .reasons import Problem, Reason
 from .replies import Place
 
 DONE, OUT_OF_MEMORY, REPLY_CUT, NOT_OPEN, ALREADY_OPEN, REFUSED = range(6)
+NOT_KEPT, FILE_TOO_LONG, NOT_A_TABLE, OTHER_FORMAT, OTHER_ENGINE, DAMAGED, FILE_FAILED, FILE_IN_USE = range(6, 14)
 # What became of a command, or would.
 READ, CHANGED, COMMAND_REFUSED = range(3)
 # Replies of fewer bytes are copied by one call.
@@ -41,8 +42,12 @@ class _ReplyPlace(ctypes.Structure):
     _fields_ = [("offset", ctypes.c_uint64), ("length", ctypes.c_uint64), ("kind", ctypes.c_uint32)]
 
 
+def library_path() -> str:
+    return str(path_of(LIBRARY, "BETABLE_LIBRARY", "out", "a package of betable has it, bin/build_c of the repository builds it"))
+
+
 def _loaded_library() -> ctypes.CDLL:
-    library = ctypes.CDLL(str(path_of(LIBRARY, "BETABLE_LIBRARY", "out", "a package of betable has it, bin/build_c of the repository builds it")))
+    library = ctypes.CDLL(library_path())
     handle, size = ctypes.POINTER(_Handle), ctypes.c_size_t
     of_packed = [handle, ctypes.c_char_p, size, ctypes.POINTER(_Fault)]
     calls: list[tuple[str, list[Any], Any]] = [
@@ -58,10 +63,25 @@ def _loaded_library() -> ctypes.CDLL:
         ("betable_is_lost", [handle], ctypes.c_bool),
         ("betable_close", [handle], ctypes.c_uint),
     ]
+    declare(library, calls)
+    return library
+
+
+def declare(library: ctypes.CDLL, calls: list[tuple[str, list[Any], Any]]) -> None:
+    """Gives calls of the library, by their names, the types of their arguments and of their results."""
     for name, arguments, result in calls:
         function = getattr(library, name)
         function.argtypes, function.restype = arguments, result
-    return library
+
+
+def copied_replies(copy: Callable[..., int], length: Callable[..., int], handle: ctypes.Structure, room: ctypes.Array[ctypes.c_char]) -> bytes:
+    """The replies of the last call, by these two calls of the library. The room has SHORT_REPLIES bytes."""
+    count = copy(handle, 0, room, SHORT_REPLIES)
+    if count == SHORT_REPLIES:
+        size = length(handle)
+        room = ctypes.create_string_buffer(size)
+        count = copy(handle, 0, room, size)
+    return ctypes.string_at(room, count)
 
 
 _library: ctypes.CDLL | None = None
@@ -136,10 +156,5 @@ class LibraryCalls:
 
     def copied(self) -> bytes:
         """The replies of the last call."""
-        library, handle, room = self.library, self.handle, self._room
-        count = library.betable_copy_replies(handle, 0, room, SHORT_REPLIES)
-        if count == SHORT_REPLIES:
-            length = library.betable_replies_length(handle)
-            room = ctypes.create_string_buffer(length)
-            count = library.betable_copy_replies(handle, 0, room, length)
-        return ctypes.string_at(room, count)
+        library = self.library
+        return copied_replies(library.betable_copy_replies, library.betable_replies_length, self.handle, self._room)

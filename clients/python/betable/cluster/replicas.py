@@ -39,11 +39,10 @@ from ..durable.table import (
     DEFINED,
     ENGINE,
     REFUSED,
-    IndexBuilding,
     applied,
     check_checkpoint_bytes,
 )
-from ..errors import RequestReused
+from ..errors import IndexBuilding, RequestReused
 from ..language import Definitions, commands
 from ..packed import MAGIC
 from ..reads import Reads, Runner, reader_of

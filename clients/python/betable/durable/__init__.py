@@ -31,12 +31,10 @@ docs/DURABLE.md says what is promised, and what each exception means. `table.py`
 damage that SQLite would pass over, `backups.py` has `restore`, `copies.py` has `copy`, and `file_lock.py` the lock of a file.
 """
 
-from ..errors import RequestReused
+from ..errors import Corrupt, InDoubt, IndexBuilding, InUse, NewerFormat, NotATable, RequestReused
 from .backups import restore
 from .copies import copy
-from .table import (
-    Corrupt, Durable, InDoubt, IndexBuilding, InUse, NewerFormat, NotATable, ReplyDamaged, RolledBack, Runner, ScriptTooLong, open as open,
-)  # fmt: skip
+from .table import Durable, ReplyDamaged, RolledBack, Runner, ScriptTooLong, open as open
 
 # Without `open`, which would hide that of Python.
 __all__ = [

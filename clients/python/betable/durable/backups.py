@@ -15,9 +15,10 @@ from collections.abc import Callable, Iterator
 from contextlib import ExitStack, closing, contextmanager, suppress
 from pathlib import Path
 
+from ..errors import Corrupt, InUse, NewerFormat, NotATable
 from ..session import Session
 from .file_lock import SQLITE_LOCK, lock_range
-from .table import Corrupt, InUse, NewerFormat, NotATable, Runner, check_format, locked, named_fault, open as open_table, sync_path
+from .table import Runner, check_format, locked, named_fault, open as open_table, sync_path
 from .wal import renew_mark
 
 # The ends of the names of the files that SQLite keeps beside one. The log is the last one to be removed: as long as it is there, nothing opens the table.

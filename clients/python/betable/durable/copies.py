@@ -14,14 +14,14 @@ from itertools import islice
 from typing import Any, NamedTuple
 
 from ..calls import checked_kind, checked_name
-from ..errors import Refused, RowError
+from ..errors import Corrupt, IndexBuilding, InUse, NewerFormat, NotATable, Refused, RowError
 from ..language import INDEX, PRIMARY, Definitions, Line, index_of, matched
 from ..packed import puts_of_rows
 from ..rows import EXACT_TYPES, Value, plain_value, value_of_field
 from ..schema import TreeColumn
 from ..session import Session
 from .checkpoints import PART_ROWS, parts_of
-from .table import Corrupt, Durable, IndexBuilding, InUse, NewerFormat, NotATable, RolledBack, open as open_table, sync_path
+from .table import Durable, RolledBack, open as open_table, sync_path
 
 
 class Plan(NamedTuple):

@@ -36,7 +36,9 @@ from typing import Any, NoReturn, TypeVar
 
 from ..batches import Batch, script_of_changes
 from ..calls import Calls, Row, as_script
-from ..errors import EngineEnded, RequestReused, before, check_request_id
+from ..errors import (
+    Corrupt, EngineEnded, InDoubt, IndexBuilding, InUse, NewerFormat, NotATable, RequestReused, before, check_request_id,
+)  # fmt: skip
 from ..language import CHANGING, DEFINING, Definitions, commands
 from ..reads import Reads, Runner as Runner, reader_of
 from ..replies import Place, Reply, answered
@@ -97,30 +99,6 @@ UPGRADES = {
 TOUCH = "UPDATE about SET generation = generation + 1, engine = ?"
 
 
-class NotATable(Exception):
-    """The file is no durable table."""
-
-
-class NewerFormat(Exception):
-    """The file was written by a newer version of this package, in a format that this one cannot read."""
-
-
-class InUse(Exception):
-    """Another process, or another object of this one, has the table open."""
-
-
-class Corrupt(Exception):
-    """What the file has is not what was kept. `number` is that of the script at fault, 0 for the checkpoint, or None if it is neither."""
-
-    def __init__(self, path: str, number: int | None, reason: str) -> None:
-        super().__init__(path, number, reason)
-        self.path, self.number, self.reason = path, number, reason
-
-    def __str__(self) -> str:
-        place = "" if self.number is None else "the checkpoint: " if self.number == 0 else f"script {self.number}: "
-        return f"{self.path}: {place}{self.reason}"
-
-
 class ReplyDamaged(Corrupt):
     """What was stored of a request id is damaged. Its script was run once, and nothing was run now: the table can be used."""
 
@@ -144,21 +122,6 @@ class ScriptTooLong(RolledBack):
 
     def __str__(self) -> str:
         return f"a script of {self.length:,} bytes was not run, since at most {self.most:,} can be stored: divide it" + before(self.taken)
-
-
-class InDoubt(Exception):
-    """The disk failed twice, so that it is not known whether the script or group was kept. The table is closed; opening it again shows which."""
-
-
-class IndexBuilding(Exception):
-    """A checkpoint cannot be written while an index is being built, since rows alone don't say how far it is. `names` are those of the indexes."""
-
-    def __init__(self, names: list[str]) -> None:
-        super().__init__(names)
-        self.names = names
-
-    def __str__(self) -> str:
-        return f"no checkpoint is written while an index is being built: complete {', '.join(self.names)} by build, or drop it"
 
 
 # After these the table can be used, and is as it is on disk.

@@ -17,7 +17,8 @@ from contextlib import suppress
 from pathlib import Path
 from typing import Any, NamedTuple
 
-from ..durable.table import Corrupt, open as open_table, sync_path
+from ..durable.table import open as open_table, sync_path
+from ..errors import Corrupt
 from .engine import PR_SET_PDEATHSIG, Closed, Engine, Lost, Work, package_environment
 from .requests import Problem
 

@@ -9,8 +9,8 @@ from urllib.parse import parse_qsl
 
 from aiohttp import web
 
-from ..durable.table import CHANGING_LINE, IndexBuilding, ReplyDamaged, ScriptTooLong
-from ..errors import Refused, RequestReused
+from ..durable.table import CHANGING_LINE, ReplyDamaged, ScriptTooLong
+from ..errors import IndexBuilding, Refused, RequestReused
 from ..forms import name_fault
 from ..language import NUMBER
 from ..messages import record
