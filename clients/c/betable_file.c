@@ -13,13 +13,15 @@
 #include <sys/stat.h>
 #include <unistd.h>
 
+enum { PIECE = 1 << 20 }; /* bytes that one call of the system writes */
+
 struct betable_file_state {
     betable_session session;
     pid_t owner;
     int file, folder;
     char *name, *new_name; /* without symbolic links; and of the file that a checkpoint writes */
     bool is_usable;        /* no call has failed */
-    unsigned char piece[65536];
+    unsigned char piece[PIECE];
 };
 typedef struct betable_file_state state;
 

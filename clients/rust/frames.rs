@@ -24,7 +24,8 @@ const INVALID: u8 = 2;
 
 /// What takes requests, and gives their replies.
 pub trait Exchange {
-    /// Makes a request, whose payload is these bytes, one after the other. The payload of its reply replaces the bytes of `reply`, which are none if the call fails.
+    /// Makes a request, whose payload is these bytes, one after the other. The payload of its reply replaces the bytes of `reply`, which are none if the call
+    /// fails.
     fn exchange(&mut self, kind: u8, payload: &[&[u8]], reply: &mut Vec<u8>) -> Result<(), Fault>;
 
     /// The fault after a reply that is none.
@@ -36,8 +37,8 @@ pub trait Exchange {
 
 impl<E: Exchange> Table<E> {
     /// Runs a script once. Its id is one that no other script has, such as a random one. If a script with the id ran before, nothing runs, and the replies are
-    /// those of the first time, also if the engine ended or the file was closed since. So send a script again if its replies did not arrive. The last 100,000 are
-    /// known. The table has to be in a file.
+    /// those of the first time, also if the engine ended or the file was closed since. So send a script again if its replies did not arrive. The last 100,000
+    /// are known. The table has to be in a file.
     pub fn once(&mut self, id: &[u8; 16], script: &[u8]) -> Result<Replies, Fault> {
         if !self.link.is_kept() {
             return Err(Fault::NotKept);

@@ -151,8 +151,8 @@ class Corrupt(Exception):
 
 
 class InDoubt(Exception):
-    """The disk failed, so that it is not known whether the script or group was kept. The table is closed; opening it again shows which. `__cause__` is what failed.
-    `taken` is how many rows of a call of several batches were kept before it, in earlier batches."""
+    """The disk failed, so that it is not known whether the script or group was kept. The table is closed; opening it again shows which. `__cause__` is what
+    failed. `taken` is how many rows of a call of several batches were kept before it, in earlier batches."""
 
     taken = 0
 

@@ -1,5 +1,5 @@
-"""Requests and replies in frames, which docs/ENGINE.md describes. `FramedCalls` has the calls on bytes by them, and `FramedSession` what a session has over these
-beside the calls of every session."""
+"""Requests and replies in frames, which docs/ENGINE.md describes. `FramedCalls` has the calls on bytes by them, and `FramedSession` what a session has over
+these beside the calls of every session."""
 
 from __future__ import annotations
 
