@@ -1,19 +1,26 @@
-/* A client of tools/crash/engine: makes the requests of two numbers and those between them, each once, and prints each number after its reply. */
+/* A client of tools/crash/engine: makes the requests of two numbers and those between them, each once, and prints each number after its reply.
+ *
+ *     adds engine | file PATH FIRST LAST
+ *
+ * With `file` the table is in this process, which makes a checkpoint after some of the requests. */
 #include "betable_engine.h"
 #include <stdio.h>
 #include <stdlib.h>
+#include <string.h>
+#include <unistd.h>
 
 int main(int count, char **words) {
-    if (count != 4)
+    if (count != 5)
         return 2;
+    bool is_here = strcmp(words[1], "file") == 0;
     betable_engine engine = BETABLE_ENGINE_CLOSED;
-    betable_engine_options options = {.workers = 2, .keep = words[1]};
-    if (betable_engine_open(&engine, &options) != BETABLE_DONE)
+    betable_engine_options options = {.workers = 2, .keep = words[2]};
+    if ((is_here ? betable_engine_open_file(&engine, words[2]) : betable_engine_open(&engine, &options)) != BETABLE_DONE)
         return 1;
-    printf("%d\n", (int)betable_engine_process(&engine));
+    printf("%d\n", (int)(is_here ? getpid() : betable_engine_process(&engine)));
     fflush(stdout);
     betable_engine_status status = BETABLE_DONE;
-    for (long long number = atoll(words[2]), last = atoll(words[3]); number <= last && status == BETABLE_DONE; number++) {
+    for (long long number = atoll(words[3]), last = atoll(words[4]); number <= last && status == BETABLE_DONE; number++) {
         char script[64];
         unsigned char id[BETABLE_ENGINE_ID] = {0};
         betable_fault fault;
@@ -25,6 +32,8 @@ int main(int count, char **words) {
             printf("%lld\n", number);
             fflush(stdout);
         }
+        if (status == BETABLE_DONE && is_here && number % 50 == 0)
+            status = betable_engine_checkpoint(&engine);
     }
     betable_engine_close(&engine);
     return status == BETABLE_DONE ? 0 : 1;

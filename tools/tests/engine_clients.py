@@ -21,7 +21,7 @@ from .common import needs, output_of, SECONDS, TOP
 
 ENGINE = TOP / "crates/betable_engine/out/betable_engine"
 HERE = Path(__file__).resolve().parent
-CLIENT = TOP / "clients/c/betable_engine.c"
+CLIENT, FILE_CLIENT = TOP / "clients/c/betable_engine.c", TOP / "clients/c/betable_engine_file.c"
 STRICT = ("-std=c11", "-Wall", "-Wextra", "-Wpedantic", "-Wconversion", "-Werror", "-g", f"-I{TOP}/include", f"-I{TOP}/clients/c")
 SANITIZERS = ("-fsanitize=address,undefined", "-fno-sanitize-recover=all")
 WORKERS = ("1", "4")
@@ -57,7 +57,7 @@ def kept():
 @cache
 def pairs():
     """Its headers are those of programs that are compiled with fewer warnings."""
-    return c_program("engine_pairs", "engine_pairs.c", "-Wno-conversion", f"{library()}/libbt_c.a")
+    return c_program("engine_pairs", "engine_pairs.c", "-Wno-conversion", FILE_CLIENT, f"{library()}/libbt_c.a")
 
 
 def ended(*words, **variables):

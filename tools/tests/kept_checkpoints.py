@@ -10,7 +10,7 @@ import unittest
 from ..frames import DONE, INVALID, KNOWN, REFUSED, RESTORE, frame, once, snapshot
 from .common import TABLE, needs, replies
 from .kept_tables import HALF, NOTHING, READ, WHOLE, FaultyCalls, KeptTables
-from .kept_tables import keep, keep_all, next_reply, program, replies_in, request, send_all, text_of
+from .kept_tables import command, keep, keep_all, next_reply, replies_in, request, send_all, text_of
 
 SIZE = 1 << 24  # bytes that the file has at a first checkpoint
 ROWS = 4_000
@@ -52,7 +52,7 @@ class Checkpoints(KeptTables):
 
     def test_trees_are_packed(self):
         """A request that follows a checkpoint finds the images of trees that were rebuilt."""
-        with subprocess.Popen([program(), "--keep", self.path], stdin=subprocess.PIPE, stdout=subprocess.PIPE, bufsize=0) as process:
+        with subprocess.Popen(command(self.path), stdin=subprocess.PIPE, stdout=subprocess.PIPE, bufsize=0) as process:
             for number, script in enumerate([TABLE + "\n", INDEX, *LONG]):
                 process.stdin.write(request(script))
                 next_reply(process)
@@ -120,7 +120,7 @@ class Checkpoints(KeptTables):
         number, compacted = 0, 0
         for _ in range(KILLS):
             before = self.path.stat().st_size
-            with subprocess.Popen([program(), "--keep", self.path], stdin=subprocess.PIPE, stdout=subprocess.PIPE, bufsize=0) as process:
+            with subprocess.Popen(command(self.path), stdin=subprocess.PIPE, stdout=subprocess.PIPE, bufsize=0) as process:
                 sent = number + 40
                 requests = b"".join(request(long(one)) for one in range(number + 1, sent + 1))
                 sender = threading.Thread(target=send_all, args=(process.stdin, requests))
@@ -146,6 +146,7 @@ class Checkpoints(KeptTables):
 @needs("cc")
 class FaultsOfCheckpoints(FaultyCalls):
     STEPS = [TABLE + "\n", INDEX, *LONG[:-1]]  # after the reply to the last one there is a checkpoint
+    FAILED = 1, "betable: the disk failed\n"  # the status and the error of a process whose checkpoint fails
 
     def run_anew(self, **fault):
         """Runs all steps on a new file, with a fault."""
@@ -179,7 +180,7 @@ class FaultsOfCheckpoints(FaultyCalls):
         for failed in self.calls_of_a_checkpoint():
             with self.subTest(failed=failed):
                 status, answered, errors, _ = self.run_anew(failed=failed, part=HALF)
-                self.assertEqual((status, answered, errors), (1, len(self.STEPS), "betable: the disk failed\n"))
+                self.assertEqual((status, answered, errors), (self.FAILED[0], len(self.STEPS), self.FAILED[1]))
                 self.has_all_requests()
 
 

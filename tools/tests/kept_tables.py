@@ -32,6 +32,15 @@ def program():
     return Path(os.environ.get("BETABLE_ENGINE") or TOP / "crates/betable_engine/out") / "betable_engine"
 
 
+# What begins the command of another process that serves tables in files, while a test of file_tables.py asks for it.
+INSTEAD = []
+
+
+def command(path):
+    """The words that start a process which serves the table in a file."""
+    return [*(INSTEAD or [program()]), "--keep", path]
+
+
 def batch(number):
     """Three rows, of which a crash must leave all or none."""
     return "batch\n" + "".join(f"put {3 * number + row},city {number % 7},{number}\n" for row in range(3)) + "end\n"
@@ -97,7 +106,7 @@ def file_of(salt, groups, engine=ENGINE, form=FORMAT):
 
 def keep_all(path, sent, *words, **options):
     """The status, the replies and the error, of a run to which all bytes are sent ahead."""
-    ended = subprocess.run([program(), "--keep", path, *words], input=sent, capture_output=True, timeout=SECONDS, **options)
+    ended = subprocess.run([*command(path), *words], input=sent, capture_output=True, timeout=SECONDS, **options)
     return ended.returncode, replies_in(ended.stdout), ended.stderr.decode()
 
 
@@ -118,7 +127,7 @@ def next_reply(process):
 def keep(path, *scripts, **options):
     """The status, the texts of the replies and the error, of a run to which each script is sent after the reply to the one before."""
     texts = []
-    with subprocess.Popen([program(), "--keep", path], stdin=subprocess.PIPE, stdout=subprocess.PIPE, stderr=subprocess.PIPE, bufsize=0, **options) as process:
+    with subprocess.Popen(command(path), stdin=subprocess.PIPE, stdout=subprocess.PIPE, stderr=subprocess.PIPE, bufsize=0, **options) as process:
         try:
             for script in scripts:
                 process.stdin.write(request(script))
@@ -297,7 +306,7 @@ class Files(KeptTables):
         self.opens_as(b"", replies(READ))
 
     def test_a_file_is_open_once(self):
-        with subprocess.Popen([program(), "--keep", self.path], stdin=subprocess.PIPE, stdout=subprocess.PIPE, bufsize=0) as first:
+        with subprocess.Popen(command(self.path), stdin=subprocess.PIPE, stdout=subprocess.PIPE, bufsize=0) as first:
             first.stdin.write(request(TABLE + "\n"))
             self.assertEqual(text_of(next_reply(first)), "table 3\n")
             self.assertEqual(keep_all(self.path, request(READ)), (2, [], "betable: the file is in use\n"))
@@ -370,7 +379,7 @@ class RequestsThatRunOnce(KeptTables):
         requests = [once(number, b"batch\nups 1,add,qty,%d\nend\n" % number) for number in range(1, 30_001)]
         answered = kills = 0
         while answered < len(requests):
-            with subprocess.Popen([program(), "--keep", self.path], stdin=subprocess.PIPE, stdout=subprocess.PIPE) as process:
+            with subprocess.Popen(command(self.path), stdin=subprocess.PIPE, stdout=subprocess.PIPE) as process:
                 sender = threading.Thread(target=send_all, args=(process.stdin, b"".join(requests[answered:])))
                 sender.start()
                 output = process.stdout.read(random.randrange(1, 20_000))
@@ -392,7 +401,7 @@ class Crashes(KeptTables):
         random.seed(88)
         sent = 0
         for turn in range(KILLS):
-            with subprocess.Popen([program(), "--keep", self.path], stdin=subprocess.PIPE, stdout=subprocess.PIPE, bufsize=0) as process:
+            with subprocess.Popen(command(self.path), stdin=subprocess.PIPE, stdout=subprocess.PIPE, bufsize=0) as process:
                 killer = threading.Timer(random.uniform(0, 0.05), process.send_signal, [signal.SIGKILL])
                 first, answers = sent, b""
                 if turn % 2 == 0:
@@ -432,7 +441,7 @@ class Crashes(KeptTables):
 
     def test_an_output_that_fails_ends_the_run(self):
         with open("/dev/full", "wb") as full:
-            ended = subprocess.run([program(), "--keep", self.path], input=request(TABLE + "\n"), stdout=full, stderr=subprocess.PIPE, timeout=SECONDS)
+            ended = subprocess.run(command(self.path), input=request(TABLE + "\n"), stdout=full, stderr=subprocess.PIPE, timeout=SECONDS)
         self.assertEqual((ended.returncode, ended.stderr), (1, b"betable: write failed\n"))
         self.assertEqual(keep(self.path, TABLE + "\n")[1], ["refused 4 TableExists\n"])
 

@@ -1,4 +1,5 @@
-/* The calls of an engine beside those of a session, on one list of scripts and of random packed bytes.
+/* The calls of an engine beside those of a session, on one list of scripts and of random packed bytes. If PROGRAM is a folder, with `/` at its end, the table of the
+ * engine is in a file there, in this process.
  *
  *     engine_pairs PROGRAM WORKERS SEED COUNT SCRIPT IMAGES PLACE .. [-- SCRIPT IMAGES PLACE ..] ..
  *
@@ -82,7 +83,15 @@ static const betable_fault UNWRITTEN = {99, 99, 99};
 
 static void open_both(void) {
     expect(betable_open(&session) == BETABLE_DONE, "a session", "open", 0);
-    expect(betable_engine_open(&engine, &options) == BETABLE_DONE, "an engine", "open", 0);
+    const char *program = options.program;
+    if (program[strlen(program) - 1] == '/') {
+        char path[4096];
+        snprintf(path, sizeof path, "%stable", program);
+        remove(path);
+        expect(betable_engine_open_file(&engine, path) == BETABLE_DONE, "an engine", "open", 0);
+    } else {
+        expect(betable_engine_open(&engine, &options) == BETABLE_DONE, "an engine", "open", 0);
+    }
 }
 
 static void close_both(void) {

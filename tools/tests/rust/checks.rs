@@ -8,8 +8,8 @@
 
 mod opened;
 
-use betable::{Fault, Library, Problem, Process, Reply};
-use opened::{Open, is_engine, replies};
+use betable::{Fault, KeptFile, Library, Problem, Process, Reply};
+use opened::{Open, Place, place, replies};
 
 /// The places of the replies that are refusals.
 fn places_refused(replies: impl Iterator<Item = Reply>) -> Vec<usize> {
@@ -55,7 +55,11 @@ fn main() -> Result<(), Fault> {
     let words: Vec<String> = std::env::args().skip(1).collect();
     let (mut refused, mut done) = (0, 0);
     for script in words.split(|word| word == "--") {
-        let (of_script, others) = if is_engine() { check::<Process>(script)? } else { check::<Library>(script)? };
+        let (of_script, others) = match place() {
+            Place::Library => check::<Library>(script)?,
+            Place::Process => check::<Process>(script)?,
+            Place::File => check::<KeptFile>(script)?,
+        };
         refused += of_script;
         done += others;
     }

@@ -1,10 +1,22 @@
-//! The tables of the programs beside this file: of sessions, or, if the variable ENGINE names a program, of engines with as many workers as WORKERS says.
+//! The tables of the programs beside this file: of sessions, or, if the variable ENGINE names a program, of engines with as many workers as WORKERS says. If it is a
+//! folder, with `/` at its end, each table is in a new file there.
 
-use betable::{Engine, EngineOptions, Fault, Library, Link, Process, Replies, Session, Table};
+use betable::{Engine, EngineOptions, Fault, KeptFile, KeptSession, Library, Link, Process, Replies, Session, Table};
 use std::env::var;
+use std::sync::atomic::{AtomicUsize, Ordering};
 
-pub fn is_engine() -> bool {
-    var("ENGINE").is_ok()
+pub enum Place {
+    Library,
+    Process,
+    File,
+}
+
+pub fn place() -> Place {
+    match var("ENGINE") {
+        Err(_) => Place::Library,
+        Ok(name) if name.ends_with('/') => Place::File,
+        Ok(_) => Place::Process,
+    }
 }
 
 pub fn options() -> EngineOptions {
@@ -25,6 +37,15 @@ impl Open for Library {
 impl Open for Process {
     fn open() -> Result<Engine, Fault> {
         Engine::new(&options())
+    }
+}
+
+static FILES: AtomicUsize = AtomicUsize::new(0);
+
+impl Open for KeptFile {
+    fn open() -> Result<KeptSession, Fault> {
+        let folder = var("ENGINE").unwrap_or_default();
+        KeptSession::open(format!("{folder}{}.{}", std::process::id(), FILES.fetch_add(1, Ordering::Relaxed)))
     }
 }
 

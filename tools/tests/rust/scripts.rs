@@ -9,9 +9,9 @@
 mod fields;
 mod opened;
 
-use betable::{Fault, Library, Link, Op, Process, Reply, Row, Session, Sum, Value};
+use betable::{Fault, KeptFile, Library, Link, Op, Process, Reply, Row, Session, Sum, Value};
 use fields::field;
-use opened::{Open, is_engine, replies};
+use opened::{Open, Place, place, replies};
 use std::collections::BTreeSet;
 
 /// The columns of a table, as its line says.
@@ -244,7 +244,11 @@ fn main() -> Result<(), Fault> {
     let words: Vec<String> = std::env::args().skip(1).collect();
     let mut counts = [0; 5];
     for script in words.split(|word| word == "--") {
-        let check = if is_engine() { check::<Process> } else { check::<Library> };
+        let check = match place() {
+            Place::Library => check::<Library>,
+            Place::Process => check::<Process>,
+            Place::File => check::<KeptFile>,
+        };
         check(&script[0], &script[1..], &mut counts)?;
     }
     println!("{} batches, {} gets, {} scans, {} sums, {} refused", counts[0], counts[1], counts[2], counts[3], counts[4]);

@@ -8,10 +8,10 @@ mod fields;
 mod opened;
 
 use betable::{
-    Fault, FromValue, Group, Kind, Library, Link, Op, Packer, Process, Refusal, Reply, Row, Rows, Session, Sum, Table, Tree, Usage, Value, Values, quoted,
+    Fault, FromValue, Group, KeptFile, Kind, Library, Link, Op, Packer, Process, Refusal, Reply, Row, Rows, Session, Sum, Table, Tree, Usage, Value, Values, quoted,
 };
 use fields::{field, hexadecimal};
-use opened::{Open, is_engine, replies};
+use opened::{Open, Place, place, replies};
 use std::alloc::{GlobalAlloc, Layout, System};
 use std::sync::atomic::{AtomicUsize, Ordering};
 use std::sync::{Arc, Mutex};
@@ -728,5 +728,9 @@ fn check<L: Open + Send + 'static>(what: Option<&str>) -> Result<(), Fault> {
 
 fn main() -> Result<(), Fault> {
     let what = std::env::args().nth(1);
-    if is_engine() { check::<Process>(what.as_deref()) } else { check::<Library>(what.as_deref()) }
+    match place() {
+        Place::Library => check::<Library>(what.as_deref()),
+        Place::Process => check::<Process>(what.as_deref()),
+        Place::File => check::<KeptFile>(what.as_deref()),
+    }
 }

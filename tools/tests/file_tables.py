@@ -1,0 +1,539 @@
+"""Tests of tables in files of this process, by the clients in C, Rust and Python: the tests of `betable_engine --keep` on programs that do the same by them, and
+files that one of them writes and another one opens. They need the program betable_engine too, and do not build it."""
+
+import os
+import pickle
+import re
+import shutil
+import signal
+import subprocess
+import sys
+import tempfile
+import threading
+from contextlib import contextmanager
+from functools import cache, partial
+from pathlib import Path
+from unittest import SkipTest, TestCase
+
+from . import csv_puts, kept_checkpoints, kept_tables, python_changes, python_columns, python_ranges
+from ..frames import INVALID, once
+from .clients import betable, build_extension, library, programs, rust_program, worked_scripts
+from .common import SECONDS, TABLE, TOP, fault_of, needs, output_of, type_of_fault
+from .durable import durable
+from .engine_clients import CLIENT, FILE_CLIENT, HERE, SANITIZERS, STRICT, ended, pairs
+from .kept_tables import INSTEAD, READ, SCRIPTS, batch, command, file_of, keep, keep_all, next_reply, replies_after, request, text_of
+
+FILE_CALLS = TOP / "clients/c/betable_file.c"
+
+# A process that does in Python what kept_here.c and kept_here.rs do.
+KEPT_HERE = """#!{python} -B
+import os, sys
+sys.path.insert(0, {package!r})
+os.environ["BETABLE_LIBRARY"] = {library!r}
+import betable
+
+def end(status, reason):
+    print(f"betable: {{reason}}", file=sys.stderr)
+    sys.exit(status)
+
+reasons = {{betable.InUse: "the file is in use", betable.NotATable: "the file is no table", betable.NewerFormat: "the file has another format",
+           betable.OtherEngine: "another engine wrote the file", betable.Corrupt: "the file is damaged"}}
+try:
+    session = betable.open(sys.argv[2])
+except tuple(reasons) as fault:
+    end(2, reasons[type(fault)])
+except OSError:
+    end(2, "the file cannot be opened")
+with session:
+    while head := sys.stdin.buffer.read(13):
+        payload = sys.stdin.buffer.read(int.from_bytes(head[4:12], "little"))
+        try:
+            text = session.replies(payload) if head[12] == 1 else session.once(payload[:16].hex(), payload[17:])
+            kind, reply = 0, text + len(text).to_bytes(8, "little")
+        except betable.RequestReused:
+            kind, reply = 2, b"RequestReused"
+        except betable.InDoubt as fault:
+            assert isinstance(fault.__cause__, OSError)
+            end(1, "the disk failed")
+        sys.stdout.buffer.write(b"BTF\\1" + len(reply).to_bytes(8, "little") + bytes([kind]) + reply)
+        sys.stdout.flush()
+"""
+
+
+@cache
+def kept_here(language):
+    """The words that begin the command of a program which serves a table in a file: `frames` and `calls` in C, `rust` or `python`."""
+    if language == "rust":
+        return [rust_program(HERE / "rust/kept_here.rs")]
+    path = Path(programs().name) / f"kept_here_{'python' if language == 'python' else 'c'}"
+    if language == "python":
+        path.write_text(KEPT_HERE.format(python=sys.executable, package=str(TOP / "clients/python"), library=library()))
+        path.chmod(0o755)
+        return [path]
+    if not path.exists():
+        output_of(["cc", "-O1", *STRICT, HERE / "c/kept_here.c", CLIENT, FILE_CLIENT, f"{library()}/libbt_c.a", "-o", path])
+    return [path, language]
+
+
+@cache
+def sanitized():
+    path = Path(programs().name) / "kept_here_sanitized"
+    output_of(["cc", "-O1", *STRICT, *SANITIZERS, HERE / "c/kept_here.c", CLIENT, FILE_CLIENT, FILE_CALLS, f"{library()}/libbt_c.a", "-o", path])
+    return path
+
+
+@cache
+def languages():
+    return ["frames", "calls", "python", *(["rust"] if shutil.which("rustc") else [])]
+
+
+def setUpModule():
+    if not kept_tables.program().exists():
+        raise SkipTest("betable_engine is not built")
+    library(), build_extension(), durable(), worked_scripts(), pairs()
+    for language in languages():
+        kept_here(language)
+    if shutil.which("rustc"):
+        for name in ("typed", "scripts", "checks"):
+            rust_program(HERE / f"rust/{name}.rs")
+
+
+@contextmanager
+def instead_of_the_engine(language):
+    """Tests of betable_engine are made with another program while the context lasts."""
+    INSTEAD[:] = kept_here(language)
+    try:
+        yield
+    finally:
+        INSTEAD.clear()
+
+
+@contextmanager
+def without_others():
+    before = list(INSTEAD)
+    INSTEAD.clear()
+    try:
+        yield
+    finally:
+        INSTEAD[:] = before
+
+
+# ---- the tests of betable_engine ----
+
+
+class ByFrames:
+    """Tests of betable_engine, with the calls of betable_file.h in its place."""
+
+    def setUp(self):
+        super().setUp()
+        self.enterContext(instead_of_the_engine("frames"))
+
+
+class FilesByFrames(ByFrames, kept_tables.Files):
+    test_what_is_no_request_is_answered_and_not_kept = test_a_file_is_read_with_any_limit = test_each_crew_makes_the_same_table = None
+
+
+class RequestsThatRunOnceByFrames(ByFrames, kept_tables.RequestsThatRunOnce):
+    test_an_engine_without_a_file_takes_no_ids = None
+
+
+class CrashesByFrames(ByFrames, kept_tables.Crashes):
+    test_wrong_arguments = None
+
+
+class FaultsByFrames(ByFrames, kept_tables.Faults):
+    pass
+
+
+class CheckpointsByFrames(ByFrames, kept_checkpoints.Checkpoints):
+    pass
+
+
+class RequestsOfAFileByFrames(ByFrames, kept_checkpoints.RequestsOfAFile):
+    pass
+
+
+class FaultsOfCheckpointsByFrames(ByFrames, kept_checkpoints.FaultsOfCheckpoints):
+    FAILED = 0, ""  # the checkpoint is that of the close, which loses nothing if it fails
+
+
+class FaultsByCalls(kept_tables.Faults):
+    """The process with a fault is one of a client, and the engine opens what it leaves."""
+
+    language = "calls"
+
+    def run_with(self, *steps, **fault):
+        with instead_of_the_engine(self.language):
+            return super().run_with(*steps, **fault)
+
+
+@needs("rustc")
+class FaultsByRust(FaultsByCalls):
+    language = "rust"
+    test_each_allocation_is_refused = None  # the standard library of Rust ends the process
+
+
+class FaultsByPython(FaultsByCalls):
+    language = "python"
+    test_each_allocation_is_refused = None  # most are those of Python
+
+
+# ---- each language beside the engine ----
+
+
+class EachLanguage(kept_tables.KeptTables):
+    @contextmanager
+    def each(self, language):
+        """A language, in place of the engine, with a file of its own."""
+        self.path = self.path.with_name(language)
+        with self.subTest(language=language), instead_of_the_engine(language):
+            yield
+
+    def keep_by_engine(self, *scripts):
+        with without_others():
+            return keep(self.path, *scripts)
+
+    def test_a_file_is_that_of_the_engine(self):
+        """What the one writes the other one opens and goes on with: replies and images."""
+        half = len(SCRIPTS) // 2
+        for language in languages():
+            with self.each(language):
+                by_client = partial(keep, self.path)
+                for first, second in ((by_client, self.keep_by_engine), (self.keep_by_engine, by_client)):
+                    self.path.unlink(missing_ok=True)
+                    status, texts, errors = first(*SCRIPTS[:half], READ)
+                    self.assertEqual((status, texts[-1], errors), (0, replies_after(SCRIPTS[:half]), ""))
+                    status, texts, errors = second(READ, *SCRIPTS[half:], READ)
+                    self.assertEqual((status, texts[0], texts[-1], errors), (0, replies_after(SCRIPTS[:half]), replies_after(SCRIPTS), ""))
+                    self.assertEqual(first(READ), (0, [replies_after(SCRIPTS)], ""))
+                    self.has_groups(*SCRIPTS)
+
+    def test_a_request_runs_once(self):
+        """Before and after the file was closed, and not for another one with its id."""
+        add, other = (once(7, b"batch\nups 1,add,qty,%d\nend\nget 1\n" % number) for number in (5, 6))
+        for language in languages():
+            with self.each(language):
+                keep(self.path, TABLE + "\n", batch(0))
+                for _ in range(2):
+                    status, found, errors = keep_all(self.path, add + add + other + request("get 1\n"))
+                    texts = [text_of(reply) for reply in (found[0], found[1], found[3])]
+                    wanted = ["batch 1\nrow 1,city 0,5\n"] * 2 + ["row 1,city 0,5\n"]
+                    self.assertEqual((status, texts, found[2], errors), (0, wanted, (INVALID, b"RequestReused"), ""))
+
+    def test_a_file_is_open_once(self):
+        """In the engine and in a client, each first."""
+        for language in languages():
+            with self.each(language):
+                of_client, of_engine = command(self.path), [kept_tables.program(), "--keep", self.path]
+                for first, second in ((of_client, of_engine), (of_engine, of_client), (of_client, of_client)):
+                    with subprocess.Popen(first, stdin=subprocess.PIPE, stdout=subprocess.PIPE, bufsize=0) as process:
+                        process.stdin.write(request("get 1\n"))
+                        self.assertEqual(text_of(next_reply(process)), "refused 3 NoTable\n")
+                        self.assertEqual(ended(*second), (2, "", "betable: the file is in use\n"))
+                        process.stdin.close()
+                        self.assertEqual(process.wait(SECONDS), 0)
+
+    def test_what_is_no_table_is_refused_by_its_name(self):
+        data, places = file_of(31, SCRIPTS)
+        damaged = bytearray(data)
+        damaged[places[2]] ^= 1
+        cases = {
+            b"\n": "the file is no table", data[:39]: "the file is no table", bytes(40): "the file is no table", bytes(damaged): "the file is damaged",
+            file_of(5, SCRIPTS, engine=kept_tables.ENGINE + 1)[0]: "another engine wrote the file",
+            file_of(5, SCRIPTS, form=kept_tables.FORMAT + 1)[0]: "the file has another format",
+        }  # fmt: skip
+        for language in languages():
+            with self.each(language):
+                for given, reason in cases.items():
+                    self.is_refused(given, reason)
+                self.opens_as(b"", replies_after([]))
+                self.assertEqual(ended(*command(self.path / "none")), (2, "", "betable: the file cannot be opened\n"))
+
+    def test_a_file_that_was_cut_has_the_scripts_before_the_cut(self):
+        """At each length. In Python in this process, where to start is slow."""
+        data, places = file_of(31, SCRIPTS)
+        expected = [replies_after(SCRIPTS[:count]) for count in range(len(places))]
+        for language in languages()[1:]:  # FilesByFrames cuts it too
+            with self.each(language):
+                for length in range(places[0], len(data)):
+                    self.path.write_bytes(data[:length])
+                    wanted = expected[sum(place <= length for place in places) - 1]
+                    if language == "python":
+                        with betable().open(self.path) as session:
+                            self.assertEqual(session.replies(READ).decode(), wanted)
+                    else:
+                        self.assertEqual(keep(self.path, READ), (0, [wanted], ""))
+
+    def test_no_stream_is_the_file(self):
+        """A process whose standard error is closed, the number of which the next file that is opened would have."""
+        for language in languages():
+            words = {"stdin": subprocess.PIPE, "stdout": subprocess.PIPE, "bufsize": 0, "preexec_fn": lambda: os.close(2)}
+            with self.each(language), subprocess.Popen(command(self.path), **words) as process:
+                process.stdin.write(request(TABLE + "\n"))
+                self.assertEqual(text_of(next_reply(process)), "table 3\n")
+                files = {int(link.name): os.stat(link) for link in Path(f"/proc/{process.pid}/fd").iterdir() if link.exists()}
+                of_table = [number for number, found in files.items() if os.path.samestat(found, self.path.stat())]
+                self.assertEqual((len(of_table), min(of_table) > 2), (1, True))
+                process.stdin.close()
+
+
+class InC(kept_tables.KeptTables):
+    def serves(self, *words):
+        """A process that is begun by these words makes a file, goes on with one that was cut, refuses one that is none, and says nothing else."""
+        INSTEAD[:] = words
+        self.addCleanup(INSTEAD.clear)
+        self.path.unlink(missing_ok=True)
+        self.assertEqual(keep(self.path, *SCRIPTS, READ)[1][-1], replies_after(SCRIPTS))
+        data, _ = file_of(7, SCRIPTS)
+        self.path.write_bytes(data[:-1])
+        self.assertEqual(keep(self.path, SCRIPTS[-1], READ)[::2], (0, ""))
+        self.is_refused(b"\n", "the file is no table")
+
+    def test_sanitizers_find_nothing(self):
+        for mode in ("frames", "calls"):
+            with self.subTest(mode=mode):
+                self.serves(sanitized(), mode)
+
+    @needs("valgrind")
+    def test_valgrind_finds_no_memory_and_no_descriptor_that_is_left(self):
+        for mode in ("frames", "calls"):
+            with self.subTest(mode=mode), tempfile.TemporaryDirectory() as logs:
+                words = ["valgrind", "-q", "--leak-check=full", "--errors-for-leak-kinds=all", "--error-exitcode=9", "--track-fds=yes", f"--log-file={logs}/%p"]
+                self.serves(*words, *kept_here(mode))
+                found = "".join(path.read_text() for path in Path(logs).iterdir())
+                of_log = rf"FILE DESCRIPTORS: 4 open \(3 std\) at exit\.|Open file descriptor \d+: {logs}/\d+|   <inherited from parent>"
+                self.assertEqual(re.sub(rf"==\d+== ({of_log})?\n", "", found), "")
+
+
+# ---- the calls beside those of a session ----
+
+
+class BesideASession(TestCase):
+    def setUp(self):
+        folder = tempfile.TemporaryDirectory()
+        self.addCleanup(folder.cleanup)
+        self.folder = f"{folder.name}/"
+
+    def test_calls_of_c_are_those_of_a_session(self):
+        """As engine_clients.py tests those of an engine."""
+        words = []
+        for script, _, places in worked_scripts()[::3]:
+            images = Path(self.folder) / f"{script.name}.images"
+            images.write_text("image primary\n")
+            words += ["--", script, images, *map(str, places)]
+        status, text, errors = ended(pairs(), self.folder, "1", "5", "2000", *words[1:])
+        self.assertEqual((status, status and text, errors), (0, 0, ""))
+
+    @needs("rustc")
+    def test_typed_calls_in_rust_are_those_of_a_session(self):
+        for what in ("changes", "reads", "pages", "sums", "usage", "trees", "wrong", "replies", "threads"):
+            with self.subTest(what=what):
+                self.assertEqual(ended(rust_program(HERE / "rust/typed.rs"), what, ENGINE=self.folder), (0, "", ""))
+
+    @needs("rustc")
+    def test_worked_scripts_in_rust_leave_the_trees_of_a_session(self):
+        words = [word for script, _, places in worked_scripts()[::3] for word in ("--", script, *map(str, places))][1:]
+        for source in ("scripts", "checks"):
+            program = rust_program(HERE / f"rust/{source}.rs")
+            self.assertEqual(ended(program, *words, ENGINE=self.folder), ended(program, *words), source)
+
+
+def by_files(case):
+    """A class of tests of sessions, with sessions of new files in their place."""
+
+    def put_in_place(self):
+        client, folder = betable(), tempfile.TemporaryDirectory()
+        self.addCleanup(folder.cleanup)
+        count = iter(range(10**9))
+
+        class FileSession(client.KeptSession):
+            def __init__(self):
+                super().__init__(f"{folder.name}/{next(count)}")
+
+        for holder in (client, client.session):
+            self.addCleanup(setattr, holder, "Session", holder.Session)
+            holder.Session = FileSession
+        case.setUp(self)
+
+    return type(f"{case.__name__}ByFiles", (case,), {"setUp": put_in_place, "__module__": __name__, "__doc__": case.__doc__})
+
+
+for _case in (
+    python_changes.ChangesByColumns, python_changes.PreparedUpserts, python_changes.LineBreaks, python_columns.PythonColumns, python_ranges.DeleteRange,
+    python_ranges.NewestFirst, csv_puts.AllWrongRecordsAreTold, csv_puts.TextsWithLineBreaks, csv_puts.WrongRecordsGoToAFile,
+):  # fmt: skip
+    globals()[f"{_case.__name__}ByFiles"] = by_files(_case)
+del _case
+
+
+# ---- Python ----
+
+
+class InPython(TestCase):
+    def setUp(self):
+        folder = tempfile.TemporaryDirectory()
+        self.addCleanup(folder.cleanup)
+        self.path = f"{folder.name}/table"
+
+    def opened(self):
+        session = betable().open(self.path)
+        self.addCleanup(session.close)
+        return session
+
+    def test_a_table_is_there_again(self):
+        with betable().open(self.path) as session:
+            self.assertEqual((session.trees(), session.path, repr(session)), ((), self.path, "<betable.KeptSession, open, without a table>"))
+            session.table("id:int city:text qty:int")
+            session.index("by_city", on="city")
+            session.put((number, f"city\n{number % 7}", number) for number in range(1000))
+            rows = session.scan("by_city")
+        self.assertEqual(type_of_fault(session.scan), ValueError)
+        with betable().open(Path(self.path)) as session:
+            self.assertEqual((session.scan("by_city"), session.get(7)), (rows, (7, "city\n0", 7)))
+            self.assertIsInstance(session, betable().KeptSession)
+
+    def test_the_program_of_the_document_keeps_its_table(self):
+        """It is run twice, and its request once."""
+        part = (TOP / "docs/PYTHON.md").read_text().split("\n## A table in a file\n")[1]
+        code = part.split("```python\n")[1].split("```")[0]
+        environment = {**os.environ, "PYTHONPATH": str(TOP / "clients/python"), "BETABLE_LIBRARY": library()}
+        for qty in (29, 30):
+            output_of([sys.executable, "-B", "-c", f"import betable\n{code}"], cwd=os.path.dirname(self.path), env=environment)
+            with betable().open(f"{os.path.dirname(self.path)}/stock.table") as session:
+                self.assertEqual(session.scan(), [(1, "Oslo", qty), (2, "Bergen", 20)])
+
+    def test_faults_have_fields(self):
+        client = betable()
+        session = self.opened()
+        self.assertIn(self.path, str(fault_of(self.opened)))
+        self.assertEqual(type_of_fault(self.opened), client.InUse)
+        self.assertEqual(type_of_fault(lambda: pickle.dumps(session)), TypeError)
+        session.table("id:int qty:int")
+        session.once("a", "batch\nput 1,2\nend\n")
+        fault = fault_of(lambda: session.once("a", "get 1\n"))
+        self.assertEqual((type(fault), fault.request_id, session.get(1)), (client.RequestReused, "a", (1, 2)))
+        session.close()
+        data = Path(self.path).read_bytes()
+        Path(self.path).write_bytes(data[:45] + bytes([data[45] ^ 1]) + data[46:])
+        fault = fault_of(self.opened)
+        self.assertEqual((type(fault), fault.path, fault.number, "backup" in fault.reason), (client.Corrupt, self.path, None, True))
+        self.assertEqual(str(pickle.loads(pickle.dumps(fault))), str(fault))
+        self.path += "/none"
+        fault = fault_of(self.opened)
+        self.assertEqual((type(fault), fault.filename), (NotADirectoryError, self.path))
+        self.assertEqual(type_of_fault(lambda: client.open("a\0b")), ValueError)
+
+    def test_a_disk_that_fails_in_a_put_is_told_with_the_rows_before(self):
+        """The system refuses to write past the end of the file."""
+        code = f"""if True:
+            import resource, signal, betable
+            signal.signal(signal.SIGXFSZ, signal.SIG_IGN)
+            session = betable.open({self.path!r})
+            session.table("id:int qty:int")
+            resource.setrlimit(resource.RLIMIT_FSIZE, (1 << 20, 1 << 20))
+            try:
+                session.put(((n, n) for n in range(100_000)), most=1000)
+            except betable.InDoubt as fault:
+                print(fault.taken, fault.__cause__.errno, fault.__cause__.filename == session.path, session.is_lost)
+            for call in (lambda: session.get(1), lambda: session.put([(1, 1)]), session.checkpoint, lambda: session.once("a", "")):
+                try:
+                    print(call())
+                except betable.InDoubt as fault:
+                    print("earlier" in str(fault), fault.taken)
+            session.close()
+            print(len(betable.open({self.path!r}).scan()))
+        """
+        environment = {**os.environ, "PYTHONPATH": str(TOP / "clients/python"), "BETABLE_LIBRARY": library()}
+        done = subprocess.run([sys.executable, "-B", "-c", code], capture_output=True, text=True, timeout=SECONDS, env=environment)
+        first, *later, last = done.stdout.splitlines()
+        taken = int(first.split()[0])
+        self.assertEqual((done.returncode, done.stderr, first, later), (0, "", f"{taken} 27 True True", ["True 0"] * 4))
+        self.assertEqual((taken > 10_000, int(last) in (taken, taken + 1000)), (True, True))
+
+    def test_a_checkpoint_is_made_when_it_is_asked_for(self):
+        with self.opened() as session:
+            session.checkpoint()
+            session.table("id:int qty:int")
+            for _ in range(200):
+                session.put((n, n) for n in range(100))
+            size = os.stat(self.path).st_size
+            session.checkpoint()
+            self.assertLess(os.stat(self.path).st_size, size // 10)
+            session.replies("index by_qty on qty\n")
+            fault = fault_of(session.checkpoint)
+            self.assertEqual((type(fault), fault.names), (betable().IndexBuilding, ["by_qty"]))
+            session.replies("build by_qty 1000\n")
+            session.checkpoint()
+            rows = session.scan("by_qty")
+        with self.opened() as session:
+            self.assertEqual((session.scan("by_qty"), len(rows)), (rows, 100))
+        self.assertEqual(os.listdir(os.path.dirname(self.path)), ["table"])
+
+    def test_a_forked_child_cannot_use_it_and_does_not_keep_it_locked(self):
+        session = self.opened()
+        session.table("id:int qty:int")
+        read, write = os.pipe()
+        child = os.fork()
+        if child == 0:
+            calls = [lambda: session.get(1), lambda: session.put([(1, 1)]), lambda: session.once("a", ""), session.checkpoint]
+            found = [type_of_fault(call) for call in calls]
+            session.close()
+            os.write(write, b"1" if found == [RuntimeError] * 4 else b"0")
+            signal.pause()
+        try:
+            self.assertEqual(os.read(read, 1), b"1")
+            session.put([(2, 2)])
+            session.close()
+            self.assertEqual(self.opened().scan(), [(2, 2)])
+        finally:
+            os.kill(child, signal.SIGKILL)
+            os.waitpid(child, 0)
+
+    def test_the_library_refuses_a_forked_child(self):
+        """Without the package, which closes the file there."""
+        from betable import kept, library as of_calls
+
+        calls, file = kept._loaded_library(), kept._File()
+        self.assertEqual(calls.betable_file_open(file, self.path.encode()), of_calls.DONE)
+        child = os.fork()
+        if child == 0:
+            found = calls.betable_file_run(file, b"", 0), calls.betable_file_checkpoint(file), calls.betable_file_replies_length(file), calls.betable_file_close(file)
+            os._exit(found != (of_calls.FILE_IN_USE, of_calls.FILE_IN_USE, 0, of_calls.DONE))
+        self.assertEqual(os.waitstatus_to_exitcode(os.waitpid(child, 0)[1]), 0)
+        self.assertEqual(type_of_fault(self.opened), betable().InUse)
+        self.assertEqual([calls.betable_file_run(file, b"", 0), calls.betable_file_close(file), calls.betable_file_close(file)], [0, 0, of_calls.NOT_OPEN])
+
+    def test_a_session_that_is_dropped_is_closed(self):
+        for _ in range(3):
+            self.assertEqual(betable().open(self.path).trees(), ())
+
+    def test_a_call_during_another_one_is_refused(self):
+        session = self.opened()
+        session.table("id:int qty:int")
+        session.put((n, n) for n in range(50_000))
+        thread = threading.Thread(target=lambda: session.replies("image primary\n" * 20))
+        thread.start()
+        faults = set()
+        while thread.is_alive():
+            faults.add(type_of_fault(lambda: session.get(1)))
+        thread.join()
+        self.assertLessEqual(faults, {RuntimeError, type(None)})
+        self.assertIn(RuntimeError, faults)
+
+    def test_a_link_leads_to_the_file(self):
+        """Which a checkpoint replaces, and not the link."""
+        os.symlink(self.path, f"{self.path}.link")
+        with betable().open(f"{self.path}.link") as session:
+            session.table("id:int qty:int")
+            self.assertEqual(type_of_fault(self.opened), betable().InUse)
+            session.checkpoint()
+            session.put([(1, 1)])
+        self.assertTrue(os.path.islink(f"{self.path}.link"))
+        with self.opened() as session:
+            self.assertEqual(session.scan(), [(1, 1)])
+
+
+if __name__ == "__main__":
+    import unittest
+
+    unittest.main()
