@@ -76,9 +76,9 @@ def kept_here(language):
 
 
 @cache
-def sanitized():
-    path = Path(programs().name) / "kept_here_sanitized"
-    output_of(["cc", "-O1", *STRICT, *SANITIZERS, HERE / "c/kept_here.c", CLIENT, FILE_CLIENT, FILE_CALLS, f"{library()}/libbt_c.a", "-o", path])
+def sanitized(name):
+    path = Path(programs().name) / f"{name}_sanitized"
+    output_of(["cc", "-O1", *STRICT, *SANITIZERS, HERE / f"c/{name}.c", CLIENT, FILE_CLIENT, FILE_CALLS, f"{library()}/libbt_c.a", "-o", path])
     return path
 
 
@@ -292,7 +292,15 @@ class InC(kept_tables.KeptTables):
     def test_sanitizers_find_nothing(self):
         for mode in ("frames", "calls"):
             with self.subTest(mode=mode):
-                self.serves(sanitized(), mode)
+                self.serves(sanitized("kept_here"), mode)
+
+    def test_an_engine_over_a_file_begins_and_ends(self):
+        """As tools/tests/c/engine_file.c says: the order of calls, requests that are sent ahead, a close, and a disk that fails."""
+        self.assertEqual(ended(sanitized("engine_file"), kept_tables.program(), self.path), (0, "", ""))
+
+    def test_requests_that_are_sent_ahead_are_one_group(self):
+        with instead_of_the_engine("calls"):
+            kept_tables.Files.test_requests_that_are_sent_ahead_are_one_group(self)
 
     @needs("valgrind")
     def test_valgrind_finds_no_memory_and_no_descriptor_that_is_left(self):
@@ -382,7 +390,8 @@ class InPython(TestCase):
 
     def test_a_table_is_there_again(self):
         with betable().open(self.path) as session:
-            self.assertEqual((session.trees(), session.path, repr(session)), ((), self.path, "<betable.KeptSession, open, without a table>"))
+            self.assertEqual((session.trees(), session.path), ((), self.path))
+            self.assertEqual(repr(session), f"<betable.KeptSession {self.path!r}, open, without a table>")
             session.table("id:int city:text qty:int")
             session.index("by_city", on="city")
             session.put((number, f"city\n{number % 7}", number) for number in range(1000))

@@ -148,6 +148,9 @@ class KeptSession(FramedSession):
     def __enter__(self) -> KeptSession:
         return self
 
+    def __repr__(self) -> str:
+        return f"<betable.KeptSession {self.path!r}, {self._state()}>"
+
     @property
     def path(self) -> str:
         return self._bytes.path

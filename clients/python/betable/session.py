@@ -70,7 +70,7 @@ class ScriptSession(Calls):
         raise TypeError(f"{self._a_name} cannot be copied or pickled: it is the owner of its table")
 
     def __repr__(self) -> str:
-        return f"<betable.{type(self).__name__}, {self._state()}>"
+        return f"<betable.{self._name.capitalize()}, {self._state()}>"
 
     @property
     def _a_name(self) -> str:
