@@ -76,9 +76,9 @@ def kept_here(language):
 
 
 @cache
-def sanitized(name):
+def sanitized(name, *options):
     path = Path(programs().name) / f"{name}_sanitized"
-    output_of(["cc", "-O1", *STRICT, *SANITIZERS, HERE / f"c/{name}.c", CLIENT, FILE_CLIENT, FILE_CALLS, f"{library()}/libbt_c.a", "-o", path])
+    output_of(["cc", "-O1", *STRICT, *SANITIZERS, *options, HERE / f"c/{name}.c", CLIENT, FILE_CLIENT, FILE_CALLS, f"{library()}/libbt_c.a", "-o", path])
     return path
 
 
@@ -295,8 +295,10 @@ class InC(kept_tables.KeptTables):
                 self.serves(sanitized("kept_here"), mode)
 
     def test_an_engine_over_a_file_begins_and_ends(self):
-        """As tools/tests/c/engine_file.c says: the order of calls, requests that are sent ahead, a close, and a disk that fails."""
-        self.assertEqual(ended(sanitized("engine_file"), kept_tables.program(), self.path), (0, "", ""))
+        """As tools/tests/c/engine_file.c says: the order of calls, requests that are sent ahead, a close, a disk that fails, interrupted calls, and a file that
+        another one takes the place of."""
+        wrapped = "-Wl," + ",".join(f"--wrap={name}" for name in ("open", "fsync", "fdatasync", "ftruncate", "pwrite", "flock"))
+        self.assertEqual(ended(sanitized("engine_file", wrapped), kept_tables.program(), self.path), (0, "", ""))
 
     def test_requests_that_are_sent_ahead_are_one_group(self):
         with instead_of_the_engine("calls"):
