@@ -52,11 +52,11 @@ class FileCalls(FramedCalls):
             raise ValueError("a path has no zero byte")
         self._library, self._file = _loaded_library(), _File()
         self._room = ctypes.create_string_buffer(library.SHORT_REPLIES)
+        # What is dropped, or still there at the end of the program, is closed too, also after an interrupt that follows the opening.
+        self._release = weakref.finalize(self, self._library.betable_file_close, self._file)
         status = self._library.betable_file_open(self._file, name)
         if status != library.DONE:
             raise _fault_of_opening(status, ctypes.get_errno(), path)
-        # What is dropped, or still there at the end of the program, is closed too.
-        self._release = weakref.finalize(self, self._library.betable_file_close, self._file)
         _OPEN.add(self)
 
     def expect_usable(self) -> None:
