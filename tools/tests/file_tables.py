@@ -267,10 +267,12 @@ class EachLanguage(kept_tables.KeptTables):
     def test_no_stream_is_the_file(self):
         """A process whose standard error is closed, the number of which the next file that is opened would have."""
         for language in languages():
+            self.path = self.path.with_name(language)
+            keep(self.path, TABLE + "\n")  # a new file is replaced once it is open
             words = {"stdin": subprocess.PIPE, "stdout": subprocess.PIPE, "bufsize": 0, "preexec_fn": lambda: os.close(2)}
             with self.each(language), subprocess.Popen(command(self.path), **words) as process:
-                process.stdin.write(request(TABLE + "\n"))
-                self.assertEqual(text_of(next_reply(process)), "table 3\n")
+                process.stdin.write(request("get 1\n"))
+                self.assertEqual(text_of(next_reply(process)), "none\n")
                 files = {int(link.name): os.stat(link) for link in Path(f"/proc/{process.pid}/fd").iterdir() if link.exists()}
                 of_table = [number for number, found in files.items() if os.path.samestat(found, self.path.stat())]
                 self.assertEqual((len(of_table), min(of_table) > 2), (1, True))
