@@ -405,6 +405,18 @@ class InPython(TestCase):
             self.assertEqual((session.scan("by_city"), session.get(7)), (rows, (7, "city\n0", 7)))
             self.assertIsInstance(session, betable().KeptSession)
 
+    def test_what_one_call_of_the_system_does_not_write_is_there_again(self):
+        """A batch and a checkpoint of five megabytes each."""
+        rows = [(number, f"{number:0250}", number) for number in range(20_000)]
+        with betable().open(self.path) as session:
+            session.table("id:int city:text qty:int")
+            session.put(rows)
+        with betable().open(self.path) as session:
+            self.assertEqual(session.scan() == rows, True)
+            session.checkpoint()
+        with betable().open(self.path) as session:
+            self.assertEqual(session.scan() == rows, True)
+
     def test_the_program_of_the_document_keeps_its_table(self):
         """It is run twice, and its request once."""
         part = (TOP / "docs/PYTHON.md").read_text().split("\n## A table in a file\n")[1]
