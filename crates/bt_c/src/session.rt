@@ -12,11 +12,12 @@ ghost use Rattle.bt_packed.specs.Questions.{KeepsOrLoses, answer_of, applied_to,
 ghost use Rattle.bt_c.specs.Sessions.{is_lost};
 
 use crate::reply::{ReplyMark, ReplyMarks};
+use bt_engine::alone;
 use bt_fault::{Reason, script_reason};
 use bt_packed::{Fault, Question, ReplyRoom, apply, ask};
 use bt_script::{Counted, RunFault};
-use bt_shell::{Context, check_commands, run_commands};
-use bt_table::{Alone, Table};
+use bt_shell::{check_commands, run_commands};
+use bt_table::Table;
 use bt_value::Refusal;
 use std::alloc::{AllocError, Global};
 use std::mem;
@@ -28,15 +29,6 @@ pub struct Session {
     pub text: Vec<u8>,
     pub refused: usize,
     pub marks: Vec<ReplyMark>,
-}
-
-// The caller works alone.
-fn alone<'a>(alloc: Global) -> Context<'a, (), Alone> {
-    Context {
-        rt: &(),
-        alloc,
-        crew: &Alone,
-    }
 }
 
 // Carries out the commands of a script on a table, appends their replies to a text, and returns the number of refused commands.

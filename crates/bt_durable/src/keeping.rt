@@ -108,12 +108,11 @@ fn serve_group<'a, I: Ahead + Drop, D: Disk, X, S: Service<X> + Drop, W: Write>(
     Ok((rest, more))
 }
 
-// Serves what arrives, until the input ends, no next frame can be found, or the file has `most_size` bytes. Returns the input, and whether more may arrive.
+// Serves what arrives, until the input ends, no next frame can be found, or a checkpoint is due. Returns the input, and whether more may arrive.
 fn serve_until<'a, I: Ahead + Drop, D: Disk, X, S: Service<X> + Drop, W: Write>(
     alloc: Global,
     store: &mut Store<D, ServiceMachine<'a, X, S>>,
     most: u64,
-    most_size: usize,
     input: I,
     output: &mut Counted<W>,
 ) -> Result<(I, bool), KeepFault>
@@ -144,7 +143,7 @@ fn serve_until<'a, I: Ahead + Drop, D: Disk, X, S: Service<X> + Drop, W: Write>(
             store.standing();
             return Ok((source, false));
         }
-        if store.size() >= most_size {
+        if store.is_checkpoint_due() {
             store.standing();
             return Ok((source, true));
         }
@@ -153,17 +152,9 @@ fn serve_until<'a, I: Ahead + Drop, D: Disk, X, S: Service<X> + Drop, W: Write>(
     Ok((source, true))
 }
 
-// A file gets a checkpoint once it has this many bytes, and twice as many as after the last time.
-const SMALLEST_SIZE: usize = 16_777_216;
-
-// How many bytes a file has at the next checkpoint, if it has this many now.
-fn next_size(size: usize) -> usize {
-    size.saturating_mul(2).max(SMALLEST_SIZE)
-}
-
 /// Serves what arrives, until the input ends or no next frame can be found. It reads the requests that it can read without waiting, carries them out, and writes
-/// their replies once what they change is on the disk. A payload of more than `most` bytes is passed over. Each time the file has become twice as long, and 16 MiB,
-/// the state takes the place of the requests in it, compacted.
+/// their replies once what they change is on the disk. A payload of more than `most` bytes is passed over. When a checkpoint of the store is due, the
+/// compacted state takes the place of the requests in its file.
 ///
 /// The replies are those of the definition `answers` for what arrives of the bytes that the input had, from the state of the store and from those that it was
 /// compacted to. `Stream`: a stream or an allocation failed, or 2^64 - 1 checkpoints were made. `Store`: a call of the store failed.
@@ -196,8 +187,7 @@ pub fn serve_and_keep<'a, I: Ahead + Drop, D: Disk, X, S: CompactService<X> + Dr
     store.standing();
     let mut source = input;
     'runs: for _ in 0..u64::MAX {
-        let most_size = next_size(store.size());
-        let (rest, more) = serve_until(alloc, store, most, most_size, source, output)?;
+        let (rest, more) = serve_until(alloc, store, most, source, output)?;
         source = rest;
         if !more {
             return Ok(());

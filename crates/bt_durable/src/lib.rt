@@ -11,8 +11,7 @@
 //! ```text
 //! let machine = ServiceMachine::new(alloc, &context, OnceService::new(alloc, service)?);
 //! let mut store = Store::open(alloc, disk, &bytes, head, machine)?;
-//! let (input, more) = serve_and_keep(alloc, &mut store, 67_108_864, 16_777_216, input, &mut output)?;
-//! store.checkpoint(alloc)?;                   // the file was long: now it has the state alone
+//! serve_and_keep(alloc, &mut store, 67_108_864, input, &mut output)?;
 //! ```
 #![tactic(auto)]
 

@@ -24,6 +24,7 @@
 
 mod arguments;
 mod engine_run;
+mod local_service;
 mod marks;
 mod reply;
 mod request;
@@ -32,6 +33,7 @@ mod table_service;
 
 pub use arguments::{EngineWords, read_engine_words};
 pub use engine_run::{crew_of, engine};
+pub use local_service::{LocalService, alone};
 pub use reply::ReplyStatus;
 pub use request::{Request, request_of};
 pub use serving::serve_table;

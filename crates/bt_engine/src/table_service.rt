@@ -221,8 +221,8 @@ fn carry_out<T, C: ScriptWorkforce<T> + PackedWorkforce<T>>(
     }
 }
 
-// The reply to what arrived, which is carried out.
-fn exchange<T, C: ScriptWorkforce<T> + PackedWorkforce<T>>(
+/// The reply to what arrived, which is carried out.
+pub(crate) fn exchange<T, C: ScriptWorkforce<T> + PackedWorkforce<T>>(
     context: &Context<'_, T, C>,
     table: &mut Option<Table>,
     arrival: Arrival,
@@ -245,8 +245,8 @@ fn exchange<T, C: ScriptWorkforce<T> + PackedWorkforce<T>>(
     }
 }
 
-// The reply to what arrived and is no request.
-fn refuse(arrival: Arrival, room: Vec<u8>) -> Result<Reply, AllocError>
+/// The reply to what arrived and is no request.
+pub(crate) fn refuse(arrival: Arrival, room: Vec<u8>) -> Result<Reply, AllocError>
     requires refused { IsNoRequest arrival }
     ensures reply { IfOk result (λ reply. (table : State) (payload : List ℕ) → (reply.kind, reply.payload.items) ≡ exchanges.reply table arrival payload) }
     ensures changes { IfOk result (λ reply. reply.is_change ≡ false) }
@@ -324,8 +324,8 @@ impl<'a, T, C: ScriptWorkforce<T> + PackedWorkforce<T>> Service<Context<'a, T, C
     }
 }
 
-// Compacts a table, and adds to some bytes the frame of a request that restores it. `None`: nothing has changed.
-fn compact_table<T, C: ScriptWorkforce<T>>(
+/// Compacts a table, and adds to some bytes the frame of a request that restores it. `None`: nothing has changed.
+pub(crate) fn compact_table<T, C: ScriptWorkforce<T>>(
     context: &Context<'_, T, C>,
     table: &mut Option<Table>,
     bytes: Vec<u8>,

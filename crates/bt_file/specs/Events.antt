@@ -4,7 +4,7 @@ use Rattle.std.proofs.Common.{inl, inr, arith}
 use Rattle.bt_journal.specs.Disks.{Torn, Cut as CutTo, Swapped}
 use Rattle.bt_file.specs.Calls.{Event}
 use Rattle.bt_file.specs.declared.calls.Call.{Call}
-use Rattle.bt_file.specs.declared.calls.Call.TheVariants.{Opened, Written, Cut, Replaced, Synced}
+use Rattle.bt_file.specs.declared.calls.Call.TheVariants.{Opened, Written, Cut, Replaced, Synced, Taken}
 
 -- The bytes that a read returns after a call with these bytes. After a call that failed they are not known, and the disk is not healthy.
 abbrev pub contents_after : Call → List ℕ → List ℕ → List ℕ
@@ -13,6 +13,7 @@ contents_after (Written at is_ok) bytes old = if is_ok then take at old ++ bytes
 contents_after (Cut len is_ok) bytes old = if is_ok then take len old else old
 contents_after (Replaced is_ok) bytes old = if is_ok then bytes else old
 contents_after (Synced is_ok) bytes old = old
+contents_after Taken bytes old = old
 
 -- the bytes that a read returns after these calls, the latest one first, if the disk is healthy
 abbrev pub contents_of : List Event → List ℕ
@@ -26,6 +27,7 @@ still_healthy (Written at is_ok) old = old && is_ok
 still_healthy (Cut len is_ok) old = old && is_ok
 still_healthy (Replaced is_ok) old = is_ok
 still_healthy (Synced is_ok) old = old && is_ok
+still_healthy Taken old = old
 
 -- whether no call has failed since the file was opened or replaced
 abbrev pub is_healthy_after : List Event → Bool
@@ -43,6 +45,7 @@ outcome_after (Written at is_ok) bytes contents healthy old c = After (Torn at (
 outcome_after (Cut len is_ok) bytes contents healthy old c = After (CutTo len) old c
 outcome_after (Replaced is_ok) bytes contents healthy old c = After (Swapped bytes) old c × (IsTrue is_ok → c ≡ bytes)
 outcome_after (Synced is_ok) bytes contents healthy old c = old c × (IsTrue (healthy && is_ok) → c ≡ contents)
+outcome_after Taken bytes contents healthy old c = old c
 
 -- what a crash at this moment may leave
 abbrev pub outcome_of : List Event → List ℕ → Type 0
@@ -56,6 +59,7 @@ has_succeeded (Written at is_ok) = is_ok
 has_succeeded (Cut len is_ok) = is_ok
 has_succeeded (Replaced is_ok) = is_ok
 has_succeeded (Synced is_ok) = is_ok
+has_succeeded Taken = true
 
 -- how many calls have failed
 abbrev pub fault_count_of : List Event → ℕ

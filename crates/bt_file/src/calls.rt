@@ -17,6 +17,8 @@ pub(crate) enum Call {
     Replaced(bool),
     /// The file was synced.
     Synced(bool),
+    /// The host took the calls that it is to make.
+    Taken,
 }
 
 /// A list of calls with their bytes.

@@ -12,5 +12,7 @@
 
 mod calls;
 mod host_file;
+mod ordered_file;
 
 pub use host_file::{HostFile, OpenError, open};
+pub use ordered_file::OrderedFile;

@@ -1,7 +1,9 @@
 -- The states that files stand for.
-use Rattle.std.proofs.Common.{◌≡◌, inl, inr, Bool, List, ℕ, [], ◌∷◌, ◌++◌, refl, sym, ◌∙◌, ap}
-use Rattle.bt_journal.specs.Files.{recovered, Opens, IsBeforeOrAfter, IsSwapped}
-use Rattle.bt_journal.specs.Stores.{after_all, state_of, Finds, IsBeforeOrAfterCheckpoint, IsBeforeOrAfterRun, IsConsistent, IsKept}
+use Rattle.std.proofs.Common.{◌≡◌, ◌+◌, IsTrue, inl, inr, Bool, List, ℕ, [], ◌∷◌, ◌++◌, refl, sym, ◌∙◌, ap, subst}
+use Rattle.bt_journal.specs.Frames.{IsFramed, extent, seed_after}
+use Rattle.bt_journal.specs.Heads.{body_of, head_at, head_size}
+use Rattle.bt_journal.specs.Files.{recovered, Opens, IsBeforeOrAfter}
+use Rattle.bt_journal.specs.Stores.{after_all, state_of, Finds, IsBeforeOrAfterRun, IsConsistent, IsKept}
 use Rattle.bt_journal.specs.declared.head.Head.{Head}
 use Rattle.bt_journal.specs.declared.journal.Journal.{Journal}
 use Rattle.bt_journal.proofs.SettledJournals.{settled_opens}
@@ -27,3 +29,22 @@ stands contents outcome is_healthy after blank journal machine s = (
   s.settled.durable,
   finds after blank journal.head machine (recovered (contents journal.disk)) (contents journal.disk) (sym s.same) (settled_opens contents outcome is_healthy journal s.settled),
 )
+
+-- a journal whose file has the same bytes, and no other outcome of a crash
+pub same_file : {D M : Type 0} (contents : D → List ℕ) (outcome : D → List ℕ → Type 0) (is_healthy : D → Bool) (after : M → List ℕ → M) (blank : M) (journal : Journal D) (machine : M)
+    (disk : D) → contents disk ≡ contents journal.disk → ((c : List ℕ) → outcome disk c → outcome journal.disk c) → is_healthy disk ≡ is_healthy journal.disk
+    → IsConsistent contents outcome is_healthy after blank journal machine
+    → IsConsistent contents outcome is_healthy after blank (record { disk = disk; head = journal.head; end = journal.end; seed = journal.seed; zeros = journal.zeros }) machine
+same_file contents outcome is_healthy after blank journal machine disk same no_more health s =
+    let settled = s.settled in
+    record {
+      settled = record {
+        head = ap head_at same ∙ settled.head;
+        framed = subst (λ (file : List ℕ). IsFramed journal.head.salt (recovered file) (body_of file)) (sym same) settled.framed;
+        end = settled.end ∙ ap (λ (file : List ℕ). head_size + extent (recovered file)) (sym same);
+        seed = settled.seed ∙ ap (λ (file : List ℕ). seed_after journal.head.salt (recovered file)) (sym same);
+        durable = λ c left. settled.durable c (no_more c left) ∙ sym same;
+        healthy = subst IsTrue (sym health) settled.healthy;
+      };
+      same = s.same ∙ ap (state_of after blank) (sym same);
+    }

@@ -1,6 +1,7 @@
 //! A file on a disk: what a read returns, and what a crash may leave.
 ghost use Rattle.std.specs.Prelude.{◌≡◌, ◌≤◌, Bool, IsTrue, List, ℕ, length, take, OnOk};
 ghost use Rattle.bt_journal.specs.Disks.{Only, Follows, Torn, Cut, Swapped, Holds, Elapses, HasCause};
+ghost use Rattle.bt_journal.specs.declared.disk.HostCall.{HostCall as host_call};
 
 /// A call of the disk failed. It may have done its work, a part of it, or nothing.
 #[derive(Clone, Copy, Debug, Drop, PartialEq, Eq)]
@@ -10,7 +11,7 @@ pub struct DiskFailed;
 ///
 /// A call is one step of its clock. A crash within a call leaves what a crash before it or after it may leave: part of a write is
 /// [`Torn`](Disk::write_at), and a sync may be done or not. The bytes that a read returns are always among the outcomes of a crash, since a process that ends
-/// loses nothing that it wrote. So no clause on outcomes holds for want of any.
+/// loses nothing that it wrote. So no clause on outcomes is true because there are none.
 pub trait Disk {
     /// The bytes that a read returns, while the disk is healthy.
     ghost contents: { Self → List ℕ };
@@ -77,4 +78,41 @@ pub trait Disk {
 
     /// Since this moment there is no other.
     ghost only_now: { (file : Self) (c : List ℕ) → outcome_since file (moment file) c → outcome file c };
+}
+
+/// A call of a file that a host is to make.
+#[derive(Drop)]
+pub enum HostCall {
+    /// Write bytes from an offset on.
+    Write(usize, Vec<u8>),
+    /// Cut the file to a length.
+    Cut(usize),
+    /// Write a new file with these bytes, sync it, and give it the name and the place of this one.
+    Replace(Vec<u8>),
+    /// Sync the file.
+    Sync,
+}
+
+/// A disk whose calls a host makes: each method adds a call to a list, and returns as if it had succeeded. So what the clauses say of a crash is true if the host
+/// makes all calls in order, and acknowledges nothing before it has made them. If one fails, it opens the file again.
+pub trait HostDisk: Disk {
+    /// The calls that the host is to make: those that were added since it last took them.
+    ghost are_due: { Self → List host_call → Type 0 };
+
+    /// The host took its calls.
+    ghost is_taken: { Self → Self → Type 0 };
+
+    /// Returns the calls that the host is to make, in order.
+    fn take_calls(&mut self) -> Vec<HostCall>
+        ensures calls { are_due self.old result.items }
+        ensures taken { is_taken self.old self.new };
+
+    /// Taking them changes no bytes.
+    ghost same_contents: { (old new : Self) → is_taken old new → Self.Disk.contents new ≡ Self.Disk.contents old };
+
+    /// It adds no outcome of a crash.
+    ghost same_outcome: { (old new : Self) → is_taken old new → (c : List ℕ) → Self.Disk.outcome new c → Self.Disk.outcome old c };
+
+    /// No call fails.
+    ghost same_health: { (old new : Self) → is_taken old new → Self.Disk.is_healthy new ≡ Self.Disk.is_healthy old };
 }

@@ -5,7 +5,7 @@ ghost use Rattle.bt_journal.specs.Heads.{head_at, head_size, IsAlike};
 ghost use Rattle.bt_journal.specs.Files.{recovered, has_frame_after, is_damaged, IsCause};
 
 use crate::fault::Fault;
-use crate::frame::{FRAME_START, next_seed, payload_at};
+use crate::frame::{FRAME_START, next_seed, number_at, payload_at};
 use crate::head::{HEAD_SIZE, Head};
 
 /// Where the frames of a file end.
@@ -101,4 +101,13 @@ impl FileEnd {
             is_clean: are_zeros(rest),
         })
     }
+}
+
+/// Where the first frame of a file ends, if it has one.
+pub(crate) fn first_end(file: &[u8]) -> usize {
+    if file.len() < HEAD_SIZE + FRAME_START {
+        return file.len();
+    }
+    let size = number_at(&file[HEAD_SIZE..]) as usize;
+    size.saturating_add(HEAD_SIZE).min(file.len())
 }

@@ -25,7 +25,8 @@
 //! - **Damage.** One frame is written at a time, so a crash leaves no frame after the one that is torn. If there is one, a frame before it was damaged, and the
 //!   file is refused. Damage in the last frame looks like a torn write.
 //! - **Checkpoints.** A machine with the trait [`Compact`] can put one payload for its whole state in the place of all others: a new file with a new salt is
-//!   written, and gets the name of the old one.
+//!   written, and gets the name of the old one. One is due once the file has 16 MiB, and has become twice as long.
+//! - **Hosts.** A library that may not open files says which calls of the file its host is to make: see [`HostDisk`].
 #![tactic(auto)]
 
 mod disk;
@@ -41,7 +42,7 @@ mod replay;
 mod steps;
 mod store;
 
-pub use disk::{Disk, DiskFailed};
+pub use disk::{Disk, DiskFailed, HostCall, HostDisk};
 pub use fault::Fault;
 pub use frame::sum_after;
 pub use head::Head;

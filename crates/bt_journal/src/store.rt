@@ -1,19 +1,27 @@
 //! A machine whose state a crash does not lose: each payload that changes it is in a file before it is acknowledged.
-ghost use Rattle.std.specs.Prelude.{◌≡◌, ◌+◌, ◌++◌, if◌then◌else◌, IsTrue, Bool, false, true, ◌<◌, ◌≤◌, ◌^◌, List, ℕ, [], ◌∷◌, length, IfErr, IfOk, IsErrOf, OnOk};
+ghost use Rattle.std.specs.Prelude.{◌≡◌, ◌++◌, if◌then◌else◌, IsTrue, Bool, false, true, ◌<◌, ◌≤◌, ◌^◌, List, ℕ, [], ◌∷◌, length, IfErr, IfOk, IsErrOf, OnOk};
 ghost use Rattle.bt_journal.specs.Disks.{Only, LeavesOnly};
-ghost use Rattle.bt_journal.specs.Frames.{extent};
-ghost use Rattle.bt_journal.specs.Heads.{IsAlike, head_size};
+ghost use Rattle.bt_journal.specs.Heads.{IsAlike};
 ghost use Rattle.bt_journal.specs.Files.{recovered, is_refusal, IsCause};
 ghost use Rattle.bt_journal.specs.Stores.{StoreValue, disk_of, state_in, head_in, is_open, state_of, Finds, IsKept, IsConsistent, IsBeforeOrAfterCheckpoint, IsBeforeOrAfterRun};
 
-use crate::disk::Disk;
+use crate::disk::{Disk, HostCall, HostDisk};
 use crate::fault::Fault;
+use crate::file_end::first_end;
 use crate::head::Head;
 use crate::journal::Journal;
 use crate::machine::{Compact, Machine};
 use crate::steps::{compact, open_state, run_payload};
 use std::alloc::Global;
 use std::marker::Model;
+
+// A checkpoint is due once the file has this many bytes, and twice as many as after the last one.
+const SMALLEST_SIZE: usize = 16_777_216;
+
+// How many bytes a file has when the next checkpoint is due, if the last one left this many.
+fn size_when_due(size: usize) -> usize {
+    size.saturating_mul(2).max(SMALLEST_SIZE)
+}
 
 /// A machine, and the journal of the payloads that changed it.
 ///
@@ -24,6 +32,8 @@ pub struct Store<D: Disk, M: Machine> {
     journal: Journal<D>,
     machine: M,
     is_open: bool,
+    /// How many bytes the file has when the next checkpoint is due.
+    due_size: usize,
 }
 
 impl<D: Disk, M: Machine> Model for Store<D, M> {
@@ -67,11 +77,13 @@ impl<D: Disk, M: Machine> Store<D, M> {
         ensures failed { IfErr result (λ e. e.0 ≡ Fault.Failed → D.fault_count disk < D.fault_count e.1) }
         ensures unchanged { IfErr result (λ e. is_refusal e.0 ≡ true → e.1 ≡ disk) }
     {
+        let due_size = size_when_due(first_end(bytes));
         let (journal, machine) = open_state(alloc, disk, bytes, head, machine)?;
         Ok(Store {
             journal,
             machine,
             is_open: true,
+            due_size,
         })
     }
 
@@ -82,11 +94,9 @@ impl<D: Disk, M: Machine> Store<D, M> {
         &self.machine
     }
 
-    /// The number of bytes of the head and the payloads in the file, with their frames.
-    pub fn size(&self) -> usize
-        ensures { IsTrue (is_open self.now) → result ≡ head_size + extent (recovered (D.contents (disk_of self.now))) }
-    {
-        self.journal.end
+    /// Whether a checkpoint is due: the file has 16 MiB, and twice as many bytes as its first payload, or as it had when the last checkpoint was tried.
+    pub fn is_checkpoint_due(&self) -> bool {
+        self.journal.end >= self.due_size
     }
 
     /// Does nothing. Its contract is what is true of an open store between any two calls: a crash leaves a file of its state.
@@ -127,6 +137,20 @@ impl<D: Disk, M: Machine> Store<D, M> {
     }
 }
 
+impl<D: HostDisk, M: Machine> Store<D, M> {
+    /// Returns the calls that the host is to make before what was done since the last time is acknowledged, in order.
+    pub fn take_calls(&mut self) -> Vec<HostCall>
+        ensures calls { D.HostDisk.are_due (disk_of self.old) result.items }
+        ensures taken { D.HostDisk.is_taken (disk_of self.old) (disk_of self.new) }
+        ensures state { state_in self.new ≡ state_in self.old }
+        ensures head { head_in self.new ≡ head_in self.old }
+        ensures open { is_open self.new ≡ is_open self.old }
+        ensures kept { IsTrue (is_open self.old) → IsKept D.contents D.outcome M.after M.blank (head_in self.new) (disk_of self.new) (state_in self.new) }
+    {
+        self.journal.disk.take_calls()
+    }
+}
+
 impl<D: Disk, M: Compact> Store<D, M> {
     /// Compacts the state, and puts a new file with one payload in the place of the old one. Returns whether it did: `false` if the state cannot be compacted
     /// now, or if memory ran out, and then nothing has changed. At `Err` the store is closed: open the file again.
@@ -152,6 +176,7 @@ impl<D: Disk, M: Compact> Store<D, M> {
         }
         self.is_open = false;
         let is_done = compact(alloc, &mut self.journal, &mut self.machine)?;
+        self.due_size = size_when_due(self.journal.end);
         self.is_open = true;
         Ok(is_done)
     }

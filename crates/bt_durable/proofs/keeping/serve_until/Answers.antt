@@ -81,8 +81,8 @@ returns-then-not-more-clause-kept g c =
     let next = rw more at c.in_ok-rest.ensures.replied in
     c.standing-then-not-more.ensures next.2.opened
 
-pub returns-then-size-most_size-clause-replied : goal.returns-then-size-most_size-clause-replied
-returns-then-size-most_size-clause-replied g c =
+pub returns-then-is_checkpoint_due-clause-replied : goal.returns-then-is_checkpoint_due-clause-replied
+returns-then-is_checkpoint_due-clause-replied g c =
     let d = g.D.Disk in
     let s = g.S.Service in
     let more : c.in_ok-rest.more ≡ true = search rules in
@@ -91,8 +91,8 @@ returns-then-size-most_size-clause-replied g c =
     c.groups.output c.serve_group.new.output c.args.most (g.I.Read.remaining c.args.input) (g.I.Read.remaining c.groups.source)
     (g.I.Read.remaining c.in_ok-rest.rest) c.groups.invariant.run next
 
-pub returns-then-size-most_size-clause-kept : goal.returns-then-size-most_size-clause-kept
-returns-then-size-most_size-clause-kept g c =
+pub returns-then-is_checkpoint_due-clause-kept : goal.returns-then-is_checkpoint_due-clause-kept
+returns-then-is_checkpoint_due-clause-kept g c =
     let more : c.in_ok-rest.more ≡ true = search rules in
     let next = rw more at c.in_ok-rest.ensures.replied in
-    c.standing-then-size-most_size.ensures next.2.opened
+    c.standing-then-is_checkpoint_due.ensures next.2.opened
