@@ -1,4 +1,4 @@
--- A session may go to another thread: its table has trees of rows and of entries, which have no part that belongs to a thread. Serves the slot of a session.
+-- A session may go to another thread: its tables have trees of rows and of entries, which have no part that belongs to a thread. Serves the slot of a session.
 use denote.Param.Send.{IsSend, recorded_send, sendable, struct_send, view_send}
 use denote.Struct.Declared.{shape}
 use Rattle.std.proofs.Crossing.{Vec-send, crosses}
@@ -22,6 +22,14 @@ use Rattle.bt_table.specs.contracts.index.IndexHead as IndexHead
 use Rattle.bt_table.specs.contracts.table.Table as Table
 use Rattle.bt_table.specs.contracts.table.Table.TheInside as inside
 use Rattle.bt_table.specs.contracts.trees.Trees as Trees
+use Rattle.bt_engine.specs.contracts.local_service.LocalService as LocalService
+use Rattle.bt_engine.specs.contracts.local_service.LocalService.TheInside as service
+use Rattle.bt_durable.proofs.once.OnceService.TheSendSync as once
+use Rattle.bt_durable.proofs.service_machine.ServiceMachine.TheSendSync as machine
+use Rattle.bt_file.proofs.ordered_file.OrderedFile.TheSendSync as file
+use Rattle.bt_journal.proofs.disk.HostCall.TheSendSync as host_call
+use Rattle.bt_journal.proofs.store.Store.TheSendSync as store
+use Rattle.bt_journal.specs.contracts.disk.HostCall as HostCall
 use Rattle.bt_c.proofs.reply.ReplyMark.TheSendSync as mark
 use Rattle.bt_c.specs.contracts.reply.ReplyMark as ReplyMark
 use Rattle.bt_c.specs.contracts.session.Session as Session
@@ -43,7 +51,26 @@ parts =
 table : IsSend Table.the_row
 table = view_send _ _ _ _ _ parts
 
+service_parts : IsSend service.the_row
+service_parts =
+    recorded_send service.the_field.row _ _ (service.the_type).to_one (struct_send (shape service.the_type) (search (crosses, sendable) depth 20, (search (sendable, table) depth 20, tt)))
+
+table_service : IsSend LocalService.the_row
+table_service = view_send _ _ _ _ _ service_parts
+
 pub session : IsSend Session.the_row
 session =
     recorded_send Session.the_field.row _ _ (Session.the_type).to_one
-    (struct_send (shape Session.the_type) (search (sendable, table) depth 20, (search (crosses, sendable) depth 20, (search sendable, (Vec-send ReplyMark.the_row mark.the_send, tt)))))
+    (struct_send (shape Session.the_type) (
+      search (sendable, table) depth 20,
+      (
+        search (crosses, sendable) depth 20,
+        (
+          search sendable,
+          (
+            Vec-send ReplyMark.the_row mark.the_send,
+            (search (crosses, sendable, table_service, once.the_send, machine.the_send, store.the_send, file.the_send) depth 60 fits 20000, (Vec-send HostCall.the_row host_call.the_send, tt)),
+          ),
+        ),
+      ),
+    ))

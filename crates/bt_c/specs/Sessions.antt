@@ -6,11 +6,12 @@ use Rattle.bt_table.specs.Tables.{Intact, Lost, TableState}
 use Rattle.bt_packed.specs.Questions.{KeepsOrLoses, reply_from}
 use Rattle.bt_packed.specs.declared.fault.Fault.{Fault}
 use Rattle.bt_shell.specs.Steps.{State}
+use Rattle.bt_c.specs.Kept.{SameFile}
 use Rattle.bt_c.specs.declared.fault.FaultInC.{FaultInC}
 use Rattle.bt_c.specs.declared.handle.Handle.{Handle}
 use Rattle.bt_c.specs.declared.session.Session.{Session}
 use Rattle.bt_c.specs.declared.status.Status.{Status}
-use Rattle.bt_c.specs.declared.status.Status.TheVariants.{AlreadyOpen, Done, NotOpen, OutOfMemory, Refused, ReplyCut}
+use Rattle.bt_c.specs.declared.status.Status.TheVariants.{AlreadyOpen, Damaged, Done, FileTooLong, NotATable, NotKept, NotOpen, OtherEngine, OtherFormat, OutOfMemory, Refused, ReplyCut}
 
 -- the session, if the handle is open
 abbrev pub session_of : Handle → Option Session
@@ -34,6 +35,12 @@ code_of ReplyCut = 2
 code_of NotOpen = 3
 code_of AlreadyOpen = 4
 code_of Refused = 5
+code_of NotKept = 6
+code_of FileTooLong = 7
+code_of NotATable = 8
+code_of OtherFormat = 9
+code_of OtherEngine = 10
+code_of Damaged = 11
 
 -- ---- calls on packed bytes
 
@@ -55,7 +62,7 @@ StaysOrIsLostIn old new = KeepsOrLoses old.table new.table
 
 -- What a call does that asks the table of a session a question in packed bytes: which code it returns, the reply or the fault, and what it leaves. Without a
 -- session it returns `NotOpen`, and the handle stays closed. Otherwise it returns `Done`, `OutOfMemory` or `Refused`, and the session keeps its table. After any
--- code but `Done` the replies are empty. No refused command is counted, and no reply has a place. Without a table the question is refused.
+-- code but `Done` the replies are empty. No refused command is counted, and no reply has a place. Without a table the question is refused. A table in a file is left alone.
 pub record IsAnswered (answer : TableState → List ℕ → Result (List ℕ) Fault) (bytes : List ℕ) (old new : Handle) (seen : FaultInC) (code : ℕ) : Type 0 where
   pub closed : session_of old ≡ None → (code ≡ code_of NotOpen) × (session_of new ≡ None)
   pub ends : is_some (session_of old) ≡ true → (code ≡ code_of Done) ⊎ (code ≡ code_of OutOfMemory) ⊎ (code ≡ code_of Refused)
@@ -65,3 +72,4 @@ pub record IsAnswered (answer : TableState → List ℕ → Result (List ℕ) Fa
   pub unmarked : IfSome (session_of new) IsUnmarked
   pub certain : IfSome (session_of old) (λ session. session.table ≡ None → code ≡ code_of Refused)
   pub table : is_some (session_of old) ≡ true → StaysOpen old new (λ before after. after.table ≡ before.table)
+  pub file : is_some (session_of old) ≡ true → StaysOpen old new SameFile

@@ -1,5 +1,6 @@
-//! A table that lives between calls, and the replies that can be copied.
+//! A table that lives between calls, or is in a file, and the replies that can be copied.
 ghost use Rattle.std.specs.Prelude.{◌≡◌, ◌≢◌, ◌-◌, ◌++◌, [], Err, IfErr, IfOk, IfSome, IsErrOf, Ok, OnErr, OnOk, None, Some, drop, flat_map, length, min, take};
+ghost use Rattle.std.specs.Option.{MatchOption};
 ghost use Rattle.bt_script.specs.Commands.{commands};
 ghost use Rattle.bt_shell.specs.Faults.{StopsBetweenReplies, StopsWithinReply, lost_reply};
 ghost use Rattle.bt_shell.specs.Runs.{after_commands, refused_count, replies};
@@ -9,11 +10,14 @@ ghost use Rattle.bt_c.specs.Reasons.{FirstIsRefused};
 ghost use Rattle.bt_fault.specs.Commands.{first_reason};
 ghost use Rattle.bt_c.specs.Replies.{checked_marks, marks_of};
 ghost use Rattle.bt_packed.specs.Questions.{KeepsOrLoses, answer_of, applied_to, no_table, reply_from};
+ghost use Rattle.bt_c.specs.Kept.{HasCheckpoint, HasRun, IsClosed, IsOpened, SameFile, head_with};
 ghost use Rattle.bt_c.specs.Sessions.{is_lost};
 
+use crate::kept::{KeptTable, compact_kept, open_kept, run_kept};
 use crate::reply::{ReplyMark, ReplyMarks};
 use bt_engine::alone;
 use bt_fault::{Reason, script_reason};
+use bt_journal::{Fault as FileFault, HostCall};
 use bt_packed::{Fault, Question, ReplyRoom, apply, ask};
 use bt_script::{Counted, RunFault};
 use bt_shell::{check_commands, run_commands};
@@ -22,13 +26,16 @@ use bt_value::Refusal;
 use std::alloc::{AllocError, Global};
 use std::mem;
 
-/// The table, if there is one; the replies to the last script, the number of its commands that were refused, and where the reply to each of them ends.
+/// The table, if there is one; the replies to the last script, the number of its commands that were refused, and where the reply to each of them ends; the table
+/// in a file, if the session was opened with one, and the calls of the file that the host is to make.
 #[derive(Drop)]
 pub struct Session {
     pub table: Option<Table>,
     pub text: Vec<u8>,
     pub refused: usize,
     pub marks: Vec<ReplyMark>,
+    pub kept: Option<KeptTable>,
+    pub calls: Vec<HostCall>,
 }
 
 // Carries out the commands of a script on a table, appends their replies to a text, and returns the number of refused commands.
@@ -62,13 +69,29 @@ impl Session {
         ensures text { result.text.items ≡ [] }
         ensures refused { result.refused ≡ 0 }
         ensures marks { result.marks.items ≡ [] }
+        ensures file { IsClosed result }
     {
         Session {
             table: None,
             text: Vec::new(alloc),
             refused: 0,
             marks: Vec::new(alloc),
+            kept: None,
+            calls: Vec::new(alloc),
         }
+    }
+
+    /// A session with the table in a file that has these bytes.
+    pub fn of_file(alloc: Global, file: &[u8], salt: u64) -> Result<Session, FileFault>
+        ensures kept { IfOk result (λ session. MatchOption session.kept ⊥ (λ kept. IsOpened (head_with salt) file.now kept session.calls.items)) }
+        ensures table { IfOk result (λ session. session.table ≡ None) }
+        ensures text { IfOk result (λ session. session.text.items ≡ []) }
+    {
+        let (kept, calls) = open_kept(alloc, file, salt)?;
+        let mut session = Session::new(alloc);
+        session.kept = Some(kept);
+        session.calls = calls;
+        Ok(session)
     }
 
     // Empties the replies and their marks, and sets the number of refused commands to 0.
@@ -77,6 +100,7 @@ impl Session {
         ensures text { self.new.text.items ≡ [] }
         ensures refused { self.new.refused ≡ 0 }
         ensures marks { self.new.marks.items ≡ [] }
+        ensures file { SameFile self.old self.new }
     {
         self.text.clear();
         self.refused = 0;
@@ -97,6 +121,7 @@ impl Session {
         ensures lost { self.old.table ≡ Some Lost → (self.new.table ≡ Some Lost) × (replies self.old.table (commands script.now) ≡ flat_map lost_reply (commands script.now)) }
         ensures consistent { IfSome self.new.table IsConsistent }
         ensures kept { IfSome self.old.table IsSound → OnOk result (IfSome self.new.table IsSound) }
+        ensures file { SameFile self.old self.new }
     {
         self.clear();
         let mut log = ReplyMarks {
@@ -114,6 +139,7 @@ impl Session {
         ensures table { self.new.table ≡ self.old.table }
         ensures text { self.new.text.items ≡ [] }
         ensures refused { self.new.refused ≡ 0 }
+        ensures file { SameFile self.old self.new }
     {
         self.clear();
         let mut log = ReplyMarks {
@@ -142,6 +168,7 @@ impl Session {
         ensures refused { self.new.refused ≡ 0 }
         ensures marks { self.new.marks.items ≡ [] }
         ensures consistent { IfSome self.new.table IsConsistent }
+        ensures file { SameFile self.old self.new }
     {
         self.clear();
         apply(&alone(alloc), &mut self.table, changes)
@@ -153,6 +180,7 @@ impl Session {
         ensures text { self.new.text.items ≡ [] }
         ensures refused { self.new.refused ≡ 0 }
         ensures marks { self.new.marks.items ≡ [] }
+        ensures file { SameFile self.old self.new }
     {
         self.refused = 0;
         self.marks.clear();
@@ -168,6 +196,7 @@ impl Session {
         ensures table { self.new.table ≡ self.old.table }
         ensures refused { self.new.refused ≡ 0 }
         ensures marks { self.new.marks.items ≡ [] }
+        ensures file { SameFile self.old self.new }
     {
         let room = self.take_room(alloc);
         self.text = ask(&alone(alloc), &self.table, question, bytes, room)?;
@@ -184,17 +213,67 @@ impl Session {
         }
     }
 
-    /// Copies the bytes of the replies from a place on, as many as there are and as fit.
-    pub fn copy(&self, from: usize, out: &mut [u8]) -> usize
-        ensures bytes { take result out.new ≡ take result (drop from self.now.text.items) }
-        ensures rest { drop result out.new ≡ drop result out.old }
-        ensures count { result ≡ min (length self.now.text.items - from) (length out.old) }
+    /// Carries out requests on the table in the file. The frames of their replies are the replies.
+    pub fn run_in_file(&mut self, alloc: Global, requests: &[u8]) -> Result<(), FileFault>
+        ensures done { OnOk result (MatchOption self.old.kept ⊥ (λ old. MatchOption self.new.kept ⊥ (λ new. HasRun old new requests.now self.new.text.items self.new.calls.items))) }
+        ensures not_kept { self.old.kept ≡ None → IsErrOf result FileFault.Closed }
+        ensures failed { OnErr result (IsClosed self.new) }
+        ensures text { OnErr result (self.new.text.items ≡ []) }
+        ensures table { self.new.table ≡ self.old.table }
+        ensures refused { self.new.refused ≡ 0 }
+        ensures marks { self.new.marks.items ≡ [] }
     {
-        let Some(rest) = self.text.as_slice().get(from..) else {
-            return 0;
+        self.clear();
+        self.calls.clear();
+        let Some(mut kept) = mem::replace(&mut self.kept, None) else {
+            return Err(FileFault::Closed);
         };
-        let count = rest.len().min(out.len());
-        out[..count].copy_from_slice(&rest[..count]);
-        count
+        let mut replies = mem::replace(&mut self.text, Vec::new(alloc));
+        self.calls = run_kept(alloc, &mut kept, requests, &mut replies)?;
+        self.text = replies;
+        self.kept = Some(kept);
+        Ok(())
     }
+
+    /// Replaces the requests in the file by the state. The replies are emptied.
+    pub fn compact_file(&mut self, alloc: Global) -> Result<(), FileFault>
+        ensures done { OnOk result (MatchOption self.old.kept ⊥ (λ old. MatchOption self.new.kept ⊥ (λ new. HasCheckpoint old new self.new.calls.items))) }
+        ensures not_kept { self.old.kept ≡ None → IsErrOf result FileFault.Closed }
+        ensures failed { OnErr result (IsClosed self.new) }
+        ensures text { self.new.text.items ≡ [] }
+        ensures table { self.new.table ≡ self.old.table }
+        ensures refused { self.new.refused ≡ 0 }
+        ensures marks { self.new.marks.items ≡ [] }
+    {
+        self.clear();
+        self.calls.clear();
+        let Some(mut kept) = mem::replace(&mut self.kept, None) else {
+            return Err(FileFault::Closed);
+        };
+        self.calls = compact_kept(alloc, &mut kept)?;
+        self.kept = Some(kept);
+        Ok(())
+    }
+
+    /// Whether a checkpoint of the file is due.
+    pub fn is_checkpoint_due(&self) -> bool {
+        match &self.kept {
+            None => false,
+            Some(kept) => kept.is_checkpoint_due(),
+        }
+    }
+}
+
+/// Copies bytes from a place on, as many as there are and as fit, and returns their number.
+pub(crate) fn copy_from(bytes: &[u8], from: usize, out: &mut [u8]) -> usize
+    ensures bytes { take result out.new ≡ take result (drop from bytes.now) }
+    ensures rest { drop result out.new ≡ drop result out.old }
+    ensures count { result ≡ min (length bytes.now - from) (length out.old) }
+{
+    let Some(rest) = bytes.get(from..) else {
+        return 0;
+    };
+    let count = rest.len().min(out.len());
+    out[..count].copy_from_slice(&rest[..count]);
+    count
 }

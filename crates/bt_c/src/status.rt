@@ -17,6 +17,18 @@ pub enum Status {
     AlreadyOpen,
     /// The call was refused: its fault says why. Nothing has changed.
     Refused,
+    /// The session has no table in a file, or an earlier call of it failed.
+    NotKept,
+    /// The file, or the requests, are too long.
+    FileTooLong,
+    /// The file is not that of a table.
+    NotATable,
+    /// The file has another format.
+    OtherFormat,
+    /// Another engine wrote the file.
+    OtherEngine,
+    /// The file is damaged.
+    Damaged,
 }
 
 impl Status {
@@ -31,6 +43,12 @@ impl Status {
             Status::NotOpen => 3,
             Status::AlreadyOpen => 4,
             Status::Refused => 5,
+            Status::NotKept => 6,
+            Status::FileTooLong => 7,
+            Status::NotATable => 8,
+            Status::OtherFormat => 9,
+            Status::OtherEngine => 10,
+            Status::Damaged => 11,
         }
     }
 }

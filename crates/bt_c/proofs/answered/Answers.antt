@@ -12,4 +12,5 @@ returns c =
       unmarked = by.unmarked;
       certain = by.certain;
       table = by.table;
+      file = by.file;
     }
