@@ -4,7 +4,7 @@ use Rattle.bt_journal.specs.declared.disk.HostCall.{HostCall}
 use Rattle.bt_file.specs.Calls.{Event}
 use Rattle.bt_file.specs.Due.{AreDue, AreMade, IsMade, due_in, is_none_due}
 
--- no call is due after one with which they begin anew
+-- no call is due after one after which none is
 pub none_due : (calls : List HostCall) (events : List Event) (e : Event) (grown : List Event) → calls ≡ [] → is_none_due e.0 ≡ true → grown ≡ e ∷ events → AreDue grown calls
 none_due calls events e grown is none more = rw is (rw more (rw none tt))
 
