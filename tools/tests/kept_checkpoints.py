@@ -44,6 +44,12 @@ class Checkpoints(KeptTables):
         self.assertLess(self.path.stat().st_size, SIZE // 4)
         self.assertTrue(self.is_compacted())
 
+    def test_a_process_that_is_ended_after_each_request_has_checkpoints(self):
+        for script in [TABLE + "\n", INDEX, *LONG]:
+            keep(self.path, script)
+        self.assertTrue(self.is_compacted())
+        self.assertEqual(values_in(keep(self.path, "scan primary\ngo\n")[1][0]), {len(LONG) - 1})
+
     def test_the_table_in_the_file_is_that_of_the_process(self):
         """Down to the nodes of its trees, which a checkpoint packs."""
         _, texts, _ = keep(self.path, TABLE + "\n", INDEX, *LONG, READ)
