@@ -247,7 +247,7 @@ betable_status betable_close(betable_session *session) BETABLE_NOT_NULL;
 
 /* A table in a file. These calls say which calls of the file the host is to make, and make none themselves: betable_file.h has calls that make them. The file is
  * that of `betable_engine --keep`. It is proved that a crash loses nothing that was told, if the host makes the calls in order, makes all of them before it tells
- * a reply, and makes none after one that failed. */
+ * a reply, and makes none after one that failed. The calls on scripts and packed bytes above do not use the table in the file. */
 
 /* A call of the file that the host is to make. */
 typedef enum {
@@ -271,16 +271,17 @@ typedef struct {
  * NOT_A_TABLE, OTHER_FORMAT, OTHER_ENGINE or DAMAGED. */
 betable_status betable_keep_open(betable_session *session, const unsigned char *file, size_t length, uint64_t salt) BETABLE_NOT_NULL;
 
-/* Carries out requests, which are frames as docs/ENGINE.md describes them. The frames of the replies are read by betable_replies_length and betable_copy_replies.
- * A crash leaves the changes of all requests of a call, or of none. After DONE make the calls of the file, and tell no reply before. DONE, OUT_OF_MEMORY, NOT_OPEN,
- * NOT_KEPT or FILE_TOO_LONG. After all but DONE later calls return NOT_KEPT. */
+/* Carries out requests, which are frames as docs/ENGINE.md describes them. The frames of the replies are read by betable_replies_length and
+ * betable_copy_replies. If bytes are no frame, their reply says so, and nothing after them is carried out. A crash leaves the changes of all requests of a
+ * call, or of none. After DONE make the calls of the file, and tell no reply before. DONE, OUT_OF_MEMORY, NOT_OPEN, NOT_KEPT or FILE_TOO_LONG. After all but
+ * DONE later calls return NOT_KEPT. */
 betable_status betable_keep_run(betable_session *session, const unsigned char *requests, size_t length) BETABLE_NOT_NULL;
 
-/* Whether the file should get a checkpoint: it has 16 MiB, and is twice as long as after the last one, or as it was when it was opened. */
+/* Whether the file should get a checkpoint: it has 16 MiB, and is twice as long as after the last one, or as when one was asked for and could not be made. */
 bool betable_keep_is_due(betable_session *session) BETABLE_NOT_NULL;
 
-/* Replaces the requests in the file by the state. Then make the calls of the file. There are none if the table cannot be compacted now, as while an index is
- * building. The result is one of betable_keep_run. */
+/* Replaces the requests in the file by the state, and empties the replies. Then make the calls of the file. There are none if the table cannot be compacted
+ * now, as while an index is building. The result is one of betable_keep_run. */
 betable_status betable_keep_checkpoint(betable_session *session) BETABLE_NOT_NULL;
 
 /* The number of calls of the file that the last betable_keep_open, betable_keep_run or betable_keep_checkpoint asks for. */
