@@ -4,7 +4,7 @@ use Rattle.std.specs.Option.{MatchOption}
 use Rattle.bt_shell.specs.Steps.{State}
 use Rattle.bt_engine.specs.Exchanges as exchanges
 use Rattle.bt_file.specs.Calls.{Event}
-use Rattle.bt_file.specs.Due.{AreDue, IsTaken}
+use Rattle.bt_file.specs.Due.{AreDue, IsTaken, take_count_of}
 use Rattle.bt_file.specs.Events.{contents_of, outcome_of, outcome_since_of}
 use Rattle.bt_journal.specs.Disks.{LeavesOnly, Only}
 use Rattle.bt_journal.specs.Heads.{IsAlike}
@@ -49,11 +49,13 @@ Kept = StoreValue (List Event) KeptState
 abbrev pub StaysInFile : Kept → Type 0
 StaysInFile kept = IsKept contents_of outcome_of after_requests blank (head_in kept) (disk_of kept) (state_in kept)
 
--- Between two lists of calls, a host is to make these calls. If it makes them in order, then a crash before, between, within or after them leaves a file that has P.
+-- Between two lists of calls, a host is to make these calls, which it takes at once. If it makes them in order, then a crash before, between, within or after them
+-- leaves a file that has P.
 pub record HandsOver (old new : List Event) (calls : List HostCall) (P : List ℕ → Type 0) : Type 0 where
   pub made : List Event
   pub due : AreDue made calls
   pub taken : IsTaken made new
+  pub untaken : take_count_of made ≡ take_count_of old
   pub any_moment : LeavesOnly length outcome_since_of old made P
 
 -- a file with these bytes was opened with this head

@@ -1,5 +1,5 @@
 -- The calls that a host is to make.
-use Rattle.std.specs.Prelude.{ℕ, ◌≡◌, Bool, true, not, if◌then◌else◌, List, [], ◌∷◌, ◌++◌, ⊤}
+use Rattle.std.specs.Prelude.{ℕ, suc, ◌≡◌, Bool, true, not, if◌then◌else◌, List, [], ◌∷◌, ◌++◌, ⊤}
 use Rattle.std.proofs.Common.{◌∙◌, ap, subst}
 use Rattle.bt_journal.specs.declared.disk.HostCall.{HostCall}
 use Rattle.bt_journal.specs.declared.disk.HostCall.TheVariants as host
@@ -21,6 +21,20 @@ is_none_due (Synced is_ok) = not is_ok
 abbrev pub due_in : List Event → List Event
 due_in [] = []
 due_in (e ∷ earlier) = if is_none_due e.0 then [] else due_in earlier ++ e ∷ []
+
+-- how many times a host took its calls, after one more call of the list
+abbrev pub takes_after : Call → ℕ → ℕ
+takes_after Taken count = suc count
+takes_after Opened count = count
+takes_after (Written at is_ok) count = count
+takes_after (Cut len is_ok) count = count
+takes_after (Replaced is_ok) count = count
+takes_after (Synced is_ok) count = count
+
+-- how many times a host took its calls
+abbrev pub take_count_of : List Event → ℕ
+take_count_of [] = 0
+take_count_of (e ∷ earlier) = takes_after e.0 (take_count_of earlier)
 
 -- a call of a list is this one of a host, and succeeded
 abbrev pub IsMade : HostCall → Event → Type 0

@@ -2,6 +2,7 @@
 ghost use Rattle.std.specs.Prelude.{◌≡◌, IsTrue, length, IfOk};
 ghost use Rattle.bt_journal.specs.Disks.{Only};
 ghost use Rattle.bt_file.specs.Calls.{events_of};
+ghost use Rattle.bt_file.specs.Due.{take_count_of};
 ghost use Rattle.bt_file.specs.Events.{contents_of, outcome_of, is_healthy_after, fault_count_of, outcome_since_of, counts_now_of, only_now_of};
 
 use crate::calls::{Call, Calls};
@@ -110,6 +111,8 @@ impl Disk for HostFile {
     ghost outcome_since = { λ f. outcome_since_of (events_of f.calls) };
 
     ghost fault_count = { λ f. fault_count_of (events_of f.calls) };
+
+    ghost take_count = { λ f. take_count_of (events_of f.calls) };
 
     ghost is_healthy = { λ f. is_healthy_after (events_of f.calls) };
 

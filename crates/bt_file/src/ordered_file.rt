@@ -2,7 +2,7 @@
 ghost use Rattle.std.specs.Prelude.{◌≡◌, IsTrue, length, IfOk};
 ghost use Rattle.bt_journal.specs.Disks.{Only};
 ghost use Rattle.bt_file.specs.Calls.{events_of};
-ghost use Rattle.bt_file.specs.Due.{AreDue, IsTaken, same_contents, same_outcome, same_health};
+ghost use Rattle.bt_file.specs.Due.{AreDue, IsTaken, same_contents, same_outcome, same_health, take_count_of};
 ghost use Rattle.bt_file.specs.Events.{contents_of, outcome_of, is_healthy_after, fault_count_of, outcome_since_of, counts_now_of, only_now_of};
 
 use crate::calls::{Call, Calls};
@@ -60,6 +60,8 @@ impl Disk for OrderedFile {
     ghost outcome_since = { outcome_since_of };
 
     ghost fault_count = { fault_count_of };
+
+    ghost take_count = { take_count_of };
 
     ghost is_healthy = { is_healthy_after };
 

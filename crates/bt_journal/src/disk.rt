@@ -28,6 +28,9 @@ pub trait Disk {
     /// How many calls have failed.
     ghost fault_count: { Self → ℕ };
 
+    /// How many times a host took the calls that it is to make ([`HostDisk`]). No call below is such a time.
+    ghost take_count: { Self → ℕ };
+
     /// No call has failed since the file was opened or replaced. After one has, nothing is known of the bytes that a read returns. After a sync that failed,
     /// what was written before may be lost, and a later sync does not report it.
     ghost is_healthy: { Self → Bool };
@@ -40,6 +43,7 @@ pub trait Disk {
         ensures crash { Follows (Torn at (length bytes.items)) (outcome self.old) (outcome self.new) }
         ensures healthy { OnOk result (is_healthy self.new ≡ is_healthy self.old) }
         ensures time { Elapses (moment self.old) (moment self.new) (outcome_since self.old) (outcome_since self.new) (outcome self.new) }
+        ensures untaken { take_count self.new ≡ take_count self.old }
         ensures cause { HasCause (fault_count self.old) (fault_count self.new) result };
 
     /// Cuts the file to a length.
@@ -50,6 +54,7 @@ pub trait Disk {
         ensures crash { Follows (Cut len) (outcome self.old) (outcome self.new) }
         ensures healthy { OnOk result (is_healthy self.new ≡ is_healthy self.old) }
         ensures time { Elapses (moment self.old) (moment self.new) (outcome_since self.old) (outcome_since self.new) (outcome self.new) }
+        ensures untaken { take_count self.new ≡ take_count self.old }
         ensures cause { HasCause (fault_count self.old) (fault_count self.new) result };
 
     /// Replaces all bytes at once: a new file with these bytes is synced, and takes the name and the place of this one.
@@ -60,6 +65,7 @@ pub trait Disk {
         ensures crash { Follows (Swapped bytes.items) (outcome self.old) (outcome self.new) }
         ensures healthy { OnOk result (IsTrue (is_healthy self.new)) }
         ensures time { Elapses (moment self.old) (moment self.new) (outcome_since self.old) (outcome_since self.new) (outcome self.new) }
+        ensures untaken { take_count self.new ≡ take_count self.old }
         ensures cause { HasCause (fault_count self.old) (fault_count self.new) result };
 
     /// Waits until the disk has all that was written: from then on a crash leaves what a read returns.
@@ -71,6 +77,7 @@ pub trait Disk {
         ensures healthy { OnOk result (IsTrue (is_healthy self.new)) }
         ensures crash { (c : List ℕ) → outcome self.new c → outcome self.old c }
         ensures time { Elapses (moment self.old) (moment self.new) (outcome_since self.old) (outcome_since self.new) (outcome self.new) }
+        ensures untaken { take_count self.new ≡ take_count self.old }
         ensures cause { HasCause (fault_count self.old) (fault_count self.new) result };
 
     /// This moment is one of those since an earlier one.

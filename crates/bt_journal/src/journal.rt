@@ -74,6 +74,7 @@ impl<D: Disk> Journal<D> {
         ensures settled { OnOk result (IsSettled D.contents D.outcome D.is_healthy self.new) }
         ensures acknowledged { OnOk result (recovered (D.contents self.new.disk) ≡ recovered (D.contents self.old.disk) ++ payload.now ∷ []) }
         ensures head { self.new.head ≡ self.old.head }
+        ensures untaken { D.take_count self.new.disk ≡ D.take_count self.old.disk }
 
         // A crash at any moment of the call leaves the payloads of before, with the new one or without it.
         ensures any_moment { LeavesOnly D.moment D.outcome_since self.old.disk self.new.disk
@@ -105,6 +106,7 @@ impl<D: Disk> Journal<D> {
         ensures settled { OnOk result (IsSettled D.contents D.outcome D.is_healthy self.new) }
         ensures acknowledged { OnOk result (recovered (D.contents self.new.disk) ≡ payload.now ∷ []) }
         ensures head { IsAlike self.old.head self.new.head }
+        ensures untaken { D.take_count self.new.disk ≡ D.take_count self.old.disk }
 
         // A crash at any moment of the call leaves the payloads of before, or the new one alone.
         ensures any_moment { LeavesOnly D.moment D.outcome_since self.old.disk self.new.disk

@@ -21,6 +21,7 @@ fn write_head<D: Disk>(alloc: Global, disk: &mut D, head: Head) -> Result<(), Fa
     ensures durable { OnOk result (Only (D.contents disk.new) (D.outcome disk.new)) }
     ensures healthy { OnOk result (IsTrue (D.is_healthy disk.new)) }
     ensures any_moment { LeavesOnly D.moment D.outcome_since disk.old disk.new (Opens head []) }
+    ensures untaken { D.take_count disk.new ≡ D.take_count disk.old }
     ensures failed { IsErrOf result Fault.Failed → D.fault_count disk.old < D.fault_count disk.new }
     ensures no_refusal { IfErr result (λ fault. is_refusal fault ≡ false) }
     ensures cause { IfErr result (IsCause head (D.contents disk.old)) }
@@ -43,6 +44,7 @@ fn cut_off<D: Disk>(disk: &mut D, head: Head, end: usize) -> Result<(), Fault>
     ensures durable { OnOk result (Only (D.contents disk.new) (D.outcome disk.new)) }
     ensures healthy { OnOk result (IsTrue (D.is_healthy disk.new)) }
     ensures any_moment { LeavesOnly D.moment D.outcome_since disk.old disk.new (Opens head (recovered (D.contents disk.old))) }
+    ensures untaken { D.take_count disk.new ≡ D.take_count disk.old }
     ensures failed { OnErr result (D.fault_count disk.old < D.fault_count disk.new) }
     ensures err { OnErr result (IsErrOf result Fault.Failed) }
 {
@@ -65,6 +67,7 @@ fn settle<D: Disk>(disk: &mut D, found: &FileEnd) -> Result<(), Fault>
     ensures durable { OnOk result (Only (D.contents disk.new) (D.outcome disk.new)) }
     ensures healthy { OnOk result (IsTrue (D.is_healthy disk.new)) }
     ensures any_moment { LeavesOnly D.moment D.outcome_since disk.old disk.new (Opens found.now.head (recovered (D.contents disk.old))) }
+    ensures untaken { D.take_count disk.new ≡ D.take_count disk.old }
     ensures failed { OnErr result (D.fault_count disk.old < D.fault_count disk.new) }
     ensures err { OnErr result (IsErrOf result Fault.Failed) }
 {
@@ -82,6 +85,7 @@ fn open_new<D: Disk>(alloc: Global, mut disk: D, head: Head) -> Result<Journal<D
     ensures alike { IfOk result (λ journal. IsAlike head journal.head) }
     ensures payloads { IfOk result (λ journal. recovered (D.contents journal.disk) ≡ recovered (D.contents disk)) }
     ensures sound { IfOk result (λ _. Opens head (recovered (D.contents disk)) (D.contents disk)) }
+    ensures untaken { IfOk result (λ journal. D.take_count journal.disk ≡ D.take_count disk) }
     ensures any_moment { IfOk result (λ journal. LeavesOnly D.moment D.outcome_since disk journal.disk (Opens head (recovered (D.contents disk)))) }
     ensures any_moment_err { IfErr result (λ e. LeavesOnly D.moment D.outcome_since disk e.1 (Opens head (recovered (D.contents disk)))) }
     ensures failed { IfErr result (λ e. e.0 ≡ Fault.Failed → D.fault_count disk < D.fault_count e.1) }
@@ -109,6 +113,7 @@ fn open_old<D: Disk>(mut disk: D, bytes: &[u8], head: Head) -> Result<Journal<D>
     ensures alike { IfOk result (λ journal. IsAlike head journal.head) }
     ensures payloads { IfOk result (λ journal. recovered (D.contents journal.disk) ≡ recovered (D.contents disk)) }
     ensures sound { IfOk result (λ _. Opens head (recovered (D.contents disk)) (D.contents disk)) }
+    ensures untaken { IfOk result (λ journal. D.take_count journal.disk ≡ D.take_count disk) }
     ensures any_moment { IfOk result (λ journal. LeavesOnly D.moment D.outcome_since disk journal.disk (Opens head (recovered (D.contents disk)))) }
     ensures any_moment_err { IfErr result (λ e. is_refusal e.0 ≡ false → LeavesOnly D.moment D.outcome_since disk e.1 (Opens head (recovered (D.contents disk)))) }
     ensures failed { IfErr result (λ e. e.0 ≡ Fault.Failed → D.fault_count disk < D.fault_count e.1) }
@@ -151,6 +156,7 @@ pub(crate) fn open<D: Disk>(
     ensures alike { IfOk result (λ journal. IsAlike head journal.head) }
     ensures payloads { IfOk result (λ journal. recovered (D.contents journal.disk) ≡ recovered (D.contents disk)) }
     ensures sound { IfOk result (λ _. Opens head (recovered (D.contents disk)) (D.contents disk)) }
+    ensures untaken { IfOk result (λ journal. D.take_count journal.disk ≡ D.take_count disk) }
 
     // A crash at any moment leaves the same payloads.
     ensures any_moment { IfOk result (λ journal. LeavesOnly D.moment D.outcome_since disk journal.disk (Opens head (recovered (D.contents disk)))) }

@@ -28,6 +28,7 @@ pub(crate) fn open_state<D: Disk, M: Machine>(
     requires blank { machine ≡ M.blank }
     ensures consistent { IfOk result (λ opened. IsConsistent D.contents D.outcome D.is_healthy M.after M.blank opened.0 opened.1) }
     ensures alike { IfOk result (λ opened. IsAlike head opened.0.head) }
+    ensures untaken { IfOk result (λ opened. D.take_count opened.0.disk ≡ D.take_count disk) }
     ensures state { IfOk result (λ opened. opened.1 ≡ state_of M.after M.blank (D.contents disk)) }
     ensures kept { IfOk result (λ opened. IsKept D.contents D.outcome M.after M.blank opened.0.head opened.0.disk opened.1) }
     ensures sound { IfOk result (λ _. Finds M.after M.blank head (state_of M.after M.blank (D.contents disk)) (D.contents disk)) }
@@ -65,6 +66,7 @@ pub(crate) fn run_payload<D: Disk, M: Machine>(
     ensures logged { OnOk result (recovered (D.contents journal.new.disk)
         ≡ recovered (D.contents journal.old.disk) ++ (if M.changes machine.old payload.now then payload.now ∷ [] else [])) }
     ensures head { journal.new.head ≡ journal.old.head }
+    ensures untaken { D.take_count journal.new.disk ≡ D.take_count journal.old.disk }
     ensures any_moment { LeavesOnly D.moment D.outcome_since journal.old.disk journal.new.disk
         (IsBeforeOrAfterRun M.after M.blank journal.old.head (D.contents journal.old.disk) payload.now) }
     ensures failed { IsErrOf result Fault.Failed → D.fault_count journal.old.disk < D.fault_count journal.new.disk }
@@ -91,6 +93,7 @@ pub(crate) fn compact<D: Disk, M: Compact>(
     ensures unchanged { IfOk result (λ is_done. is_done ≡ false → (journal.new ≡ journal.old) × (machine.new ≡ machine.old)) }
     ensures kept { OnOk result (IsKept D.contents D.outcome M.after M.blank journal.new.head journal.new.disk machine.new) }
     ensures head { IsAlike journal.old.head journal.new.head }
+    ensures untaken { D.take_count journal.new.disk ≡ D.take_count journal.old.disk }
     ensures any_moment { LeavesOnly D.moment D.outcome_since journal.old.disk journal.new.disk
         (IsBeforeOrAfterCheckpoint M.after M.is_compacted M.blank journal.old.head machine.old) }
     ensures failed { IsErrOf result Fault.Failed → D.fault_count journal.old.disk < D.fault_count journal.new.disk }

@@ -62,6 +62,7 @@ impl<D: Disk, M: Machine> Store<D, M> {
 
         ensures open { IfOk result (λ store. IsTrue (is_open store)) }
         ensures head { IfOk result (λ store. IsAlike head (head_in store)) }
+        ensures untaken { IfOk result (λ store. D.take_count (disk_of store) ≡ D.take_count disk) }
         ensures state { IfOk result (λ store. state_in store ≡ state_of M.after M.blank (D.contents disk)) }
         ensures kept { IfOk result (λ store. IsKept D.contents D.outcome M.after M.blank (head_in store) (disk_of store) (state_in store)) }
         ensures sound { IfOk result (λ _. Finds M.after M.blank head (state_of M.after M.blank (D.contents disk)) (D.contents disk)) }
@@ -116,6 +117,7 @@ impl<D: Disk, M: Machine> Store<D, M> {
         ensures logged { OnOk result (recovered (D.contents (disk_of self.new))
             ≡ recovered (D.contents (disk_of self.old)) ++ (if M.changes (state_in self.old) payload.now then payload.now ∷ [] else [])) }
         ensures head { head_in self.new ≡ head_in self.old }
+        ensures untaken { D.take_count (disk_of self.new) ≡ D.take_count (disk_of self.old) }
 
         // A crash at any moment of the call leaves a file in which `open` finds the state before the payload or after it, unless there is a forgery.
         ensures any_moment { IsTrue (is_open self.old) → LeavesOnly D.moment D.outcome_since (disk_of self.old) (disk_of self.new)
@@ -160,6 +162,7 @@ impl<D: Disk, M: Compact> Store<D, M> {
         ensures unchanged { IfOk result (λ is_done. is_done ≡ false → self.new ≡ self.old) }
         ensures kept { OnOk result (IsKept D.contents D.outcome M.after M.blank (head_in self.new) (disk_of self.new) (state_in self.new)) }
         ensures head { IsAlike (head_in self.old) (head_in self.new) }
+        ensures untaken { D.take_count (disk_of self.new) ≡ D.take_count (disk_of self.old) }
 
         // A crash at any moment of the call leaves a file in which `open` finds the state of before, or that state compacted.
         ensures any_moment { IsTrue (is_open self.old) → LeavesOnly D.moment D.outcome_since (disk_of self.old) (disk_of self.new)
