@@ -1,7 +1,11 @@
 -- A session may go to another thread: its tables have trees of rows and of entries, which have no part that belongs to a thread. Serves the slot of a session.
-use denote.Param.Send.{IsSend, recorded_send, sendable, struct_send, view_send}
+use denote.Builtin.{unit}
+use denote.RattleType.{RattleType}
+use denote.Signature.{static_lft}
+use denote.Param.Send.{IsSend, IsSync, recorded_send, sendable, struct_send, view_send}
 use denote.Struct.Declared.{shape}
 use Rattle.std.proofs.Crossing.{Vec-send, crosses}
+use Rattle.std.specs.contracts.option.Option as Option
 use Rattle.bt_row.proofs.operations.change.Change.TheSendSync as change
 use Rattle.bt_row.proofs.rows.row.Row.TheSendSync as row
 use Rattle.bt_row.proofs.rows.schema.Schema.TheSendSync as schema
@@ -24,7 +28,12 @@ use Rattle.bt_table.specs.contracts.table.Table.TheInside as inside
 use Rattle.bt_table.specs.contracts.trees.Trees as Trees
 use Rattle.bt_engine.specs.contracts.local_service.LocalService as LocalService
 use Rattle.bt_engine.specs.contracts.local_service.LocalService.TheInside as service
+use Rattle.bt_engine.specs.contracts.local_service.LocalServiceServiceUnit.TheImpl as local_ghosts
 use Rattle.bt_durable.proofs.once.OnceService.TheSendSync as once
+use Rattle.bt_durable.specs.contracts.once.OnceServiceService.TheImpl as service_ghosts
+use Rattle.bt_durable.specs.contracts.service_machine.ServiceMachineMachine.TheImpl as machine_ghosts
+use Rattle.bt_file.specs.contracts.ordered_file.OrderedFileDisk.TheImpl as file_ghosts
+use Rattle.bt_durable.specs.contracts.once.OnceService as OnceService
 use Rattle.bt_durable.proofs.service_machine.ServiceMachine.TheSendSync as machine
 use Rattle.bt_file.proofs.ordered_file.OrderedFile.TheSendSync as file
 use Rattle.bt_journal.proofs.disk.HostCall.TheSendSync as host_call
@@ -58,8 +67,19 @@ service_parts =
 table_service : IsSend LocalService.the_row
 table_service = view_send _ _ _ _ _ service_parts
 
+once_service : IsSend (OnceService.the_row LocalService.the_row)
+once_service = search (sendable, table_service, once.the_send) depth 20
+
+nothing : IsSync unit
+nothing = search sendable
+
+option : (T : RattleType) → IsSend T → IsSend (Option.the_field T).row
+option T s = search (sendable, s) depth 20
+
 pub session : IsSend Session.the_row
 session =
+    let requests = service_ghosts.ghosts unit LocalService.the_row local_ghosts.ghosts service_ghosts.no_dict service_ghosts.no_dict in
+    let state = machine_ghosts.ghosts unit (OnceService.the_row LocalService.the_row) requests machine_ghosts.no_dict machine_ghosts.no_dict in
     recorded_send Session.the_field.row _ _ (Session.the_type).to_one
     (struct_send (shape Session.the_type) (
       search (sendable, table) depth 20,
@@ -69,7 +89,10 @@ session =
           search sendable,
           (
             Vec-send ReplyMark.the_row mark.the_send,
-            (search (crosses, sendable, table_service, once.the_send, machine.the_send, store.the_send, file.the_send) depth 60 fits 20000, (Vec-send HostCall.the_row host_call.the_send, tt)),
+            (
+              option _ (store.the_send _ _ file_ghosts.ghosts state file.the_send (machine.the_send static_lft _ _ requests once_service nothing)),
+              (Vec-send HostCall.the_row host_call.the_send, tt),
+            ),
           ),
         ),
       ),

@@ -7,7 +7,6 @@ use Rattle.bt_file.specs.Calls.{Event}
 use Rattle.bt_file.specs.Due.{AreDue, IsTaken, take_count_of}
 use Rattle.bt_file.specs.Events.{contents_of, outcome_of, outcome_since_of}
 use Rattle.bt_journal.specs.Disks.{LeavesOnly, Only}
-use Rattle.bt_journal.specs.Heads.{IsAlike}
 use Rattle.bt_journal.specs.Stores.{StoreValue, disk_of, head_in, state_in, state_of, Finds, IsBeforeOrAfterCheckpoint, IsBeforeOrAfterRun, IsKept}
 use Rattle.bt_journal.specs.declared.disk.HostCall.{HostCall}
 use Rattle.bt_journal.specs.declared.disk.HostCall.TheVariants as host
