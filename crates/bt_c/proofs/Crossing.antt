@@ -31,12 +31,14 @@ use Rattle.bt_engine.specs.contracts.local_service.LocalService.TheInside as ser
 use Rattle.bt_engine.specs.contracts.local_service.LocalServiceServiceUnit.TheImpl as local_ghosts
 use Rattle.bt_durable.proofs.once.OnceService.TheSendSync as once
 use Rattle.bt_durable.specs.contracts.once.OnceServiceService.TheImpl as service_ghosts
+use Rattle.bt_durable.specs.contracts.service_machine.ServiceMachineJoin.TheImpl as join_ghosts
 use Rattle.bt_durable.specs.contracts.service_machine.ServiceMachineMachine.TheImpl as machine_ghosts
 use Rattle.bt_file.specs.contracts.ordered_file.OrderedFileDisk.TheImpl as file_ghosts
 use Rattle.bt_durable.specs.contracts.once.OnceService as OnceService
 use Rattle.bt_durable.proofs.service_machine.ServiceMachine.TheSendSync as machine
 use Rattle.bt_file.proofs.ordered_file.OrderedFile.TheSendSync as file
 use Rattle.bt_journal.proofs.disk.HostCall.TheSendSync as host_call
+use Rattle.bt_journal.proofs.group.Group.TheSendSync as group
 use Rattle.bt_journal.proofs.store.Store.TheSendSync as store
 use Rattle.bt_journal.specs.contracts.disk.HostCall as HostCall
 use Rattle.bt_c.proofs.reply.ReplyMark.TheSendSync as mark
@@ -80,6 +82,8 @@ pub session : IsSend Session.the_row
 session =
     let requests = service_ghosts.ghosts unit LocalService.the_row local_ghosts.ghosts service_ghosts.no_dict service_ghosts.no_dict in
     let state = machine_ghosts.ghosts unit (OnceService.the_row LocalService.the_row) requests machine_ghosts.no_dict machine_ghosts.no_dict in
+    let joined = join_ghosts.ghosts unit (OnceService.the_row LocalService.the_row) requests join_ghosts.no_dict join_ghosts.no_dict in
+    let sent = machine.the_send static_lft _ _ requests once_service nothing in
     recorded_send Session.the_field.row _ _ (Session.the_type).to_one
     (struct_send (shape Session.the_type) (
       search (sendable, table) depth 20,
@@ -90,8 +94,11 @@ session =
           (
             Vec-send ReplyMark.the_row mark.the_send,
             (
-              option _ (store.the_send _ _ file_ghosts.ghosts state file.the_send (machine.the_send static_lft _ _ requests once_service nothing)),
-              (Vec-send HostCall.the_row host_call.the_send, tt),
+              option _ (store.the_send _ _ file_ghosts.ghosts state file.the_send sent),
+              (
+                option _ (group.the_send _ _ file_ghosts.ghosts joined file.the_send sent),
+                (Vec-send HostCall.the_row host_call.the_send, tt),
+              ),
             ),
           ),
         ),

@@ -1,5 +1,5 @@
 -- The table of a session in a file: its state, and which calls of the file a host is to make.
-use Rattle.std.specs.Prelude.{ℕ, ◌≡◌, ◌⊎◌, List, [], Option, Some, None, length, option_map, slice_get}
+use Rattle.std.specs.Prelude.{ℕ, ◌≡◌, ◌⊎◌, List, [], false, Option, Some, None, length, option_map, slice_get}
 use Rattle.std.specs.Option.{MatchOption}
 use Rattle.bt_shell.specs.Steps.{State}
 use Rattle.bt_engine.specs.Exchanges as exchanges
@@ -7,14 +7,16 @@ use Rattle.bt_file.specs.Calls.{Event}
 use Rattle.bt_file.specs.Due.{AreDue, IsTaken, take_count_of}
 use Rattle.bt_file.specs.Events.{contents_of, outcome_of, outcome_since_of}
 use Rattle.bt_journal.specs.Disks.{LeavesOnly, Only}
-use Rattle.bt_journal.specs.Stores.{StoreValue, disk_of, head_in, state_in, state_of, Finds, IsBeforeOrAfterCheckpoint, IsBeforeOrAfterRun, IsKept}
+use Rattle.bt_journal.specs.Stores.{GroupValue, StoreValue, ahead, disk_of, group_disk, group_head, group_state, head_in, state_in, state_of}
+use Rattle.bt_journal.specs.Stores.{Finds, IsBeforeOrAfterCheckpoint, IsBeforeOrAfterRun, IsKept}
 use Rattle.bt_journal.specs.declared.disk.HostCall.{HostCall}
 use Rattle.bt_journal.specs.declared.disk.HostCall.TheVariants as host
 use Rattle.bt_journal.specs.declared.fault.Fault.{Fault}
 use Rattle.bt_journal.specs.declared.fault.Fault.TheVariants as fault
 use Rattle.bt_journal.specs.declared.head.Head.{Head}
 use Rattle.bt_durable.specs.Once.{OnceState, is_compacted_once, once_after, once_reply}
-use Rattle.bt_durable.specs.Payloads.{after_payload, replies_to}
+use Rattle.bt_durable.specs.Joined.{are_requests}
+use Rattle.bt_durable.specs.Payloads.{after_payload, replies_to, requests}
 use Rattle.bt_c.specs.declared.file_call.CallInC.{CallInC}
 use Rattle.bt_c.specs.declared.session.Session.{Session}
 use Rattle.bt_c.specs.declared.status.Status.{Status}
@@ -43,6 +45,10 @@ state_of_file = state_of after_requests blank
 -- what a contract sees of a table in a file: the list of the calls of the file, as if the host had made them, the state, the head of the file, and whether it is open
 abbrev pub Kept : Type 0
 Kept = StoreValue (List Event) KeptState
+
+-- what it sees of a group: that list, the state, the head, whether the group is open, and the frames of the requests that were carried out
+abbrev pub KeptGroup : Type 0
+KeptGroup = GroupValue (List Event) KeptState
 
 -- a crash leaves the file as it is, and opening it finds the state
 abbrev pub StaysInFile : Kept → Type 0
@@ -80,19 +86,57 @@ pub record HasCheckpoint (old new : Kept) (calls : List HostCall) : Type 0 where
   pub handed : HandsOver (disk_of old) (disk_of new) calls
       (IsBeforeOrAfterCheckpoint after_requests (is_compacted_once exchanges.is_compacted) blank (head_in old) (state_in old))
 
+-- a group was begun
+pub record HasBegun (kept : Kept) (group : KeptGroup) : Type 0 where
+  pub state : group_state group ≡ state_in kept
+  pub disk : group_disk group ≡ disk_of kept
+  pub head : group_head group ≡ head_in kept
+  pub none : ahead group ≡ []
+
+-- requests of a group were carried out, with these replies, and no call of the file
+pub record HasJoined (old new : KeptGroup) (requests replies : List ℕ) : Type 0 where
+  pub state : group_state new ≡ after_requests (group_state old) requests
+  pub answer : replies ≡ reply_frames (group_state old) requests
+  pub disk : group_disk new ≡ group_disk old
+  pub head : group_head new ≡ group_head old
+
+-- bytes that have something that is no request are refused, and change nothing
+abbrev pub IsRefused : KeptGroup → KeptGroup → List ℕ → Type 0
+IsRefused old new bytes = (group_state new ≡ group_state old) × (are_requests (requests bytes) ≡ false)
+
+-- The requests of a group are kept: a crash before, between, within or after the calls leaves a file of the state without all of them, or with all of them.
+pub record HasCommitted (old : KeptGroup) (new : Kept) (calls : List HostCall) : Type 0 where
+  pub state : state_in new ≡ group_state old
+  pub joined : group_state old ≡ after_requests (state_of_file (contents_of (group_disk old))) (ahead old)
+  pub stays : StaysInFile new
+  pub handed : HandsOver (group_disk old) (disk_of new) calls (IsBeforeOrAfterRun after_requests blank (group_head old) (contents_of (group_disk old)) (ahead old))
+
 -- ---- sessions
 
 -- the head of a new file
 abbrev pub head_with : ℕ → Head
 head_with salt = record { format = 1; engine = 1; salt = salt }
 
--- a session has no table in a file, and no call of one is to be made
+-- a session has no table in a file, except of a group, and no call of a file is to be made
 abbrev pub IsClosed : Session → Type 0
 IsClosed session = (session.kept ≡ None) × (session.calls.items ≡ [])
 
+-- it has none, and no group either
+abbrev pub HasNoFile : Session → Type 0
+HasNoFile session = IsClosed session × (session.group ≡ None)
+
 -- a call leaves the table in the file alone
 abbrev pub SameFile : Session → Session → Type 0
-SameFile old new = (new.kept ≡ old.kept) × (new.calls ≡ old.calls)
+SameFile old new = (new.kept ≡ old.kept) × (new.group ≡ old.group) × (new.calls ≡ old.calls)
+
+-- the table that is asked: that of the group, that in the file, or that of the session
+abbrev pub asked_of : State → Option Kept → Option KeptGroup → State
+asked_of table kept (Some group) = (group_state group).0
+asked_of table (Some kept) None = (state_in kept).0
+asked_of table None None = table
+
+abbrev pub table_asked : Session → State
+table_asked session = asked_of session.table session.kept session.group
 
 -- what a call does with the tables in the files of two sessions
 abbrev pub InFile : (Kept → Kept → Type 0) → Session → Session → Type 0

@@ -6,7 +6,7 @@ use Rattle.bt_table.specs.Tables.{Intact, Lost, TableState}
 use Rattle.bt_packed.specs.Questions.{KeepsOrLoses, reply_from}
 use Rattle.bt_packed.specs.declared.fault.Fault.{Fault}
 use Rattle.bt_shell.specs.Steps.{State}
-use Rattle.bt_c.specs.Kept.{SameFile}
+use Rattle.bt_c.specs.Kept.{SameFile, table_asked}
 use Rattle.bt_c.specs.declared.fault.FaultInC.{FaultInC}
 use Rattle.bt_c.specs.declared.handle.Handle.{Handle}
 use Rattle.bt_c.specs.declared.session.Session.{Session}
@@ -60,16 +60,16 @@ IsUnmarked session = (session.refused ≡ 0) × (session.marks.items ≡ [])
 abbrev pub StaysOrIsLostIn : Session → Session → Type 0
 StaysOrIsLostIn old new = KeepsOrLoses old.table new.table
 
--- What a call does that asks the table of a session a question in packed bytes: which code it returns, the reply or the fault, and what it leaves. Without a
+-- What a call does that asks the table of a session, or that in its file, a question in packed bytes: which code it returns, the reply or the fault, and what it leaves. Without a
 -- session it returns `NotOpen`, and the handle stays closed. Otherwise it returns `Done`, `OutOfMemory` or `Refused`, and the session keeps its table. After any
 -- code but `Done` the replies are empty. No refused command is counted, and no reply has a place. Without a table the question is refused. A table in a file is left alone.
 pub record IsAnswered (answer : TableState → List ℕ → Result (List ℕ) Fault) (bytes : List ℕ) (old new : Handle) (seen : FaultInC) (code : ℕ) : Type 0 where
   pub closed : session_of old ≡ None → (code ≡ code_of NotOpen) × (session_of new ≡ None)
   pub ends : is_some (session_of old) ≡ true → (code ≡ code_of Done) ⊎ (code ≡ code_of OutOfMemory) ⊎ (code ≡ code_of Refused)
-  pub done : code ≡ code_of Done → StaysOpen old new (λ before after. reply_from answer before.table bytes ≡ Ok after.text.items)
-  pub refused : code ≡ code_of Refused → StaysOpen old new (λ before _. IsFault (reply_from answer before.table bytes) seen)
+  pub done : code ≡ code_of Done → StaysOpen old new (λ before after. reply_from answer (table_asked before) bytes ≡ Ok after.text.items)
+  pub refused : code ≡ code_of Refused → StaysOpen old new (λ before _. IsFault (reply_from answer (table_asked before) bytes) seen)
   pub unanswered : code ≢ code_of Done → IfSome (session_of new) (λ session. session.text.items ≡ [])
   pub unmarked : IfSome (session_of new) IsUnmarked
-  pub certain : IfSome (session_of old) (λ session. session.table ≡ None → code ≡ code_of Refused)
+  pub certain : IfSome (session_of old) (λ session. table_asked session ≡ None → code ≡ code_of Refused)
   pub table : is_some (session_of old) ≡ true → StaysOpen old new (λ before after. after.table ≡ before.table)
   pub file : is_some (session_of old) ≡ true → StaysOpen old new SameFile

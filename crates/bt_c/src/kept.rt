@@ -1,17 +1,21 @@
 //! A table in a file, whose calls the host makes.
-ghost use Rattle.std.specs.Prelude.{◌≡◌, IfOk, IsErrOf, OnOk};
-ghost use Rattle.bt_journal.specs.Stores.{StoreValue};
-ghost use Rattle.bt_c.specs.Kept.{HasCheckpoint, HasRun, IsOpened, status_of};
+ghost use Rattle.std.specs.Prelude.{◌≡◌, IfOk, false, true};
+ghost use Rattle.bt_journal.specs.Stores.{group_state, state_in};
+ghost use Rattle.bt_c.specs.Kept.{HasBegun, HasCheckpoint, HasCommitted, HasJoined, HasRun, IsOpened, IsRefused, status_of};
 
 use crate::status::Status;
 use bt_durable::{OnceService, ServiceMachine};
 use bt_engine::{ENGINE, FORMAT, LocalService};
 use bt_file::OrderedFile;
-use bt_journal::{Fault, Head, HostCall, Store};
+use bt_journal::{Fault, Group, Head, HostCall, Store};
+use bt_table::Table;
 use std::alloc::Global;
 
 /// A table in a file, whose calls the host makes, and what is known of requests.
 pub type KeptTable = Store<OrderedFile, ServiceMachine<'static, (), OnceService<LocalService>>>;
+
+/// A group of requests to such a table, which are kept together.
+pub type KeptGroup = Group<OrderedFile, ServiceMachine<'static, (), OnceService<LocalService>>>;
 
 /// Opens a file that has these bytes. If it is empty, it gets a head with this salt. Returns the calls that the host is to make too.
 pub(crate) fn open_kept(
@@ -61,6 +65,61 @@ pub(crate) fn compact_kept(alloc: Global, kept: &mut KeptTable) -> Result<Vec<Ho
 {
     let _is_done = kept.checkpoint(alloc)?;
     Ok(kept.take_calls())
+}
+
+/// Begins a group of requests.
+pub(crate) fn begin_group(alloc: Global, kept: KeptTable) -> Result<KeptGroup, Fault>
+    ensures { IfOk result (λ group. HasBegun kept.entry group) }
+{
+    match kept.begin(alloc) {
+        Ok(group) => Ok(group),
+        Err((fault, _disk)) => Err(fault),
+    }
+}
+
+/// Carries out requests of a group, and replaces the bytes of `replies` by the frames of their replies. Returns whether it did: `false` if the requests are not
+/// whole frames, and then nothing has changed. At `Err`, open the file again.
+pub(crate) fn add_to_group(
+    alloc: Global,
+    group: &mut KeptGroup,
+    requests: &[u8],
+    replies: &mut Vec<u8>,
+) -> Result<bool, Fault>
+    ensures done { IfOk result (λ is_done. is_done ≡ true → HasJoined group.old group.new requests.now replies.new.items) }
+    ensures refused { IfOk result (λ is_done. is_done ≡ false → IsRefused group.old group.new requests.now) }
+{
+    group.run(alloc, requests, replies)
+}
+
+/// Keeps the requests of a group. Returns the calls that the host is to make before it acknowledges them. At `Err`, open the file again.
+pub(crate) fn commit_group(
+    alloc: Global,
+    group: KeptGroup,
+) -> Result<(KeptTable, Vec<HostCall>), Fault>
+    ensures { IfOk result (λ kept. HasCommitted group.entry kept.0 kept.1.items) }
+{
+    match group.commit(alloc) {
+        Ok(store) => {
+            let mut kept = store;
+            let calls = kept.take_calls();
+            Ok((kept, calls))
+        }
+        Err((fault, _disk)) => Err(fault),
+    }
+}
+
+/// The table in a file.
+pub(crate) fn table_in(kept: &KeptTable) -> &Option<Table>
+    ensures { result.now ≡ (state_in kept.now).0 }
+{
+    kept.machine().service().service().table()
+}
+
+/// The table in a file after the requests of a group so far.
+pub(crate) fn table_in_group(group: &KeptGroup) -> &Option<Table>
+    ensures { result.now ≡ (group_state group.now).0 }
+{
+    group.machine().service().service().table()
 }
 
 /// The result of a call that failed. The disk, which only adds calls to a list, fails if an allocation does.

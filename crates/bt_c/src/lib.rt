@@ -15,7 +15,7 @@
 //! [`betable_file_call_at`] says which calls of the file the host is to make before it uses the replies.
 #![tactic(auto)]
 
-ghost use Rattle.std.specs.Prelude.{◌≡◌, ◌≢◌, ◌⊎◌, ◌-◌, [], IfErr, IfSome, Ok, OnOk, List, None, Some, ℕ, drop, flat_map, is_some, length, min, option_map, slice_get, take, true, false};
+ghost use Rattle.std.specs.Prelude.{◌≡◌, ◌≢◌, ◌⊎◌, ◌-◌, [], IfErr, IfSome, Ok, OnOk, List, None, Some, ℕ, drop, flat_map, is_some, length, min, take, true, false};
 ghost use Rattle.std.specs.Option.{MatchOption};
 ghost use Rattle.bt_script.specs.Commands.{commands};
 ghost use Rattle.bt_shell.specs.Faults.{StopsBetweenReplies, StopsWithinReply, lost_reply};
@@ -24,7 +24,7 @@ ghost use Rattle.bt_shell.specs.Steps.{State};
 ghost use Rattle.bt_table.specs.Standing.{IsConsistent, IsSound};
 ghost use Rattle.bt_table.specs.Tables.{Lost};
 ghost use Rattle.bt_packed.specs.Calls.{columns_reply, get_reply, last_page_reply, page_reply, sums_reply, trees_reply, usage_reply};
-ghost use Rattle.bt_c.specs.Kept.{HasCheckpoint, HasRun, InFile, IsClosed, IsOpened, SameFile, bytes_at, call_in_c, head_with};
+ghost use Rattle.bt_c.specs.Kept.{HasNoFile, SameFile, table_asked};
 ghost use Rattle.bt_c.specs.Reasons.{IsReason};
 ghost use Rattle.bt_fault.specs.Commands.{first_reason};
 ghost use Rattle.bt_c.specs.Replies.{checked_marks, marks_of, reply_at};
@@ -34,6 +34,7 @@ ghost use Rattle.bt_c.specs.declared.status.Status.TheVariants as status;
 
 mod fault;
 mod file_call;
+mod file_calls;
 mod handle;
 mod kept;
 mod parts;
@@ -43,8 +44,6 @@ mod session;
 mod slot;
 mod status;
 
-use crate::file_call::{bytes_at, call_at};
-use crate::kept::status_of;
 use crate::reply::reply_at;
 use crate::session::copy_from;
 use bt_packed::{Fault, Question};
@@ -52,8 +51,13 @@ use bt_script::RunFault;
 use bt_value::Refusal;
 pub use fault::FaultInC;
 pub use file_call::CallInC;
+pub use file_calls::{
+    betable_copy_file_call, betable_file_call_at, betable_file_call_count, betable_keep_add,
+    betable_keep_begin, betable_keep_checkpoint, betable_keep_commit, betable_keep_is_due,
+    betable_keep_open, betable_keep_run,
+};
 pub use handle::Handle;
-pub use kept::KeptTable;
+pub use kept::{KeptGroup, KeptTable};
 pub use reason::ReasonInC;
 pub use reply::{ReplyInC, ReplyMark};
 pub use session::Session;
@@ -61,7 +65,7 @@ pub use status::Status;
 use std::alloc::{AllocError, Global};
 
 // A value that may go to another thread, as a handle may.
-fn sent<T: Send>(value: T) -> T
+pub(crate) fn sent<T: Send>(value: T) -> T
     ensures { result ≡ value }
 {
     value
@@ -70,7 +74,7 @@ fn sent<T: Send>(value: T) -> T
 /// Opens a session that has no table. A handle that has a session keeps it.
 #[unsafe(no_mangle)]
 pub extern "C" fn betable_open(alloc: Global, handle: &mut Handle) -> u32
-    ensures opened { result ≡ code_of status.Done → MatchOption (session_of handle.new) ⊥ (λ session. (session.table ≡ None) × (session.text.items ≡ []) × (session.refused ≡ 0) × (session.marks.items ≡ []) × IsClosed session) }
+    ensures opened { result ≡ code_of status.Done → MatchOption (session_of handle.new) ⊥ (λ session. (session.table ≡ None) × (session.text.items ≡ []) × (session.refused ≡ 0) × (session.marks.items ≡ []) × HasNoFile session) }
     ensures closed { result ≡ code_of status.OutOfMemory → session_of handle.new ≡ None }
     ensures ends { session_of handle.old ≡ None → (result ≡ code_of status.Done) ⊎ (result ≡ code_of status.OutOfMemory) }
     ensures refused { is_some (session_of handle.old) ≡ true → (result ≡ code_of status.AlreadyOpen) × (session_of handle.new ≡ session_of handle.old) }
@@ -138,7 +142,7 @@ pub extern "C" fn betable_run(alloc: Global, handle: &mut Handle, script: &[u8])
 pub extern "C" fn betable_check(alloc: Global, handle: &mut Handle, script: &[u8]) -> u32
     ensures closed { session_of handle.old ≡ None → (result ≡ code_of status.NotOpen) × (session_of handle.new ≡ None) }
     ensures ends { is_some (session_of handle.old) ≡ true → (result ≡ code_of status.Done) ⊎ (result ≡ code_of status.OutOfMemory) }
-    ensures done { result ≡ code_of status.Done → StaysOpen handle.old handle.new (λ old new. new.marks.items ≡ checked_marks old.table (commands script.now)) }
+    ensures done { result ≡ code_of status.Done → StaysOpen handle.old handle.new (λ old new. new.marks.items ≡ checked_marks (table_asked old) (commands script.now)) }
     ensures memory { result ≡ code_of status.OutOfMemory → IfSome (session_of handle.new) (λ session. session.marks.items ≡ []) }
     ensures unanswered { IfSome (session_of handle.new) (λ session. (session.text.items ≡ []) × (session.refused ≡ 0)) }
     ensures table { is_some (session_of handle.old) ≡ true → StaysOpen handle.old handle.new (λ old new. new.table ≡ old.table) }
@@ -169,8 +173,8 @@ pub extern "C" fn betable_explain(
 ) -> u32
     ensures closed { session_of handle.old ≡ None → result ≡ code_of status.NotOpen }
     ensures ends { is_some (session_of handle.old) ≡ true → (result ≡ code_of status.Done) ⊎ (result ≡ code_of status.OutOfMemory) ⊎ (result ≡ code_of status.Refused) }
-    ensures done { result ≡ code_of status.Done → IfSome (session_of handle.old) (λ session. first_reason session.table (commands script.now) ≡ None) }
-    ensures refused { result ≡ code_of status.Refused → MatchOption (session_of handle.old) ⊥ (λ session. IsReason session.table (commands script.now) reason.new) }
+    ensures done { result ≡ code_of status.Done → IfSome (session_of handle.old) (λ session. first_reason (table_asked session) (commands script.now) ≡ None) }
+    ensures refused { result ≡ code_of status.Refused → MatchOption (session_of handle.old) ⊥ (λ session. IsReason (table_asked session) (commands script.now) reason.new) }
     ensures kept { session_of handle.new ≡ session_of handle.old }
 {
     let Some(session) = handle.take(alloc) else {
@@ -219,11 +223,11 @@ fn question_reply(
 ) -> u32
     ensures closed { session_of handle.old ≡ None → (result ≡ code_of status.NotOpen) × (session_of handle.new ≡ None) }
     ensures ends { is_some (session_of handle.old) ≡ true → (result ≡ code_of status.Done) ⊎ (result ≡ code_of status.OutOfMemory) ⊎ (result ≡ code_of status.Refused) }
-    ensures done { result ≡ code_of status.Done → StaysOpen handle.old handle.new (λ old new. reply_from (answer_of question) old.table bytes.now ≡ Ok new.text.items) }
-    ensures refused { result ≡ code_of status.Refused → StaysOpen handle.old handle.new (λ old _. IsFault (reply_from (answer_of question) old.table bytes.now) fault.new) }
+    ensures done { result ≡ code_of status.Done → StaysOpen handle.old handle.new (λ old new. reply_from (answer_of question) (table_asked old) bytes.now ≡ Ok new.text.items) }
+    ensures refused { result ≡ code_of status.Refused → StaysOpen handle.old handle.new (λ old _. IsFault (reply_from (answer_of question) (table_asked old) bytes.now) fault.new) }
     ensures unanswered { result ≢ code_of status.Done → IfSome (session_of handle.new) (λ session. session.text.items ≡ []) }
     ensures unmarked { IfSome (session_of handle.new) IsUnmarked }
-    ensures certain { IfSome (session_of handle.old) (λ session. session.table ≡ None → result ≡ code_of status.Refused) }
+    ensures certain { IfSome (session_of handle.old) (λ session. table_asked session ≡ None → result ≡ code_of status.Refused) }
     ensures table { is_some (session_of handle.old) ≡ true → StaysOpen handle.old handle.new (λ old new. new.table ≡ old.table) }
     ensures file { is_some (session_of handle.old) ≡ true → StaysOpen handle.old handle.new SameFile }
 {
@@ -463,7 +467,7 @@ pub extern "C" fn betable_reply(
 /// Whether the table was lost because memory ran out: then each command on it is refused.
 #[unsafe(no_mangle)]
 pub extern "C" fn betable_is_lost(alloc: Global, handle: &mut Handle) -> bool
-    ensures lost { MatchOption (session_of handle.old) (result ≡ false) (λ session. result ≡ is_lost session.table) }
+    ensures lost { MatchOption (session_of handle.old) (result ≡ false) (λ session. result ≡ is_lost (table_asked session)) }
     ensures kept { session_of handle.new ≡ session_of handle.old }
 {
     let Some(session) = handle.take(alloc) else {
@@ -472,162 +476,6 @@ pub extern "C" fn betable_is_lost(alloc: Global, handle: &mut Handle) -> bool
     let is_lost = session.is_lost();
     *handle = Handle::of(session);
     is_lost
-}
-
-/// Opens a session with the table in a file, which the host has opened, locked, synced and read: runs the requests in its bytes. If there are none, the file
-/// gets a head with a salt, which is a random number. The session has no other table.
-///
-/// `Done`: the host is to make the calls of [`betable_file_call_at`], in order. A crash at any moment leaves a file of the same state. After any other result the
-/// handle is as it was.
-#[unsafe(no_mangle)]
-pub extern "C" fn betable_keep_open(
-    alloc: Global,
-    handle: &mut Handle,
-    file: &[u8],
-    salt: u64,
-) -> u32
-    ensures opened { result ≡ code_of status.Done → MatchOption (session_of handle.new) ⊥ (λ session. MatchOption session.kept ⊥ (λ kept. IsOpened (head_with salt) file.now kept session.calls.items)) }
-    ensures empty { result ≡ code_of status.Done → IfSome (session_of handle.new) (λ session. (session.table ≡ None) × (session.text.items ≡ [])) }
-    ensures unchanged { result ≢ code_of status.Done → session_of handle.new ≡ session_of handle.old }
-    ensures refused { is_some (session_of handle.old) ≡ true → result ≡ code_of status.AlreadyOpen }
-{
-    if handle.is_open() {
-        return Status::AlreadyOpen.code();
-    }
-    match Session::of_file(alloc, file, salt) {
-        Ok(opened) => {
-            let Ok(session) = Box::new(alloc, opened) else {
-                return Status::OutOfMemory.code();
-            };
-            *handle = sent(Handle::of(session));
-            Status::Done.code()
-        }
-        Err(fault) => status_of(fault).code(),
-    }
-}
-
-/// Carries out requests on the table in the file: frames, one after the other. The replies are the frames of theirs.
-///
-/// `Done`: the host is to make the calls of [`betable_file_call_at`], in order, before it uses a reply. A crash at any moment leaves a file of the state before all of
-/// the requests, or after all of them. After any other result the session has no table in a file: none of its calls is to be made, and the file has the state of
-/// before. Open it again.
-#[unsafe(no_mangle)]
-pub extern "C" fn betable_keep_run(alloc: Global, handle: &mut Handle, requests: &[u8]) -> u32
-    ensures closed { session_of handle.old ≡ None → (result ≡ code_of status.NotOpen) × (session_of handle.new ≡ None) }
-    ensures open { is_some (session_of handle.new) ≡ is_some (session_of handle.old) }
-    ensures not_kept { IfSome (session_of handle.old) (λ session. session.kept ≡ None → result ≡ code_of status.NotKept) }
-    ensures done { result ≡ code_of status.Done → StaysOpen handle.old handle.new (λ old new. InFile (λ before after. HasRun before after requests.now new.text.items new.calls.items) old new) }
-    ensures failed { result ≢ code_of status.Done → IfSome (session_of handle.new) (λ session. IsClosed session × (session.text.items ≡ [])) }
-    ensures table { is_some (session_of handle.old) ≡ true → StaysOpen handle.old handle.new (λ old new. new.table ≡ old.table) }
-{
-    let Some(mut session) = handle.take(alloc) else {
-        return Status::NotOpen.code();
-    };
-    let ended = session.run_in_file(alloc, requests);
-    *handle = Handle::of(session);
-    match ended {
-        Ok(()) => Status::Done.code(),
-        Err(fault) => status_of(fault).code(),
-    }
-}
-
-/// Replaces the requests in the file by the state, unless it cannot be compacted now, as while an index is being built. The replies are emptied. Results are those of
-/// [`betable_keep_run`].
-#[unsafe(no_mangle)]
-pub extern "C" fn betable_keep_checkpoint(alloc: Global, handle: &mut Handle) -> u32
-    ensures closed { session_of handle.old ≡ None → (result ≡ code_of status.NotOpen) × (session_of handle.new ≡ None) }
-    ensures open { is_some (session_of handle.new) ≡ is_some (session_of handle.old) }
-    ensures not_kept { IfSome (session_of handle.old) (λ session. session.kept ≡ None → result ≡ code_of status.NotKept) }
-    ensures done { result ≡ code_of status.Done → StaysOpen handle.old handle.new (λ old new. InFile (λ before after. HasCheckpoint before after new.calls.items) old new) }
-    ensures failed { result ≢ code_of status.Done → IfSome (session_of handle.new) IsClosed }
-    ensures unanswered { IfSome (session_of handle.new) (λ session. session.text.items ≡ []) }
-    ensures table { is_some (session_of handle.old) ≡ true → StaysOpen handle.old handle.new (λ old new. new.table ≡ old.table) }
-{
-    let Some(mut session) = handle.take(alloc) else {
-        return Status::NotOpen.code();
-    };
-    let ended = session.compact_file(alloc);
-    *handle = Handle::of(session);
-    match ended {
-        Ok(()) => Status::Done.code(),
-        Err(fault) => status_of(fault).code(),
-    }
-}
-
-/// Whether a checkpoint of the file is due: it has 16 MiB, and twice as many bytes as after the last one.
-#[unsafe(no_mangle)]
-pub extern "C" fn betable_keep_is_due(alloc: Global, handle: &mut Handle) -> bool
-    ensures kept { session_of handle.new ≡ session_of handle.old }
-{
-    let Some(session) = handle.take(alloc) else {
-        return false;
-    };
-    let is_due = session.is_checkpoint_due();
-    *handle = Handle::of(session);
-    is_due
-}
-
-/// The number of calls of the file that the host is to make: those of the last call on the table in it.
-#[unsafe(no_mangle)]
-pub extern "C" fn betable_file_call_count(alloc: Global, handle: &mut Handle) -> usize
-    ensures count { MatchOption (session_of handle.old) (result ≡ 0) (λ session. result ≡ length session.calls.items) }
-    ensures kept { session_of handle.new ≡ session_of handle.old }
-{
-    let Some(session) = handle.take(alloc) else {
-        return 0;
-    };
-    let count = session.calls.len();
-    *handle = Handle::of(session);
-    count
-}
-
-/// The call of the file at a place, counted from 0. Returns whether there is one.
-#[unsafe(no_mangle)]
-pub extern "C" fn betable_file_call_at(
-    alloc: Global,
-    handle: &mut Handle,
-    place: usize,
-    call: &mut CallInC,
-) -> bool
-    ensures found { result ≡ true → MatchOption (session_of handle.old) ⊥ (λ session. option_map call_in_c (slice_get session.calls.items place) ≡ Some call.new) }
-    ensures none { result ≡ false → IfSome (session_of handle.old) (λ session. slice_get session.calls.items place ≡ None) }
-    ensures unchanged { result ≡ false → call.new ≡ call.old }
-    ensures kept { session_of handle.new ≡ session_of handle.old }
-{
-    let Some(session) = handle.take(alloc) else {
-        return false;
-    };
-    let found = call_at(session.calls.as_slice(), place);
-    *handle = Handle::of(session);
-    match found {
-        Some(made) => {
-            *call = made;
-            true
-        }
-        None => false,
-    }
-}
-
-/// Copies the bytes that the call of the file at a place writes, from one of them on, as many as there are and as fit, and returns their number.
-#[unsafe(no_mangle)]
-pub extern "C" fn betable_copy_file_call(
-    alloc: Global,
-    handle: &mut Handle,
-    place: usize,
-    from: usize,
-    out: &mut [u8],
-) -> usize
-    ensures bytes { MatchOption (session_of handle.old) (result ≡ 0) (λ session. take result out.new ≡ take result (drop from (bytes_at session.calls.items place))) }
-    ensures rest { drop result out.new ≡ drop result out.old }
-    ensures count { MatchOption (session_of handle.old) (result ≡ 0) (λ session. result ≡ min (length (bytes_at session.calls.items place) - from) (length out.old)) }
-    ensures kept { session_of handle.new ≡ session_of handle.old }
-{
-    let Some(session) = handle.take(alloc) else {
-        return 0;
-    };
-    let count = copy_from(bytes_at(session.calls.as_slice(), place), from, out);
-    *handle = Handle::of(session);
-    count
 }
 
 /// Closes the session and frees its memory. The handle has no session afterwards.

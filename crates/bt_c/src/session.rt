@@ -1,5 +1,5 @@
 //! A table that lives between calls, or is in a file, and the replies that can be copied.
-ghost use Rattle.std.specs.Prelude.{◌≡◌, ◌≢◌, ◌-◌, ◌++◌, [], Err, IfErr, IfOk, IfSome, IsErrOf, Ok, OnErr, OnOk, None, Some, drop, flat_map, length, min, take};
+ghost use Rattle.std.specs.Prelude.{◌≡◌, ◌≢◌, ◌-◌, ◌++◌, [], Err, IfErr, IfOk, IfSome, IsErrOf, Ok, OnErr, OnOk, None, Some, drop, false, flat_map, length, min, take, true};
 ghost use Rattle.std.specs.Option.{MatchOption};
 ghost use Rattle.bt_script.specs.Commands.{commands};
 ghost use Rattle.bt_shell.specs.Faults.{StopsBetweenReplies, StopsWithinReply, lost_reply};
@@ -10,10 +10,13 @@ ghost use Rattle.bt_c.specs.Reasons.{FirstIsRefused};
 ghost use Rattle.bt_fault.specs.Commands.{first_reason};
 ghost use Rattle.bt_c.specs.Replies.{checked_marks, marks_of};
 ghost use Rattle.bt_packed.specs.Questions.{KeepsOrLoses, answer_of, applied_to, no_table, reply_from};
-ghost use Rattle.bt_c.specs.Kept.{HasCheckpoint, HasRun, IsClosed, IsOpened, SameFile, head_with};
+ghost use Rattle.bt_c.specs.Kept.{HasBegun, HasCheckpoint, HasCommitted, HasJoined, HasNoFile, HasRun, IsClosed, IsOpened, IsRefused, SameFile, head_with, table_asked};
 ghost use Rattle.bt_c.specs.Sessions.{is_lost};
 
-use crate::kept::{KeptTable, compact_kept, open_kept, run_kept};
+use crate::kept::{
+    KeptGroup, KeptTable, add_to_group, begin_group, commit_group, compact_kept, open_kept,
+    run_kept, table_in, table_in_group,
+};
 use crate::reply::{ReplyMark, ReplyMarks};
 use bt_engine::alone;
 use bt_fault::{Reason, script_reason};
@@ -27,7 +30,7 @@ use std::alloc::{AllocError, Global};
 use std::mem;
 
 /// The table, if there is one; the replies to the last script, the number of its commands that were refused, and where the reply to each of them ends; the table
-/// in a file, if the session was opened with one, and the calls of the file that the host is to make.
+/// in a file, if the session was opened with one, or a group of requests to it; and the calls of the file that the host is to make.
 #[derive(Drop)]
 pub struct Session {
     pub table: Option<Table>,
@@ -35,6 +38,7 @@ pub struct Session {
     pub refused: usize,
     pub marks: Vec<ReplyMark>,
     pub kept: Option<KeptTable>,
+    pub group: Option<KeptGroup>,
     pub calls: Vec<HostCall>,
 }
 
@@ -69,7 +73,7 @@ impl Session {
         ensures text { result.text.items ≡ [] }
         ensures refused { result.refused ≡ 0 }
         ensures marks { result.marks.items ≡ [] }
-        ensures file { IsClosed result }
+        ensures file { HasNoFile result }
     {
         Session {
             table: None,
@@ -77,6 +81,7 @@ impl Session {
             refused: 0,
             marks: Vec::new(alloc),
             kept: None,
+            group: None,
             calls: Vec::new(alloc),
         }
     }
@@ -84,6 +89,7 @@ impl Session {
     /// A session with the table in a file that has these bytes.
     pub fn of_file(alloc: Global, file: &[u8], salt: u64) -> Result<Session, FileFault>
         ensures kept { IfOk result (λ session. MatchOption session.kept ⊥ (λ kept. IsOpened (head_with salt) file.now kept session.calls.items)) }
+        ensures group { IfOk result (λ session. session.group ≡ None) }
         ensures table { IfOk result (λ session. session.table ≡ None) }
         ensures text { IfOk result (λ session. session.text.items ≡ []) }
     {
@@ -132,9 +138,22 @@ impl Session {
         Ok(())
     }
 
+    // The table that is asked.
+    fn table_asked(&self) -> &Option<Table>
+        ensures { result.now ≡ table_asked self.now }
+    {
+        if let Some(group) = &self.group {
+            return table_in_group(group);
+        }
+        match &self.kept {
+            Some(kept) => table_in(kept),
+            None => &self.table,
+        }
+    }
+
     /// Keeps of each command of a script what it would do, by itself, to the table as it is. The replies are emptied.
     pub fn check(&mut self, alloc: Global, script: &[u8]) -> Result<(), AllocError>
-        ensures marks { OnOk result (self.new.marks.items ≡ checked_marks self.old.table (commands script.now)) }
+        ensures marks { OnOk result (self.new.marks.items ≡ checked_marks (table_asked self.old) (commands script.now)) }
         ensures unmarked { OnErr result (self.new.marks.items ≡ []) }
         ensures table { self.new.table ≡ self.old.table }
         ensures text { self.new.text.items ≡ [] }
@@ -145,17 +164,17 @@ impl Session {
         let mut log = ReplyMarks {
             marks: mem::replace(&mut self.marks, Vec::new(alloc)),
         };
-        check_commands(alloc, script, &self.table, &mut log)?;
+        check_commands(alloc, script, self.table_asked(), &mut log)?;
         self.marks = log.marks;
         Ok(())
     }
 
     /// Why the first command of a script would be refused because of its records, on the table as it is.
     pub fn explain(&self, alloc: Global, script: &[u8]) -> Result<Option<Reason>, AllocError>
-        ensures reason { IfOk result (λ reason. reason ≡ first_reason self.now.table (commands script.now)) }
-        ensures refused { IfOk result (λ reason. IfSome reason (λ r. FirstIsRefused self.now.table (commands script.now) r.refusal)) }
+        ensures reason { IfOk result (λ reason. reason ≡ first_reason (table_asked self.now) (commands script.now)) }
+        ensures refused { IfOk result (λ reason. IfSome reason (λ r. FirstIsRefused (table_asked self.now) (commands script.now) r.refusal)) }
     {
-        script_reason(alloc, &self.table, script)
+        script_reason(alloc, self.table_asked(), script)
     }
 
     /// Applies packed changes to the table. The replies are emptied.
@@ -189,9 +208,9 @@ impl Session {
 
     /// Replies to a question in packed bytes.
     pub fn ask(&mut self, alloc: Global, question: Question, bytes: &[u8]) -> Result<(), Fault>
-        ensures done { OnOk result (reply_from (answer_of question) self.old.table bytes.now ≡ Ok self.new.text.items) }
-        ensures fault { IfErr result (λ fault. fault.refusal ≢ Refusal.OutOfMemory → reply_from (answer_of question) self.old.table bytes.now ≡ Err fault) }
-        ensures certain { self.old.table ≡ None → IsErrOf result no_table }
+        ensures done { OnOk result (reply_from (answer_of question) (table_asked self.old) bytes.now ≡ Ok self.new.text.items) }
+        ensures fault { IfErr result (λ fault. fault.refusal ≢ Refusal.OutOfMemory → reply_from (answer_of question) (table_asked self.old) bytes.now ≡ Err fault) }
+        ensures certain { table_asked self.old ≡ None → IsErrOf result no_table }
         ensures no_text { IfErr result (λ _. self.new.text.items ≡ []) }
         ensures table { self.new.table ≡ self.old.table }
         ensures refused { self.new.refused ≡ 0 }
@@ -199,15 +218,15 @@ impl Session {
         ensures file { SameFile self.old self.new }
     {
         let room = self.take_room(alloc);
-        self.text = ask(&alone(alloc), &self.table, question, bytes, room)?;
+        self.text = ask(&alone(alloc), self.table_asked(), question, bytes, room)?;
         Ok(())
     }
 
     /// Whether the table was lost because memory ran out.
     pub fn is_lost(&self) -> bool
-        ensures { result ≡ is_lost self.now.table }
+        ensures { result ≡ is_lost (table_asked self.now) }
     {
-        match &self.table {
+        match self.table_asked() {
             None => false,
             Some(table) => table.schema().is_err(),
         }
@@ -220,6 +239,7 @@ impl Session {
         ensures failed { OnErr result (IsClosed self.new) }
         ensures text { OnErr result (self.new.text.items ≡ []) }
         ensures table { self.new.table ≡ self.old.table }
+        ensures group { self.new.group ≡ self.old.group }
         ensures refused { self.new.refused ≡ 0 }
         ensures marks { self.new.marks.items ≡ [] }
     {
@@ -242,6 +262,7 @@ impl Session {
         ensures failed { OnErr result (IsClosed self.new) }
         ensures text { self.new.text.items ≡ [] }
         ensures table { self.new.table ≡ self.old.table }
+        ensures group { self.new.group ≡ self.old.group }
         ensures refused { self.new.refused ≡ 0 }
         ensures marks { self.new.marks.items ≡ [] }
     {
@@ -252,6 +273,75 @@ impl Session {
         };
         self.calls = compact_kept(alloc, &mut kept)?;
         self.kept = Some(kept);
+        Ok(())
+    }
+
+    /// Begins a group of requests to the table in the file. The replies are emptied.
+    pub fn begin_group(&mut self, alloc: Global) -> Result<(), FileFault>
+        ensures done { OnOk result (MatchOption self.old.kept ⊥ (λ kept. MatchOption self.new.group ⊥ (λ group. HasBegun kept group))) }
+        ensures not_kept { self.old.kept ≡ None → IsErrOf result FileFault.Closed × (self.new.group ≡ self.old.group) }
+        ensures file { IsClosed self.new }
+        ensures text { self.new.text.items ≡ [] }
+        ensures table { self.new.table ≡ self.old.table }
+        ensures refused { self.new.refused ≡ 0 }
+        ensures marks { self.new.marks.items ≡ [] }
+    {
+        self.clear();
+        self.calls.clear();
+        let Some(kept) = mem::replace(&mut self.kept, None) else {
+            return Err(FileFault::Closed);
+        };
+        let group = begin_group(alloc, kept)?;
+        self.group = Some(group);
+        Ok(())
+    }
+
+    /// Carries out requests of the group. The frames of their replies are the replies. Returns whether it did: `false` if the requests are not whole frames.
+    pub fn add_to_group(&mut self, alloc: Global, requests: &[u8]) -> Result<bool, FileFault>
+        ensures done { IfOk result (λ is_done. is_done ≡ true → MatchOption self.old.group ⊥ (λ old. MatchOption self.new.group ⊥ (λ new. HasJoined old new requests.now self.new.text.items))) }
+        ensures refused { IfOk result (λ is_done. is_done ≡ false → MatchOption self.old.group ⊥ (λ old. MatchOption self.new.group ⊥ (λ new. IsRefused old new requests.now))) }
+        ensures no_group { self.old.group ≡ None → IsErrOf result FileFault.Closed }
+        ensures failed { OnErr result (self.new.group ≡ None) }
+        ensures text { OnErr result (self.new.text.items ≡ []) }
+        ensures kept { self.new.kept ≡ self.old.kept }
+        ensures calls { self.new.calls.items ≡ [] }
+        ensures table { self.new.table ≡ self.old.table }
+        ensures refused_count { self.new.refused ≡ 0 }
+        ensures marks { self.new.marks.items ≡ [] }
+    {
+        self.clear();
+        self.calls.clear();
+        let Some(mut group) = mem::replace(&mut self.group, None) else {
+            return Err(FileFault::Closed);
+        };
+        let mut replies = mem::replace(&mut self.text, Vec::new(alloc));
+        let is_done = add_to_group(alloc, &mut group, requests, &mut replies)?;
+        if is_done {
+            self.text = replies;
+        }
+        self.group = Some(group);
+        Ok(is_done)
+    }
+
+    /// Keeps the requests of the group. The replies are emptied.
+    pub fn commit_group(&mut self, alloc: Global) -> Result<(), FileFault>
+        ensures done { OnOk result (MatchOption self.old.group ⊥ (λ group. MatchOption self.new.kept ⊥ (λ kept. HasCommitted group kept self.new.calls.items))) }
+        ensures no_group { self.old.group ≡ None → IsErrOf result FileFault.Closed }
+        ensures failed { OnErr result ((self.new.kept ≡ self.old.kept) × (self.new.calls.items ≡ [])) }
+        ensures group { self.new.group ≡ None }
+        ensures text { self.new.text.items ≡ [] }
+        ensures table { self.new.table ≡ self.old.table }
+        ensures refused { self.new.refused ≡ 0 }
+        ensures marks { self.new.marks.items ≡ [] }
+    {
+        self.clear();
+        self.calls.clear();
+        let Some(group) = mem::replace(&mut self.group, None) else {
+            return Err(FileFault::Closed);
+        };
+        let (kept, calls) = commit_group(alloc, group)?;
+        self.kept = Some(kept);
+        self.calls = calls;
         Ok(())
     }
 

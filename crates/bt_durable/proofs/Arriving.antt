@@ -7,11 +7,12 @@ use Rattle.bt_script.specs.Streams.{source_of}
 use Rattle.bt_script.specs.declared.counted.Counted.{Counted}
 use Rattle.bt_frame.specs.Frames.{arrivals, following, frame}
 use Rattle.bt_frame.specs.Receipts.{Receives, ReceivesNothing}
-use Rattle.bt_frame.specs.Services.{IsInputOf, IsLast}
+use Rattle.bt_frame.specs.Services.{IsInputOf, IsLast, IsNoRequest}
 use Rattle.bt_frame.specs.declared.arrival.Arrival.{Arrival}
 use Rattle.bt_frame.specs.declared.arrival.Arrival.TheVariants.{CutOff, Frame, NoFrame, TooLong}
 use Rattle.bt_frame.proofs.offered.Arrivals.{nothing_arrives, sent_arrives}
 use Rattle.bt_durable.specs.Inputs.{AreAll, AreFirst, Arrive, Continue, Reads, ReadsGroup, ReadsNext, ReadsUpTo, received_of}
+use Rattle.bt_durable.specs.Joined.{AreFrames, are_requests}
 use Rattle.bt_durable.specs.Payloads.{no_limit, requests}
 use Rattle.bt_durable.specs.declared.groups.Ending.TheVariants.{End, More}
 
@@ -189,3 +190,36 @@ module _ (most : ℕ) (a b : Option (List ℕ)) (group : List ℕ) where
   -- more can be read
   pub up_to_more : ReadsGroup most a b group → ReadsUpTo most a b group More
   up_to_more so_far = (b, so_far, tt, none_arrived most b)
+
+-- ---- frames in bytes
+
+-- a group is whole frames
+pub group_joins : (a b : Option (List ℕ)) (group : List ℕ) → ReadsGroup no_limit a b group → AreFrames group
+group_joins a b group so_far rest =
+    so_far.whole rest ∙ ap (λ (l : List (Arrival × List ℕ)). l ++ requests rest) (sym (group_has no_limit a b group so_far))
+
+-- a group that is all of some bytes has their requests
+pub all_of : (bytes group : List ℕ) (b : Option (List ℕ)) (so_far : ReadsGroup no_limit (Some bytes) b group) → AreAll no_limit b [] → requests group ≡ requests bytes
+all_of bytes group b so_far none =
+    let all = with_all no_limit (Some bytes) b so_far.arrived so_far.read [] none in
+    group_has no_limit (Some bytes) b group so_far ∙ sym (append-nil so_far.arrived) ∙ sym all.2 ∙ ap requests (sym all.1)
+
+-- something that is no request is among what arrives
+other_among : (done : List (Arrival × List ℕ)) (arrival : Arrival) (payload : List ℕ) (more : List (Arrival × List ℕ)) → IsNoRequest arrival
+    → are_requests (done ++ (arrival, payload) ∷ more) ≡ false
+other_among [] (Frame kind) payload more other = absurd other
+other_among [] TooLong payload more other = refl
+other_among [] NoFrame payload more other = refl
+other_among [] CutOff payload more other = refl
+other_among ((Frame kind, body) ∷ done) arrival payload more other = other_among done arrival payload more other
+other_among ((TooLong, body) ∷ done) arrival payload more other = refl
+other_among ((NoFrame, body) ∷ done) arrival payload more other = refl
+other_among ((CutOff, body) ∷ done) arrival payload more other = refl
+
+-- bytes have something that is no request after a group
+pub has_other : (bytes group : List ℕ) (b left : Option (List ℕ)) (so_far : ReadsGroup no_limit (Some bytes) b group) (arrival : Arrival) (payload : List ℕ) → IsNoRequest arrival
+    → Reads no_limit b left arrival payload → are_requests (requests bytes) ≡ false
+has_other bytes group b left so_far arrival payload other next =
+    let first = with_first no_limit (Some bytes) b so_far.arrived so_far.read ((arrival, payload) ∷ []) (one_is_first no_limit b left arrival payload next) in
+    ap (λ (l : List ℕ). are_requests (requests l)) first.1 ∙ ap are_requests (first.2.1 ∙ append_assoc so_far.arrived ((arrival, payload) ∷ []) first.2.0)
+    ∙ other_among so_far.arrived arrival payload first.2.0 other

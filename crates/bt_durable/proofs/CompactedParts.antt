@@ -1,6 +1,5 @@
 -- Replies of a store whose service is compacted at some moments, and what a crash leaves.
-use Rattle.std.proofs.Common.{◌≡◌, ◌∙◌, ◌≤◌, ◌-◌, ◌^◌, ◌++◌, ◌⊎◌, inl, inr, ⊎_elim, IsTrue, Bool, true, false, ℕ, List, [], ◌∷◌, Option, ap, append-nil, append_assoc, refl, subst, sym}
-use Rattle.bt_script.specs.Streams.{Took}
+use Rattle.std.proofs.Common.{◌≡◌, ◌∙◌, ◌≤◌, ◌++◌, inl, inr, ⊎_elim, IsTrue, Bool, true, false, ℕ, List, [], ◌∷◌, Option, ap, append-nil, append_assoc, refl, subst, sym}
 use Rattle.bt_script.specs.declared.counted.Counted.{Counted}
 use Rattle.bt_script.proofs.offered.Streams.{Took-trans, prefix-all, prefix-more}
 use Rattle.bt_frame.specs.Services.{after_arrivals, answers}

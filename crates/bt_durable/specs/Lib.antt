@@ -4,3 +4,4 @@ pub mod Keeping
 pub mod Compacting
 pub mod Once
 pub mod Repeated
+pub mod Joined

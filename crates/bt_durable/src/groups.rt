@@ -1,12 +1,14 @@
 //! Requests that are read together.
-ghost use Rattle.std.specs.Prelude.{◌≡◌, ◌<◌, ◌^◌, ◌++◌, IfOk, IsErrOf, OnOk, length};
+ghost use Rattle.std.specs.Prelude.{◌≡◌, ◌<◌, ◌^◌, ◌++◌, [], IfNone, IfOk, IfSome, IsErrOf, OnOk, false, length};
 ghost use Rattle.bt_frame.specs.Frames.{frame};
 ghost use Rattle.bt_durable.specs.Inputs as inputs;
+ghost use Rattle.bt_durable.specs.Joined.{AreFrames, are_requests};
+ghost use Rattle.bt_durable.specs.Payloads.{requests};
 ghost use Rattle.bt_durable.specs.Inputs.{AreAhead, ReadsNext, ReadsUpTo};
 
 use bt_frame::{Arrival, add_frame, begins_with_frame, receive};
 use bt_script::{Counted, RunFault};
-use std::alloc::AllocError;
+use std::alloc::{AllocError, Global};
 use std::io::{BufReader, Read};
 
 /// A reader that shows bytes which it can give without waiting.
@@ -66,7 +68,7 @@ fn received_of(found: Option<Arrival>) -> Received
 }
 
 // Reads what arrives next, and no byte after it.
-fn receive_next<I: Ahead + Drop>(
+fn receive_next<I: Read + Drop>(
     input: I,
     most: u64,
     room: &mut Room,
@@ -87,7 +89,23 @@ fn receive_next<I: Ahead + Drop>(
     Ok((reader.into_inner(), received_of(found)))
 }
 
+// The number of bytes that one read asks for.
+const PIECE_SIZE: usize = 65_536;
+
 impl Room {
+    pub(crate) fn new(alloc: Global) -> Result<Self, AllocError>
+        ensures piece { IfOk result (λ room. 0 < length room.piece.items) }
+        ensures group { IfOk result (λ room. room.group.items ≡ []) }
+    {
+        let mut piece = Vec::with_capacity(alloc, PIECE_SIZE)?;
+        piece.resize(PIECE_SIZE, 0)?;
+        Ok(Room {
+            piece,
+            payload: Vec::new(alloc),
+            group: Vec::new(alloc),
+        })
+    }
+
     // Adds a request with the payload to the group.
     fn add_request(&mut self, kind: u8) -> Result<(), AllocError>
         ensures group { OnOk result (self.new.group.items ≡ self.old.group.items ++ frame kind self.old.payload.items) }
@@ -124,4 +142,27 @@ pub(crate) fn receive_group<I: Ahead + Drop>(
         }
     }
     Ok((source, Ending::More))
+}
+
+/// The frames in a payload. `None` if it has something that is no request.
+pub(crate) fn frames_in(alloc: Global, payload: &[u8]) -> Result<Option<Vec<u8>>, AllocError>
+    ensures frames { IfOk result (λ found. IfSome found (λ frames. AreFrames frames.items)) }
+    ensures same { IfOk result (λ found. IfSome found (λ frames. requests frames.items ≡ requests payload.now)) }
+    ensures none { IfOk result (λ found. IfNone found (are_requests (requests payload.now) ≡ false)) }
+{
+    let mut room = Room::new(alloc)?;
+    let mut source = payload;
+    'requests: for _ in 0..u64::MAX {
+        // A slice is read if there is memory.
+        let Ok((next, received)) = receive_next(source, u64::MAX, &mut room) else {
+            return Err(AllocError);
+        };
+        source = next;
+        match received {
+            Received::Request(kind) => room.add_request(kind)?,
+            Received::Other(_) => return Ok(None),
+            Received::End => return Ok(Some(room.group)),
+        }
+    }
+    Err(AllocError)
 }

@@ -20,23 +20,6 @@ use bt_script::{Counted, RunFault};
 use std::alloc::{AllocError, Global};
 use std::io::Write;
 
-// The number of bytes that one read asks for.
-const PIECE_SIZE: usize = 65_536;
-
-impl Room {
-    fn new(alloc: Global) -> Result<Self, AllocError>
-        ensures { IfOk result (λ room. 0 < length room.piece.items) }
-    {
-        let mut piece = Vec::with_capacity(alloc, PIECE_SIZE)?;
-        piece.resize(PIECE_SIZE, 0)?;
-        Ok(Room {
-            piece,
-            payload: Vec::new(alloc),
-            group: Vec::new(alloc),
-        })
-    }
-}
-
 // Whether frames can be found after what arrived.
 fn is_last(arrival: Arrival) -> bool
     ensures last { result ≡ true → IsLast arrival }

@@ -218,6 +218,13 @@ impl<S: Drop> OnceService<S> {
             known,
         })
     }
+
+    /// The service.
+    pub fn service(&self) -> &S
+        ensures { result.now ≡ self.now.0 }
+    {
+        &self.service
+    }
 }
 
 // Runs a request whose id is not known, and stores its reply.

@@ -1,12 +1,14 @@
 //! A service as the machine of a store.
 ghost use Rattle.std.specs.Prelude.{◌≡◌, IfOk, List, OnOk, ℕ};
 ghost use Rattle.bt_frame.specs.Services.{IsNoRequest};
+ghost use Rattle.bt_durable.specs.Joined.{AreFrames, after_both, after_none, are_requests, both_are_frames, none_are_frames};
 ghost use Rattle.bt_durable.specs.Once.{is_compacted_once};
-ghost use Rattle.bt_durable.specs.Payloads.{after_payload, payload_changes, replies_to};
+ghost use Rattle.bt_durable.specs.Payloads.{after_payload, payload_changes, replies_to, requests};
 
+use crate::groups::frames_in;
 use crate::once::{OnceService, compact_once};
 use bt_frame::{Arrival, CompactService, Reply, Service, serve};
-use bt_journal::{Compact, Machine};
+use bt_journal::{Compact, Join, Machine};
 use bt_script::Counted;
 use std::alloc::{AllocError, Global};
 use std::marker::Model;
@@ -65,6 +67,13 @@ impl<'a, X, S: Service<X> + Drop> ServiceMachine<'a, X, S> {
         }
     }
 
+    /// The service.
+    pub fn service(&self) -> &S
+        ensures { result.now ≡ self.now }
+    {
+        &self.service
+    }
+
     // The reply to what arrived and is no request, in the memory of some bytes.
     pub(crate) fn refuse(&self, arrival: Arrival, room: Vec<u8>) -> Result<Reply, AllocError>
         requires refused { IsNoRequest arrival }
@@ -94,6 +103,24 @@ impl<'a, X, S: Service<X> + Drop> Machine for ServiceMachine<'a, X, S> {
         )?;
         *answer = replies;
         Ok(is_change)
+    }
+}
+
+impl<'a, X, S: Service<X> + Drop> Join for ServiceMachine<'a, X, S> {
+    ghost is_part = { AreFrames };
+
+    ghost can_join = { λ payload. are_requests (requests payload) };
+
+    ghost none_is_part = { none_are_frames };
+
+    ghost both_are_part = { both_are_frames };
+
+    ghost after_none = { after_none S.after S.reply };
+
+    ghost after_both = { after_both S.after S.reply };
+
+    fn part_of(&self, alloc: Global, payload: &[u8]) -> Result<Option<Vec<u8>>, AllocError> {
+        frames_in(alloc, payload)
     }
 }
 

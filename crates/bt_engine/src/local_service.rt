@@ -46,6 +46,13 @@ impl LocalService {
     {
         LocalService { alloc, table: None }
     }
+
+    /// The table, if there is one.
+    pub fn table(&self) -> &Option<Table>
+        ensures { result.now ≡ self.now }
+    {
+        &self.table
+    }
 }
 
 impl Service<()> for LocalService {

@@ -59,3 +59,32 @@ pub record IsConsistent
     (journal : Journal D) (machine : M) : Type 0 where
   pub settled : IsSettled contents outcome is_healthy journal
   pub same : machine ≡ state_of after blank (contents journal.disk)
+
+-- ---- groups
+
+-- what a contract sees of a group: the file, the state of the machine, the head of the file, whether the group is open, and the parts that have run, as one
+abbrev pub GroupValue : Type 0 → Type 0 → Type 0
+GroupValue D M = D × M × Head × Bool × List ℕ
+
+abbrev pub group_disk : {D M : Type 0} → GroupValue D M → D
+group_disk group = group.0
+
+abbrev pub group_state : {D M : Type 0} → GroupValue D M → M
+group_state group = group.1
+
+abbrev pub group_head : {D M : Type 0} → GroupValue D M → Head
+group_head group = group.2
+
+abbrev pub is_group_open : {D M : Type 0} → GroupValue D M → Bool
+is_group_open group = group.3
+
+abbrev pub ahead : {D M : Type 0} → GroupValue D M → List ℕ
+ahead group = group.4
+
+-- what is true of an open group: its journal is settled, and the machine has the state of the file after the parts that have run
+pub record IsJoined
+    {D M : Type 0} (contents : D → List ℕ) (outcome : D → List ℕ → Type 0) (is_healthy : D → Bool) (after : M → List ℕ → M) (blank : M) (is_part : List ℕ → Type 0)
+    (journal : Journal D) (machine : M) (ahead : List ℕ) : Type 0 where
+  pub settled : IsSettled contents outcome is_healthy journal
+  pub part : is_part ahead
+  pub same : machine ≡ after (state_of after blank (contents journal.disk)) ahead

@@ -26,6 +26,7 @@
 //!   file is refused. Damage in the last frame looks like a torn write.
 //! - **Checkpoints.** A machine with the trait [`Compact`] can put one payload for its whole state in the place of all others: a new file with a new salt is
 //!   written, and gets the name of the old one. One is due once the file has 16 MiB, and has become twice as long.
+//! - **Groups.** Payloads of a machine with the trait [`Join`] can be parts of one. A [`Group`] runs them one after the other, and keeps them by one frame.
 //! - **Hosts.** A library that may not open files says which calls of the file its host is to make: see [`HostDisk`].
 #![tactic(auto)]
 
@@ -33,6 +34,7 @@ mod disk;
 mod fault;
 mod file_end;
 mod frame;
+mod group;
 mod head;
 mod journal;
 mod laws;
@@ -45,7 +47,8 @@ mod store;
 pub use disk::{Disk, DiskFailed, HostCall, HostDisk};
 pub use fault::Fault;
 pub use frame::sum_after;
+pub use group::Group;
 pub use head::Head;
 pub use laws::{damage, salts};
-pub use machine::{Compact, Machine};
+pub use machine::{Compact, Join, Machine};
 pub use store::Store;

@@ -1,5 +1,5 @@
 //! What a store keeps: a state that payloads change.
-ghost use Rattle.std.specs.Prelude.{◌≡◌, Bool, List, ℕ, false, IfNone, IfOk, IfSome, OnOk};
+ghost use Rattle.std.specs.Prelude.{◌≡◌, ◌++◌, Bool, List, ℕ, [], false, IfNone, IfOk, IfSome, OnOk};
 
 use std::alloc::{AllocError, Global};
 
@@ -37,4 +37,32 @@ pub trait Compact: Machine {
         ensures compacted { IfSome result (λ _. is_compacted self.old self.new) }
         ensures payload { IfSome result (λ payload. Self.Machine.after Self.Machine.blank payload.items ≡ self.new) }
         ensures unchanged { IfNone result (self.new ≡ self.old) };
+}
+
+/// A machine whose payloads can be parts of one.
+pub trait Join: Machine {
+    /// Whether other parts can follow bytes in a payload.
+    ghost is_part: { List ℕ → Type 0 };
+
+    /// Whether there is a part that does what a payload does.
+    ghost can_join: { List ℕ → Bool };
+
+    /// Returns a part that does what a payload does. `None` if there is none.
+    fn part_of(&self, alloc: Global, payload: &[u8]) -> Result<Option<Vec<u8>>, AllocError>
+        ensures part { IfOk result (λ found. IfSome found (λ part. is_part part.items)) }
+        ensures same { IfOk result (λ found. IfSome found (λ part. (state : Self) → Self.Machine.after state part.items ≡ Self.Machine.after state payload.now)) }
+        ensures none { IfOk result (λ found. IfNone found (can_join payload.now ≡ false)) };
+
+    /// No bytes are a part.
+    ghost none_is_part: { is_part [] };
+
+    /// Two parts are one.
+    ghost both_are_part: { (first second : List ℕ) → is_part first → is_part second → is_part (first ++ second) };
+
+    /// No bytes leave each state as it is.
+    ghost after_none: { (state : Self) → Self.Machine.after state [] ≡ state };
+
+    /// Two parts as one do what they do one after the other.
+    ghost after_both: { (state : Self) (first second : List ℕ) → is_part first
+        → Self.Machine.after state (first ++ second) ≡ Self.Machine.after (Self.Machine.after state first) second };
 }

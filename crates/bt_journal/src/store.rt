@@ -3,14 +3,16 @@ ghost use Rattle.std.specs.Prelude.{◌≡◌, ◌++◌, if◌then◌else◌, Is
 ghost use Rattle.bt_journal.specs.Disks.{Only, LeavesOnly};
 ghost use Rattle.bt_journal.specs.Heads.{IsAlike};
 ghost use Rattle.bt_journal.specs.Files.{recovered, is_refusal, IsCause};
+ghost use Rattle.bt_journal.specs.Stores.{ahead, group_disk, group_head, group_state, is_group_open};
 ghost use Rattle.bt_journal.specs.Stores.{StoreValue, disk_of, state_in, head_in, is_open, state_of, Finds, IsKept, IsConsistent, IsBeforeOrAfterCheckpoint, IsBeforeOrAfterRun};
 
 use crate::disk::{Disk, HostCall, HostDisk};
 use crate::fault::Fault;
 use crate::file_end::first_end;
+use crate::group::Group;
 use crate::head::Head;
 use crate::journal::Journal;
-use crate::machine::{Compact, Machine};
+use crate::machine::{Compact, Join, Machine};
 use crate::steps::{compact, open_state, run_payload};
 use std::alloc::Global;
 use std::marker::Model;
@@ -29,11 +31,11 @@ fn size_when_due(size: usize) -> usize {
 /// the payload or not. Open the file again.
 #[derive(Drop)]
 pub struct Store<D: Disk, M: Machine> {
-    journal: Journal<D>,
-    machine: M,
-    is_open: bool,
+    pub(crate) journal: Journal<D>,
+    pub(crate) machine: M,
+    pub(crate) is_open: bool,
     /// How many bytes the file has when the next checkpoint is due.
-    due_size: usize,
+    pub(crate) due_size: usize,
 }
 
 impl<D: Disk, M: Machine> Model for Store<D, M> {
@@ -136,6 +138,27 @@ impl<D: Disk, M: Machine> Store<D, M> {
         run_payload(alloc, &mut self.journal, &mut self.machine, payload, answer)?;
         self.is_open = true;
         Ok(())
+    }
+}
+
+impl<D: Disk, M: Join> Store<D, M> {
+    /// Begins a group: the payloads that it runs are kept together, or none of them. An `Err` returns the file.
+    pub fn begin(self, alloc: Global) -> Result<Group<D, M>, (Fault, D)>
+        ensures open { IfOk result (λ group. IsTrue (is_open self) × IsTrue (is_group_open group)) }
+        ensures same { IfOk result (λ group. (group_disk group ≡ disk_of self) × (group_state group ≡ state_in self) × (group_head group ≡ head_in self)) }
+        ensures none { IfOk result (λ group. ahead group ≡ []) }
+        ensures was_closed { IfErr result (λ e. (e.0 ≡ Fault.Closed) × (e.1 ≡ disk_of self) × (is_open self ≡ false)) }
+    {
+        if !self.is_open {
+            return Err((Fault::Closed, self.journal.disk));
+        }
+        Ok(Group {
+            journal: self.journal,
+            machine: self.machine,
+            ahead: Vec::new(alloc),
+            is_open: true,
+            due_size: self.due_size,
+        })
     }
 }
 

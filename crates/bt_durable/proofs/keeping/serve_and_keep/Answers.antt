@@ -1,4 +1,4 @@
-use Rattle.std.proofs.Common.{◌≡◌, ◌++◌, rules, ℕ, [], List, append-nil, arith, false, subst, sym, true}
+use Rattle.std.proofs.Common.{◌≡◌, rules, ℕ, [], List, append-nil, arith, false, subst, sym, true}
 use Rattle.bt_frame.specs.declared.arrival.Arrival.{Arrival}
 use Rattle.bt_journal.specs.Stores.{disk_of, head_in, state_in}
 use Rattle.bt_durable.specs.Inputs.{AreFirst}
