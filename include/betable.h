@@ -60,9 +60,11 @@ typedef enum {
     BETABLE_NOT_OPEN = 3,
     /* The session is open already. Nothing was done. */
     BETABLE_ALREADY_OPEN = 4,
-    /* A call on packed bytes was refused, and nothing has changed. Its fault says why. Or betable_explain has found a reason. */
+    /* A call on packed bytes was refused, and nothing has changed. Its fault says why. Or betable_explain has found a reason. Or the requests of a group are not
+       whole frames. */
     BETABLE_REFUSED = 5,
-    /* The session has no table in a file: it was not opened by betable_keep_open, or an earlier call of it failed. Nothing was done. Open the file again. */
+    /* The session has no table in a file: it was not opened by betable_keep_open, or an earlier call of it failed. Or a call is for a group, and none is open, or
+       not for a group, and one is. Nothing was done. */
     BETABLE_NOT_KEPT = 6,
     /* The file, or the requests, are too long: 2^62 bytes. */
     BETABLE_FILE_TOO_LONG = 7,
@@ -147,20 +149,21 @@ typedef struct {
 /* Opens a session, which has no table. DONE, OUT_OF_MEMORY or ALREADY_OPEN. */
 betable_status betable_open(betable_session *session) BETABLE_NOT_NULL;
 
-/* Carries out the commands of a script on the session's table. Their replies replace the previous ones. DONE, OUT_OF_MEMORY, REPLY_CUT or NOT_OPEN. */
+/* Carries out the commands of a script on the session's table. Their replies replace the previous ones. It is for a session without a file. DONE,
+ * OUT_OF_MEMORY, REPLY_CUT or NOT_OPEN. */
 betable_status betable_run(betable_session *session, const unsigned char *script, size_t length) BETABLE_NOT_NULL;
 
 /* Finds which commands of a script would be refused, each by itself, on the table as it is. None is carried out, and nothing changes. So no command is judged
  * with the effects of those before it: without a table, each command except `table` would be refused. Afterwards betable_reply_count is the number of commands.
  * betable_reply has for each the kind that a run of this command alone would give it, with offset 0 and length 0. The replies are empty, and
- * betable_refused_count is 0. The rows of a load are read, sorted by key and dropped; no tree is made. DONE, OUT_OF_MEMORY or NOT_OPEN. After OUT_OF_MEMORY
- * betable_reply_count is 0. */
+ * betable_refused_count is 0. The rows of a load are read, sorted by key and dropped; no tree is made. The table is that in the file, if the session has one.
+ * DONE, OUT_OF_MEMORY or NOT_OPEN. After OUT_OF_MEMORY betable_reply_count is 0. */
 betable_status betable_check(betable_session *session, const unsigned char *script, size_t length) BETABLE_NOT_NULL;
 
 /* Finds why the first command of a script would be refused because of its records, on the table as it is: the lines of a batch, the key of a get, the text of a
  * load, or the bounds of a scan or of sums. The command is not carried out, and the replies are kept, so you can ask directly after a run in which the command
- * was refused. If several records or fields are at fault, the reason is that of the refusal in the reply, and of these the first. REFUSED if there is a reason,
- * and otherwise DONE, OUT_OF_MEMORY or NOT_OPEN. */
+ * was refused. If several records or fields are at fault, the reason is that of the refusal in the reply, and of these the first. The table is that in the
+ * file, if the session has one. REFUSED if there is a reason, and otherwise DONE, OUT_OF_MEMORY or NOT_OPEN. */
 betable_status betable_explain(betable_session *session, const unsigned char *script, size_t length, betable_reason *reason) BETABLE_NOT_NULL;
 
 /* The calls on packed bytes do what commands do, without text in between. Packed bytes begin with the letters BTV, the version of the layout, 1, and a number of
@@ -168,15 +171,17 @@ betable_status betable_explain(betable_session *session, const unsigned char *sc
  * bytes, are one byte for the length and then the bytes; a flag is one byte, 0 or 1. docs/C.md has examples.
  *
  * Their replies replace those of the last call, and are read by betable_replies_length and betable_copy_replies. They are rows: the letters BTV, the version,
- * and the values of each row, one row after another, to the end. */
+ * and the values of each row, one row after another, to the end.
+ *
+ * All but betable_apply are questions. They ask the table in the file, if the session has one. In a group it has the changes of the group so far. */
 
 /* Applies changes in order: all of them, or none. After the header, whose number is that of the changes, each change is
  *   - a put: 0, and the values of all columns;
  *   - a del: 1, and the values of the key columns; or
  *   - an upsert: 2, the values of the key columns, the number of operations in one byte, and each operation: 0 for set, 1 for add, 2 for max or 3 for min, the
  *     place of its column, counted from 0, in one byte, and the value to set, or the number in eight bytes.
- * There may be more changes than the 65,536 messages of a batch. The reply is empty. DONE, OUT_OF_MEMORY, NOT_OPEN or REFUSED. After OUT_OF_MEMORY the table is
- * as it was, or lost. */
+ * There may be more changes than the 65,536 messages of a batch. The reply is empty. It is for a session without a file. DONE, OUT_OF_MEMORY, NOT_OPEN or
+ * REFUSED. After OUT_OF_MEMORY the table is as it was, or lost. */
 betable_status betable_apply(betable_session *session, const unsigned char *changes, size_t length, betable_fault *fault) BETABLE_NOT_NULL;
 
 /* Replies with the row of a key, or with no row. After the header, whose number is 1, are the values of the key columns. DONE, OUT_OF_MEMORY, NOT_OPEN or
@@ -239,7 +244,7 @@ size_t betable_reply_count(betable_session *session) BETABLE_NOT_NULL;
 bool betable_reply(betable_session *session, size_t place, betable_reply_place *reply) BETABLE_NOT_NULL;
 
 /* Whether the table was lost because an allocation failed while it was changed. A lost table stays lost, and each command on it except `table` has the reply
-   'refused 18 Failed'. */
+   'refused 18 Failed'. The table is that in the file, if the session has one. */
 bool betable_is_lost(betable_session *session) BETABLE_NOT_NULL;
 
 /* Closes a session and frees its memory. DONE or NOT_OPEN. */
@@ -247,7 +252,7 @@ betable_status betable_close(betable_session *session) BETABLE_NOT_NULL;
 
 /* A table in a file. These calls say which calls of the file the host is to make, and make none themselves: betable_file.h has calls that make them. The file is
  * that of `betable_engine --keep`. It is proved that a crash loses nothing that was told, if the host makes the calls in order, makes all of them before it tells
- * a reply, and makes none after one that failed. The calls on scripts and packed bytes above do not use the table in the file. */
+ * a reply, and makes none after one that failed. */
 
 /* A call of the file that the host is to make. */
 typedef enum {
@@ -284,7 +289,21 @@ bool betable_keep_is_due(betable_session *session) BETABLE_NOT_NULL;
  * now, as while an index is building. The result is one of betable_keep_run. */
 betable_status betable_keep_checkpoint(betable_session *session) BETABLE_NOT_NULL;
 
-/* The number of calls of the file that the last betable_keep_open, betable_keep_run or betable_keep_checkpoint asks for. */
+/* Begins a group: what the requests of betable_keep_add change is kept together by betable_keep_commit, or none of it. The replies are emptied, and there are
+ * no calls of the file to make. In a group betable_keep_run, betable_keep_checkpoint and betable_keep_begin return NOT_KEPT. DONE, NOT_OPEN or NOT_KEPT. */
+betable_status betable_keep_begin(betable_session *session) BETABLE_NOT_NULL;
+
+/* Carries out requests of a group, with replies as those of betable_keep_run, which are to be told after the commit. There are no calls of the file to make.
+ * REFUSED if the requests are not whole frames: nothing has changed. DONE, NOT_OPEN, NOT_KEPT, or OUT_OF_MEMORY, after which the group is gone, and the file is
+ * to be opened again. */
+betable_status betable_keep_add(betable_session *session, const unsigned char *requests, size_t length) BETABLE_NOT_NULL;
+
+/* Keeps the requests of a group, and empties the replies. A crash leaves the changes of all of them, or of none. After DONE make the calls of the file, of
+ * which there are none if nothing has changed, and tell no reply of the group before. DONE, NOT_OPEN, NOT_KEPT, or OUT_OF_MEMORY or FILE_TOO_LONG, after which
+ * the group is gone, and the file is to be opened again. */
+betable_status betable_keep_commit(betable_session *session) BETABLE_NOT_NULL;
+
+/* The number of calls of the file that the last betable_keep_open, betable_keep_run, betable_keep_checkpoint or betable_keep_commit asks for. */
 size_t betable_file_call_count(betable_session *session) BETABLE_NOT_NULL;
 
 /* Tells what the call of the file at a place is, counted from 0. False if there is none; then nothing is written. */

@@ -24,7 +24,7 @@
 //! ```
 //!
 //! An [`Engine`] has the same calls. It is a process of its own, which works on each call by several threads: docs/ENGINE.md says when to use which. A
-//! [`KeptSession`] has them on a table in a file.
+//! [`KeptSession`] has them on a table in a file, and so has a [group](KeptSession::group) of calls that are kept together.
 //!
 //! A call takes a session by `&mut`, so one call at a time uses it. It is `Send`, so it goes from thread to thread, and `Mutex<Session>` is used by several. It
 //! is closed when it is dropped. Cargo builds this crate with Cargo.toml; clients/rust/build uses only rustc. Both link the libbt_c.a of the folder that
@@ -48,7 +48,7 @@ mod values;
 pub use changes::{Changes, Op};
 pub use engine::{EngineOptions, Process};
 pub use fault::{Fault, FileRefusal};
-pub use kept::KeptFile;
+pub use kept::{FileGroup, KeptFile};
 pub use library::{Library, OutOfMemory};
 pub use link::Link;
 pub use reason::{Problem, Reason};
@@ -83,6 +83,10 @@ pub type Engine = Table<Process>;
 
 /// A table in the memory of this process and in a file: what a call has changed is on the disk when it returns. A script or a check fails with a [`Fault`].
 pub type KeptSession = Table<KeptFile>;
+
+/// A group of calls on a table in a file: all of them are on the disk when [`commit`](KeptGroup::commit) returns. It is undone if it is dropped before. Its calls
+/// see its changes.
+pub type KeptGroup<'s> = Table<FileGroup<'s>>;
 
 impl<L> Table<L> {
     pub(crate) fn of(link: L) -> Table<L> {

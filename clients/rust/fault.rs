@@ -34,10 +34,13 @@ pub enum Fault {
     Ended { status: Option<ExitStatus> },
     /// A file was not opened, and is as it was.
     FileRefused { reason: FileRefusal },
-    /// A call of the system failed, with this number of `errno`. A call of an open table may have been kept: open the file again to see.
+    /// A call of the system failed, with this number of `errno`. A call of an open table may have been kept:
+    /// [`KeptSession::roll_back`](crate::KeptSession::roll_back) says so.
     FileFailed { code: i32 },
-    /// Nothing was done, since an earlier call on the table in the file failed: open the file again.
+    /// Nothing was done, since an earlier call on the table in the file failed: roll back, or open the file again.
     Closed,
+    /// Nothing was done, since a group was forgotten, and is open: roll back.
+    GroupOpen,
     /// Another script had the id of a script that is to run once.
     RequestReused,
     /// A script was to run once, and the engine does not keep its table.
@@ -128,7 +131,8 @@ impl fmt::Display for Fault {
             Fault::Ended { status: None } => out.write_str("the engine has ended"),
             Fault::FileRefused { reason } => reason.fmt(out),
             Fault::FileFailed { code } => io::Error::from_raw_os_error(*code).fmt(out),
-            Fault::Closed => out.write_str("an earlier call failed: open the file again"),
+            Fault::Closed => out.write_str("an earlier call failed: roll back, or open the file again"),
+            Fault::GroupOpen => out.write_str("a group is open: roll back"),
             Fault::RequestReused => out.write_str("another script had this id: use a new one for each script"),
             Fault::NotKept => out.write_str("only an engine that keeps its table runs a script once"),
             Fault::NotStarted { kind } => write!(out, "the engine was not started: {kind}"),

@@ -28,6 +28,11 @@ pub trait Exchange {
     /// fails.
     fn exchange(&mut self, kind: u8, payload: &[&[u8]], reply: &mut Vec<u8>) -> Result<(), Fault>;
 
+    /// Makes a call on packed bytes, as [`Calls::call`].
+    fn call_packed(&mut self, request: Request, packed: &[u8], reply: &mut Vec<u8>) -> Result<(), Fault> {
+        self.exchange(request as u8, &[packed], reply)
+    }
+
     /// The fault after a reply that is none.
     fn other_version(&mut self) -> Fault;
 
@@ -70,7 +75,7 @@ impl<E: Exchange> Calls for E {
     }
 
     fn call(&mut self, request: Request, packed: &[u8], reply: &mut Vec<u8>) -> Result<(), Fault> {
-        self.exchange(request as u8, &[packed], reply)
+        self.call_packed(request, packed, reply)
     }
 }
 

@@ -26,7 +26,7 @@ struct ReplyPlace {
 /// Why the library refused a call, and where. 0 is no item, and no column.
 #[repr(C)]
 #[derive(Default)]
-struct CallFault {
+pub(crate) struct CallFault {
     refusal: u64,
     item: u64,
     column: u64,
@@ -66,9 +66,17 @@ extern "C" {
     fn betable_close(session: *mut Handle) -> u32;
 }
 
-const DONE: u32 = 0;
+pub(crate) const DONE: u32 = 0;
+pub(crate) const OUT_OF_MEMORY: u32 = 1;
 const REPLY_CUT: u32 = 2;
-const REFUSED: u32 = 5;
+pub(crate) const REFUSED: u32 = 5;
+
+impl From<CallFault> for Fault {
+    fn from(fault: CallFault) -> Fault {
+        Fault::refused(fault.refusal, fault.item, fault.column)
+    }
+}
+
 /// The library ran out of memory.
 #[derive(Debug)]
 pub struct OutOfMemory {
@@ -159,7 +167,7 @@ impl Calls for Library {
         // SAFETY: the session is open, and `call` reads these bytes and writes this fault, none of which overlap.
         match unsafe { call(&mut self.handle, packed.as_ptr(), packed.len(), &mut fault) } {
             DONE => self.copy_reply(reply),
-            REFUSED => Err(Fault::refused(fault.refusal, fault.item, fault.column)),
+            REFUSED => Err(fault.into()),
             _ => Err(Fault::OutOfMemory { is_lost: self.is_lost() }),
         }
     }

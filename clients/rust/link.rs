@@ -24,8 +24,8 @@ pub trait Calls {
     fn call(&mut self, request: Request, packed: &[u8], reply: &mut Vec<u8>) -> Result<(), Fault>;
 }
 
-/// Where a table is: in the library ([`Library`](crate::Library)), in the process of an engine ([`Process`](crate::Process)), or in a file
-/// ([`KeptFile`](crate::KeptFile)). No other type has this trait.
+/// Where a table is: in the library ([`Library`](crate::Library)), in the process of an engine ([`Process`](crate::Process)), in a file
+/// ([`KeptFile`](crate::KeptFile)), or in a group ([`FileGroup`](crate::FileGroup)). No other type has this trait.
 ///
 /// A function for all takes a `&mut Table<L>`, where `L: Link`.
 pub trait Link: Calls {}

@@ -2,7 +2,7 @@
 //!
 //!     adds engine | file PATH FIRST LAST
 //!
-//! With `file` the table is in this process, which makes a checkpoint after some of the requests.
+//! With `file` the table is in this process, which keeps some of the requests in groups, undoes others before it makes them, and makes a checkpoint after some.
 
 use betable::{Engine, EngineOptions, Fault, KeptSession};
 use std::env::args;
@@ -14,12 +14,28 @@ fn script(number: u128) -> String {
 
 fn add(mut session: KeptSession, first: u128, last: u128) -> Result<(), Fault> {
     println!("{}", std::process::id());
-    for number in first..=last {
-        session.once(&number.to_le_bytes(), script(number).as_bytes())?;
-        println!("{number}");
-        if number % 50 == 0 {
+    let mut number = first;
+    while number <= last {
+        let next = if number % 10 == 0 { last.min(number + 4) + 1 } else { number + 1 };
+        if number % 17 == 0 {
+            let mut undone = session.group()?;
+            undone.run(script(number).as_bytes())?;
+            undone.once(&number.to_le_bytes(), script(number).as_bytes())?;
+        }
+        if next == number + 1 {
+            session.once(&number.to_le_bytes(), script(number).as_bytes())?;
+        } else {
+            let mut group = session.group()?;
+            for one in number..next {
+                group.once(&one.to_le_bytes(), script(one).as_bytes())?;
+            }
+            group.commit()?;
+        }
+        (number..next).for_each(|one| println!("{one}"));
+        if next % 50 == 5 {
             session.checkpoint()?;
         }
+        number = next;
     }
     Ok(())
 }

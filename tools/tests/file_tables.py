@@ -1,6 +1,7 @@
 """Tests of tables in files of this process, by the clients in C, Rust and Python: the tests of `betable_engine --keep` on programs that do the same by them, and
 files that one of them writes and another one opens. They need the program betable_engine too, and do not build it."""
 
+import errno
 import os
 import pickle
 import re
@@ -17,7 +18,7 @@ from unittest import SkipTest, TestCase
 
 from . import csv_puts, kept_checkpoints, kept_tables, python_changes, python_columns, python_ranges
 from ..frames import INVALID, once
-from .clients import betable, build_extension, library, programs, rust_program, worked_scripts
+from .clients import betable, build_extension, compiled_by_rust, library, programs, rust_program, worked_scripts
 from .common import SECONDS, TABLE, TOP, fault_of, needs, output_of, type_of_fault
 from .durable import durable
 from .engine_clients import CLIENT, FILE_CLIENT, HERE, SANITIZERS, STRICT, ended, pairs
@@ -83,6 +84,17 @@ def sanitized(name, *options):
 
 
 @cache
+def group_steps(language):
+    """A program that keeps groups of two batches: see tools/tests/c/group_steps.c."""
+    if language == "rust":
+        return rust_program(HERE / "rust/group_steps.rs")
+    path = Path(programs().name) / "group_steps"
+    if not path.exists():
+        output_of(["cc", "-O1", *STRICT, HERE / "c/group_steps.c", f"{library()}/libbt_c.a", "-o", path])
+    return path
+
+
+@cache
 def languages():
     return ["frames", "calls", "python", *(["rust"] if shutil.which("rustc") else [])]
 
@@ -94,8 +106,10 @@ def setUpModule():
     for language in languages():
         kept_here(language)
     if shutil.which("rustc"):
-        for name in ("typed", "scripts", "checks"):
+        for name in ("typed", "scripts", "checks", "groups"):
             rust_program(HERE / f"rust/{name}.rs")
+    for language in ("c", *(["rust"] if shutil.which("rustc") else [])):
+        group_steps(language)
 
 
 @contextmanager
@@ -302,6 +316,12 @@ class InC(kept_tables.KeptTables):
         wrapped = "-Wl," + ",".join(f"--wrap={name}" for name in ("open", "fsync", "fdatasync", "ftruncate", "pwrite", "flock"))
         self.assertEqual(ended(sanitized("engine_file", wrapped), kept_tables.program(), self.path), (0, "", ""))
 
+    def test_groups_and_faults_and_questions_of_a_file(self):
+        """As tools/tests/c/file_groups.c says."""
+        calls = "open fsync fdatasync ftruncate pwrite flock rename malloc".split()
+        wrapped = [f"--wrap={name}" for name in (*calls, *(f"betable_keep_{name}" for name in "run add commit checkpoint".split()))]
+        self.assertEqual(ended(sanitized("file_groups", f"-Wl,{','.join(wrapped)}"), self.path), (0, "", ""))
+
     def test_requests_that_are_sent_ahead_are_one_group(self):
         with instead_of_the_engine("calls"):
             kept_tables.Files.test_requests_that_are_sent_ahead_are_one_group(self)
@@ -315,6 +335,132 @@ class InC(kept_tables.KeptTables):
                 found = "".join(path.read_text() for path in Path(logs).iterdir())
                 of_log = rf"FILE DESCRIPTORS: 4 open \(3 std\) at exit\.|Open file descriptor \d+: {logs}/\d+|   <inherited from parent>"
                 self.assertEqual(re.sub(rf"==\d+== ({of_log})?\n", "", found), "")
+
+
+# ---- groups ----
+
+
+GROUPS = 3
+
+
+class Groups(kept_tables.FaultyCalls):
+    language = "c"
+
+    def steps(self, first, last, *killed, failed=(-1, -1), killed_at=-1, part=kept_tables.NOTHING, refused=-1):
+        """Keeps the groups of two numbers and those between them, with a fault: the status, the lines and the operations on files."""
+        trace = self.path.parent.with_name("trace")
+        faults = f"{self.path.parent} {trace} {killed_at} {failed[0]} {failed[1]} {part} {errno.ENOSPC} {refused}"
+        words = [group_steps(self.language), self.path, str(first), str(last), *map(str, killed)]
+        done = subprocess.run(words, capture_output=True, text=True, timeout=SECONDS, env={**os.environ, "LD_PRELOAD": self.library, "FAULTS": faults})
+        self.assertEqual(done.stderr, "")
+        return done.returncode, done.stdout.split(), list(kept_tables.operations_of(trace.read_bytes()))
+
+    def steps_of_new(self, **fault):
+        """All groups, in a new file."""
+        self.path.unlink(missing_ok=True)
+        keep(self.path, TABLE + "\n")
+        return self.steps(0, GROUPS - 1, **fault)
+
+    def has_groups_of_batches(self, *counts):
+        """The table has the batches of one of these numbers of groups, and takes those of the others."""
+        numbers = self.rows_of_batches()
+        self.assertIn(len(numbers), [2 * count for count in counts])
+        self.assertEqual(numbers, list(range(len(numbers))))
+        self.assertEqual(self.steps(len(numbers) // 2, GROUPS)[:2], (0, ["kept"] * (GROUPS + 1 - len(numbers) // 2)))
+        self.assertEqual(self.rows_of_batches(), list(range(2 * GROUPS + 2)))
+
+    def operations(self):
+        """Those of a run without a fault. Each group is a write and a sync."""
+        status, lines, operations = self.steps_of_new()
+        self.assertEqual((status, lines), (0, ["kept"] * GROUPS))
+        self.assertEqual([letter for letter, *_ in operations[-2 * GROUPS :]], ["w", "s"] * GROUPS)
+        return operations
+
+    def test_a_group_is_one_of_the_file(self):
+        self.operations()
+        groups = [b"".join(request(batch(number)) for number in range(2 * group, 2 * group + 2)) for group in range(GROUPS)]
+        if self.language == "c":  # the other one packs its changes
+            self.has_groups(TABLE + "\n", *groups)
+        self.has_groups_of_batches(GROUPS)
+
+    def test_a_kill_in_a_group_undoes_it(self):
+        for killed in range(GROUPS):
+            self.path.unlink(missing_ok=True)
+            keep(self.path, TABLE + "\n")
+            self.assertEqual(self.steps(0, GROUPS - 1, killed)[:2], (-signal.SIGKILL, ["kept"] * killed))
+            self.has_groups_of_batches(killed)
+
+    def test_the_process_is_killed_at_each_call(self):
+        for killed in range(len(self.operations())):
+            for part in (kept_tables.NOTHING, kept_tables.HALF, kept_tables.ALL_BUT_A_BYTE, kept_tables.WHOLE):
+                with self.subTest(killed=killed, part=part):
+                    status, lines, _ = self.steps_of_new(killed_at=killed, part=part)
+                    self.assertEqual((status, set(lines) <= {"kept"}), (-signal.SIGKILL, True))
+                    self.has_groups_of_batches(len(lines), len(lines) + 1)
+
+    def test_a_write_that_fails_is_undone_and_a_sync_is_not(self):
+        operations = self.operations()
+        begin = len(operations) - 2 * GROUPS
+        for failed in range(len(operations)):
+            for part in (kept_tables.NOTHING, kept_tables.HALF):
+                with self.subTest(failed=failed, part=part):
+                    status, lines, found = self.steps_of_new(failed=(failed, failed), part=part)
+                    kept = ["kept"] * max((failed - begin) // 2, 0)
+                    if failed < begin:
+                        self.assertEqual((status, lines), (3, []))
+                        self.has_groups_of_batches(0)
+                    elif operations[failed][0] == "w":
+                        self.assertEqual((status, lines), (0, [*kept, "undone", *["kept"] * (GROUPS - len(kept))]))
+                        at = operations[failed][2]
+                        self.assertIn(("t", str(self.path), at, b""), found)
+                        self.has_groups_of_batches(GROUPS)
+                    else:
+                        self.assertEqual((status, lines), (1, [*kept, "unknown"]))
+                        self.has_groups_of_batches(len(kept), len(kept) + 1)
+
+    def test_each_allocation_is_refused(self):
+        """Some are not needed. A group that was refused is undone, and made again."""
+        refused = unneeded = undone = 0
+        while unneeded < 20:
+            status, lines, _ = self.steps_of_new(refused=refused)
+            if status == 3:
+                self.assertEqual(lines, [])
+            else:
+                self.assertEqual((status, lines.count("kept"), set(lines) <= {"kept", "undone"}), (0, GROUPS, True))
+                undone += len(lines) - GROUPS
+            unneeded = unneeded + 1 if status == 0 and len(lines) == GROUPS else 0
+            self.has_groups_of_batches(0 if status == 3 else GROUPS)
+            refused += 1 + refused // 20
+        self.assertGreater(undone, 5)
+
+    def test_what_is_not_cut_off_is_not_undone(self):
+        operations = self.operations()
+        for failed in range(len(operations) - 2 * GROUPS, len(operations), 2):
+            status, lines, found = self.steps_of_new(failed=(failed, failed + 1), part=kept_tables.HALF)
+            self.assertEqual((status, lines[-1], [letter for letter, *_ in found].count("t")), (1, "unknown", 0))
+            self.has_groups_of_batches(len(lines) - 1)
+
+
+@needs("rustc")
+class GroupsInRust(Groups):
+    language = "rust"
+    test_each_allocation_is_refused = None  # the standard library of Rust ends the process
+
+    def test_calls_of_a_group(self):
+        """As tools/tests/rust/groups.rs says, which has the lines of the document."""
+        source = HERE / "rust/groups.rs"
+        self.assertEqual(ended(rust_program(source), self.path), (0, "", ""))
+        part = (TOP / "docs/C.md").read_text().split("\n## A table in a file\n")[1]
+        self.assertIn(part.split("```rust\n")[1].split("```")[0], source.read_text().replace("\n    ", "\n"))
+
+    def test_a_group_has_no_group_and_no_checkpoint_and_its_session_makes_no_call(self):
+        opened = 'let mut session = betable::KeptSession::open("a").unwrap();\n    let mut group = session.group().unwrap();'
+        reasons = {"group.group()": "no method named `group`", "group.checkpoint()": "no method named `checkpoint`", "session.get(&1)": "cannot borrow"}
+        for number, (call, reason) in enumerate(reasons.items()):
+            source = Path(programs().name) / f"in_a_group_{number}.rs"
+            source.write_text(f"fn main() {{\n    {opened}\n    let _ = {call};\n    let _ = group.get(&1);\n}}\n")
+            compiled, _ = compiled_by_rust(source)
+            self.assertEqual((compiled.returncode != 0, compiled.stderr.count("error[E0"), reason in compiled.stderr), (True, 1, True), compiled.stderr)
 
 
 # ---- the calls beside those of a session ----
