@@ -96,7 +96,7 @@ session =
             (
               option _ (store.the_send _ _ file_ghosts.ghosts state file.the_send sent),
               (
-                option _ (group.the_send _ _ file_ghosts.ghosts joined file.the_send sent),
+                option _ (group.the_send _ _ file_ghosts.ghosts joined state file.the_send sent),
                 (Vec-send HostCall.the_row host_call.the_send, tt),
               ),
             ),
