@@ -15,9 +15,9 @@ other and begins with another one:
     redis        redis-server, if it is installed: a hash for a row, in one MULTI for a batch, written before the clock runs; appendonly, appendfsync always
 
 Printed are rows a second by the clock, and the ratios to SQLite in the same round, the middle ones of all rounds. Then the time to open a table of many rows,
-from its log and from a checkpoint, beside SQLite's to open a file of the same rows and read each of them once, and how long a put takes that writes a checkpoint.
-Then the processor time of single reads of a durable table, of a session with the same rows, and of SQLite. The files are in a folder that is made in FOLDER, or where temporary files are. The library is
-that of BETABLE_LIBRARY, or of out/ of this repository.
+from its batches and from a checkpoint, beside SQLite's to open a file of the same rows and read each of them once, and how long a put takes that writes a
+checkpoint. Then the processor time of single reads of a durable table, of a session with the same rows, and of SQLite. The files are in a folder that is made
+in FOLDER, or where temporary files are. The library is that of BETABLE_LIBRARY, or of out/ of this repository.
 """
 
 import argparse
@@ -45,6 +45,7 @@ CITIES = ["Oslo", "Bergen", "Trondheim", "Stavanger", "Molde"]
 # Rows of a batch, and of all batches.
 SIZES = {1: 2_000, 100: 200_000, 1_000: 400_000, 10_000: 400_000}
 GROUP, LARGE_BATCH = 16, 10_000
+DUE = 1 << 24  # bytes of a file at which a checkpoint is due
 READS, PAGE = 2_000, 100  # calls of each kind of read, and rows of a page
 Row = tuple[int, str, int]
 Way = Callable[[str, list[Row], int], float]
@@ -202,10 +203,13 @@ def ingest(folder: str, rounds: int) -> None:
 
 
 def opened(path: str) -> float:
+    """How long a copy takes to open, which a checkpoint at its end may change."""
+    copy = f"{path}.copy"
+    shutil.copyfile(path, copy)
     begin = time.perf_counter()
-    table = durable.open(path)
-    seconds = time.perf_counter() - begin
-    table.close()
+    with durable.open(copy):
+        seconds = time.perf_counter() - begin
+    os.remove(copy)
     return seconds
 
 
@@ -219,20 +223,20 @@ def read(path: str, query: str) -> float:
 
 
 def size_of(path: str) -> str:
-    return f"{sum(os.path.getsize(path + end) for end in ('', '-wal') if os.path.exists(path + end)) / 1e6:.0f} MB"
+    return f"{os.path.getsize(path) / 1e6:.0f} MB"
 
 
 def seconds_with_checkpoint(path: str) -> float:
-    """How long a put takes that makes the log longer than the checkpoint."""
-    with durable.open(path, checkpoint_bytes=1) as table:
-        size, count = os.path.getsize(path), table.checkpoint_count
+    """How long a put takes before which a checkpoint is due."""
+    with durable.open(path) as table:
+        count, most = table.checkpoint_count, 4 * table.file_bytes + DUE
         while True:
             rows = [(number, "Oslo", 1) for number in range(10_000)]
             begin = time.perf_counter()
             table.put(rows)
             if table.checkpoint_count > count:
                 return time.perf_counter() - begin
-            if table.log_bytes > 2 * size:
+            if table.file_bytes > most:
                 sys.exit("durable: no checkpoint was written")
 
 
@@ -240,20 +244,23 @@ def starts(folder: str, count: int, rounds: int) -> None:
     rows, found, notes = rows_of(count), {}, {}
     for size, index in ((1, ""), (100, ""), (LARGE_BATCH, ""), (LARGE_BATCH, INDEX)):
         path, name = f"{folder}/table", f"replay of batches of {size:,}{', with an index' if index else ''}"
-        with durable.open(path, sync=False, checkpoint_bytes=None) as table:
-            table.run(HEAD + index)
+        with durable.open(path) as table:
+            # In a group no checkpoint is made, and the copy has none either.
             with table.group():
+                table.run(HEAD + index)
                 table.put(rows, most=size)
+            table.backup(f"{path}.batches")
             table.run("rebuild primary\n")
             images = table.replies("image primary\n")
-        found[name], notes[name] = [opened(path) for _ in range(rounds)], size_of(path)
-        with durable.open(path) as table:
             begin = time.perf_counter()
             table.checkpoint()
-            name = f"checkpoint{', with an index' if index else ''}"
-            found[f"{name}, written"] = [time.perf_counter() - begin]
+            seconds = time.perf_counter() - begin
             if table.replies("image primary\n") != images:
                 sys.exit("durable: the table is another one after a checkpoint")
+        found[name], notes[name] = [opened(f"{path}.batches") for _ in range(rounds)], size_of(f"{path}.batches")
+        os.remove(f"{path}.batches")
+        name = f"checkpoint{', with an index' if index else ''}"
+        found[f"{name}, written"] = [seconds]
         found[f"{name}, by a put"] = [seconds_with_checkpoint(path)]
         found[f"{name}, opened"], notes[f"{name}, opened"] = [opened(path) for _ in range(rounds)], size_of(path)
         os.remove(path)
@@ -270,7 +277,7 @@ def reads(folder: str, count: int, rounds: int) -> None:
     rows, dice, found = rows_of(count), random.Random(2), {}
     keys = [dice.randrange(count) for _ in range(READS)]
     path = f"{folder}/reads"
-    with durable.open(path, sync=False) as table, Session() as session, closing(sqlite_file(f"{path}.sqlite")) as db:
+    with durable.open(path) as table, Session() as session, closing(sqlite_file(f"{path}.sqlite")) as db:
         for one in (table, session):
             one.run(HEAD + INDEX)
             one.put(rows)

@@ -15,7 +15,7 @@ betable --version prints the version.
 betable engine answers requests of other programs, such as the clients; docs/ENGINE.md describes them.
 betable shell [PATH] is a prompt over a table in memory, or over the durable table of a file; docs/HOW_TO.md has an example.
 betable serve PATH --port N serves the durable table of a file by HTTP; docs/SERVICE.md has its endpoints.
-betable restore BACKUP PATH puts a backup in the place of a durable table; docs/DURABLE.md says what it does.
+betable convert OLD NEW converts a durable table of an earlier version; docs/DURABLE.md says what it does.
 END
     # A pipe whose reader has gone ends 'cat' by a signal.
     [ "$written" != 1 ] || echo "betable: write failed" >&2

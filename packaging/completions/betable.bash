@@ -14,7 +14,7 @@ _betable() {
     esac
     COMPREPLY=($(compgen -W "--script --workers --cut --grain --help --version" -- "$word"))
     if [ "$COMP_CWORD" = 1 ]; then
-        COMPREPLY+=($(compgen -W "shell engine serve restore copy explain from_csv to_csv draw" -- "$word"))
+        COMPREPLY+=($(compgen -W "shell engine serve convert copy explain from_csv to_csv draw" -- "$word"))
     fi
 }
 complete -o default -F _betable betable

@@ -6,7 +6,7 @@
  * removed, or the names in a folder are synced. Operations are counted from 0 since `faults_begin`. A sync is not carried out, since a kernel that keeps
  * running loses nothing.
  *
- * Allocations are refused too: the one with a given number, of those that are made while the test counts them.
+ * An allocation is refused too, the one with a given number.
  *
  * A trace is a file of records: a letter, the path, an offset, a length, each with a zero byte after it, followed by that many bytes.
  *
@@ -298,17 +298,7 @@ int open64(const char *path, int flags, ...)
     return open_file(path, flags, mode);
 }
 
-/* Allocations: from here on, until the same call with `false`, the count goes on, and the one with this number is refused. */
-void faults_count_requests(bool is_counting, long refused)
-{
-    is_counting_requests = is_counting;
-    refused_at = refused;
-}
-
-long faults_requests(void)
-{
-    return requests;
-}
+/* ---- allocations ---- */
 
 static bool is_refused(void)
 {

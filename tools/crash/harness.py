@@ -1,4 +1,4 @@
-"""Histories of a durable table under faults: the process is killed, the power is lost, operations on files fail, memory is refused.
+"""Histories of a durable table under faults: the process is killed, the power is lost, operations on files fail.
 
 What is in this module runs in a process into which faults.c is preloaded: `main` starts it so. Each history runs in a fork of it, on files below a folder of
 its own. Each check counts what it has looked at and what was wrong, with the first faults in words.
@@ -12,21 +12,17 @@ import os
 import random
 import shutil
 import signal
-import sqlite3
 import subprocess
 import sys
 import tempfile
-import zlib
 from collections.abc import Callable, Iterator
-from hashlib import sha256
 from itertools import chain, combinations
 from pathlib import Path
 from typing import Any, NamedTuple
 
-from history import CHECKPOINT_BYTES, FORMAT_1, PROBE, Backup, Once, Step, expected
+from history import PROBE, Backup, Once, Step, expected
 
-from betable import Session
-from betable.durable import table as durable
+from betable import durable
 
 HERE = Path(__file__).resolve().parent
 NOTHING, HALF, ALL_BUT_A_BYTE, WHOLE = range(4)
@@ -34,8 +30,6 @@ SECTOR = 512
 IN_DOUBT, FAILED = -1, -2  # notes that a step may be kept or not, and that a call failed
 MOST_FAILURES = 100  # of the calls of a client that goes on
 MOST_SUBSETS = 10  # for at most this many writes that are not synced, all subsets of them are checked
-HALVES = {(True, True): "with sync", (False, False): "without sync", (True, False): "then without sync", (False, True): "then with sync"}
-durable.LOG_PAGES = 6  # so that SQLite's log is written back some times in a short history
 
 
 class Operation(NamedTuple):
@@ -52,7 +46,6 @@ class Count:
 
     def __init__(self, name: str) -> None:
         self.name, self.looks, self.wrong, self.ahead, self.faults, self.doubts = name, 0, 0, 0, 0, 0
-        self.details = ""
         self.reasons: list[str] = []
 
     def look(self, what: str, check: Callable[[], int | None]) -> None:
@@ -69,7 +62,6 @@ class Count:
         parts = [f"{self.name}: {self.looks:,} looked at", f"{self.wrong:,} wrong"]
         parts += [f"{self.ahead:,} kept though not answered"] if self.ahead else []
         parts += [f"{self.faults:,} calls failed, {self.doubts:,} of them in doubt"] if self.faults else []
-        parts += [self.details] if self.details else []
         return "\n".join([", ".join(parts), *self.reasons])
 
 
@@ -129,33 +121,18 @@ def answered_steps(trace: list[Operation]) -> int:
     return max([0, *(operation.offset for operation in trace if operation.letter == "n")])
 
 
-def table_of(folder: str, *, sync: bool = True, make: Callable[[], Any] = Session) -> Any:
-    return durable.open(f"{folder}/table", sync=sync, checkpoint_bytes=CHECKPOINT_BYTES, make=make)
+def table_of(folder: str) -> durable.Durable:
+    return durable.open(f"{folder}/table")
 
 
-def go(folder: str, steps: list[Step], *, start: int = 0, syncs: tuple[bool, bool] = (True, True)) -> None:
-    """A client: its steps, each noted when it is answered. Half way it closes the table and opens it again, with or without sync."""
+def go(folder: str, steps: list[Step]) -> None:
+    """A client: its steps, each noted when it is answered. Half way it closes the table and opens it again."""
     middle = len(steps) // 2
-    for first, last, sync in ((start, middle, syncs[0]), (middle, len(steps), syncs[1])):
-        with table_of(folder, sync=sync) as table:
+    for first, last in ((0, middle), (middle, len(steps))):
+        with table_of(folder) as table:
             for number in range(first, last):
                 steps[number].make(table, number)
                 library().faults_note(ctypes.c_long(number + 1))
-
-
-def old_files(steps: list[Step]) -> dict[str, bytes]:
-    """A table's file of format 1, after steps that are made by `once`."""
-    with tempfile.TemporaryDirectory() as folder, Session() as session:
-        db = sqlite3.connect(f"{folder}/table", isolation_level=None)
-        db.executescript(FORMAT_1)
-        for number, step in enumerate(steps):
-            assert isinstance(step, Once)
-            script = step.script.encode()
-            replies = session.replies(script)
-            db.execute("INSERT INTO log VALUES(?, ?, ?)", (number + 1, script, zlib.crc32(replies, zlib.crc32(script))))
-            db.execute("INSERT INTO requests(id, script, replies) VALUES(?, ?, ?)", (f"step {number}", sha256(script).digest(), replies))
-        db.close()
-        return {"table": Path(folder, "table").read_bytes()}
 
 
 def go_before_answers(folder: str, steps: list[Step]) -> None:
@@ -203,46 +180,36 @@ def check_backup(folder: str, steps: list[Step], want: list[bytes]) -> None:
 # ---- the checks ----
 
 
-def kills(folder: str, steps: list[Step], *, every: int = 1, parts: tuple[int, ...] = (HALF, ALL_BUT_A_BYTE, WHOLE), is_control: bool = False, old: int = 0) -> Count:
-    """The process is killed at each operation, after a part of it is carried out. The first `old` steps are in a file of format 1."""
-    want, count, files = list(expected(steps)), Count("control of kills" if is_control else "killed, from format 1" if old else "killed"), old_files(steps[:old])
-    work = (lambda: go_before_answers(folder, steps)) if is_control else (lambda: go(folder, steps, start=old))
-    if status_of_fork(work, folder, files=files) != 0:
+def kills(folder: str, steps: list[Step], *, every: int = 1, parts: tuple[int, ...] = (HALF, ALL_BUT_A_BYTE, WHOLE), is_control: bool = False) -> Count:
+    """The process is killed at each operation, after a part of it is carried out."""
+    want, count = list(expected(steps)), Count("control of kills" if is_control else "killed")
+    work = (lambda: go_before_answers(folder, steps)) if is_control else (lambda: go(folder, steps))
+    if status_of_fork(work, folder) != 0:
         raise Wrong("the history does not go through")
     operations = [operation for operation in trace_of(folder) if operation.letter != "n"]
     for part in parts:
         for number in range(part % every, len(operations), every):
-            if status_of_fork(work, folder, kill_at=number, part=part, files=files) != -signal.SIGKILL:
+            if status_of_fork(work, folder, kill_at=number, part=part) != -signal.SIGKILL:
                 raise Wrong(f"operation {number} was not come to")
-            done = max(old, answered_steps(trace_of(folder)))
+            done = answered_steps(trace_of(folder))
             count.look(f"killed at operation {number}, part {part}", lambda: check_after_crash(folder, steps, want, done, done + 1))
     return count
 
 
-def power_losses(folder: str, steps: list[Step], *, subsets: int = MOST_SUBSETS, mixes: int = 2, syncs: tuple[bool, bool] = (True, True), is_control: bool = False,
-           old: int = 0, seed: int = 1) -> Count:  # fmt: skip
-    """The power is lost: of what was not synced each subset is on disk, and some with writes of which sectors are there, old, or zeros. What was answered without
-    sync may be lost, but for the control. The first `old` steps are in a file of format 1."""
-    name = "control of power lost" if is_control else f"power lost, {HALVES[syncs]}" + (", from format 1" if old else "")
-    want, count, dice, files = list(expected(steps)), Count(name), random.Random(seed), old_files(steps[:old])
-    if status_of_fork(lambda: go(folder, steps, start=old, syncs=syncs), folder, has_bytes=True, files=files) != 0:
+def power_losses(folder: str, steps: list[Step], *, subsets: int = MOST_SUBSETS, mixes: int = 2, is_control: bool = False, seed: int = 1) -> Count:
+    """The power is lost: of what was not synced each subset is on disk, and some with writes of which sectors are there, old, or zeros. The control is a
+    process that syncs nothing."""
+    want, count, dice = list(expected(steps)), Count("control of power lost" if is_control else "power lost"), random.Random(seed)
+    if status_of_fork(lambda: go(folder, steps), folder, has_bytes=True) != 0:
         raise Wrong("the history does not go through")
+    trace = [operation for operation in trace_of(folder) if not is_control or operation.letter != "s"]
     seen = set()
-    for what, found, answered in disks(folder, trace_of(folder), dice, subsets, mixes, files):
-        done = max(old, answered)
-        least = done if is_control else least_steps(done, len(steps) // 2, syncs)
+    for what, found, done in disks(folder, trace, dice, subsets, mixes):
         key = done, frozenset(found.items())
         if key not in seen:
             seen.add(key)
-            count.look(what, lambda: check_on_disk(found, folder, steps, want, least, done + 1))
+            count.look(what, lambda: check_on_disk(found, folder, steps, want, done, done + 1))
     return count
-
-
-def least_steps(done: int, middle: int, syncs: tuple[bool, bool]) -> int:
-    """How many steps of those that were answered are on disk."""
-    if done > middle:
-        return done if syncs[1] else middle
-    return done if syncs[0] else 0
 
 
 def check_on_disk(files: dict[str, bytes], folder: str, steps: list[Step], want: list[bytes], least: int, most: int) -> int:
@@ -260,10 +227,10 @@ class Disk:
     """What is on a disk before a place of a trace: the files by number with what is synced, and of all else the operations that are not synced. What a sync that
     failed had to write is lost for good, or all of it is there."""
 
-    def __init__(self, files: dict[str, bytes] = {}, *, loses: bool = True) -> None:
-        self.names = {name: number for number, name in enumerate(files)}  # as they are synced
-        self.current = {**self.names}  # as the process sees them
-        self.files = [*files.values()]
+    def __init__(self, *, loses: bool = True) -> None:
+        self.names: dict[str, int] = {}  # as they are synced
+        self.current: dict[str, int] = {}  # as the process sees them
+        self.files: list[bytes] = []
         self.loses = loses
         self.pending: list[tuple[int, Operation]] = []  # by number of the file, or -1 for names
 
@@ -319,9 +286,9 @@ class Disk:
         return {name: self.data(file, [one for number, one in there if number == file]) for name, file in names.items()}
 
 
-def last_disks(folder: str, trace: list[Operation], dice: random.Random) -> Iterator[tuple[str, dict[str, bytes]]]:
-    """Some of what may be on disk at the end of a trace."""
-    for loses in (True, False):
+def last_disks(folder: str, trace: list[Operation], dice: random.Random, manners: tuple[bool, ...] = (True, False)) -> Iterator[tuple[str, dict[str, bytes]]]:
+    """Some of what may be on disk at the end of a trace, if a sync that fails loses what it had to write, and if it does not."""
+    for loses in manners:
         disk = Disk(loses=loses)
         for operation in trace:
             if operation.letter != "n":
@@ -330,11 +297,9 @@ def last_disks(folder: str, trace: list[Operation], dice: random.Random) -> Iter
             yield f"{len(subset)} of {len(disk.pending)} there, {'nothing' if loses else 'all'} of failed syncs", disk.found_files(subset)
 
 
-def disks(
-    folder: str, trace: list[Operation], dice: random.Random, most: int, mixes: int, files: dict[str, bytes]
-) -> Iterator[tuple[str, dict[str, bytes], int]]:
+def disks(folder: str, trace: list[Operation], dice: random.Random, most: int, mixes: int) -> Iterator[tuple[str, dict[str, bytes], int]]:
     """What may be on disk, for each place of a trace before a sync, and at its end: what it is, the files, and how many steps were answered."""
-    disk, done = Disk(files), 0
+    disk, done = Disk(), 0
     for number, operation in enumerate([*trace, Operation("s", folder, 0, b"")]):
         if operation.letter == "n":
             done = operation.offset
@@ -403,7 +368,8 @@ def failures(folder: str, steps: list[Step], *, every: int = 1, lengths: tuple[i
             status = status_of_fork(lambda: go_on(folder, steps, want, is_control), folder, has_bytes=True, **words)
             trace = trace_of(folder)
             count.faults, count.doubts = count.faults + note_count(trace, FAILED) + note_count(trace, IN_DOUBT), count.doubts + note_count(trace, IN_DOUBT)
-            for what, files in last_disks(folder, trace, dice):
+            # After a sync that failed a table may be opened again with what the kernel shows, and the disk does not have (docs/DURABLE.md, InDoubt).
+            for what, files in last_disks(folder, trace, dice, (False,) if note_count(trace, IN_DOUBT) else (True, False)):
                 count.look(f"operation {number} failed and {what} at the end", lambda: check_on_disk(files, folder, steps, want, len(steps), len(steps)))
             count.look(f"operations {number} to {number + length - 1} fail", lambda: check_at_end(folder, steps, want, status))
             if not is_control:
@@ -438,7 +404,7 @@ def go_on(folder: str, steps: list[Step], want: list[bytes], is_control: bool) -
             if table is None:
                 table = table_of(folder)
                 if is_control:
-                    table._drop = lambda: None
+                    setattr(table._bytes, "_roll_back", lambda: True)
                 # In doubt, the table shows whether the step was kept. A step that was made by `once` is sent again.
                 if not steps[number].is_repeatable and table.replies(PROBE) == want[number + 1]:
                     number += 1
@@ -465,112 +431,6 @@ def stop(folder: str, steps: list[Step]) -> None:
         os.kill(os.getpid(), signal.SIGKILL)
     except Exception:
         os.kill(os.getpid(), signal.SIGKILL)
-
-
-def damages(folder: str, steps: list[Step], *, rounds: int, seed: int = 1) -> Count:
-    """Some bytes of the file of a closed table are changed at random: the table is as it was, or opening it says that it is not."""
-    if status_of_fork(lambda: go(folder, steps), folder) != 0:
-        raise Wrong("the history does not go through")
-    return changes(Count("bytes changed"), folder, steps, "table", rounds, random.Random(seed))
-
-
-def log_damages(folder: str, steps: list[Step], *, rounds: int, seed: int = 1) -> Count:
-    """Some bytes of what a crash has left in SQLite's log are changed: the same, but for the end of the log, which a loss of power may tear as well."""
-
-    def work() -> None:
-        table = table_of(folder)
-        for number, step in enumerate(steps):
-            step.make(table, number)
-        os._exit(0)
-
-    if status_of_fork(work, folder) != 0:
-        raise Wrong("the history does not go through")
-    return changes(Count("bytes of the log changed"), folder, steps, "table-wal", rounds, random.Random(seed))
-
-
-def changes(count: Count, folder: str, steps: list[Step], name: str, rounds: int, dice: random.Random) -> Count:
-    """Changes bytes of one of the files of a table: some of the file, or some in a row of SQLite's log, as elsewhere a second change hides the first one."""
-    want, files, refused, earlier = list(expected(steps)), {path.name: path.read_bytes() for path in Path(folder).iterdir()}, 0, 0
-    end = end_of_log(files[name]) if name == "table-wal" else len(files[name])
-    for number in range(rounds):
-        data = bytearray(files[name])
-        if name == "table-wal":
-            begin = dice.choice([dice.randrange(200), dice.randrange(len(data))])
-            places = list(range(begin, min(len(data), begin + dice.choice([1, 1, 1, 8, 512]))))
-        else:
-            places = dice.sample(range(len(data)), dice.choice([1, 1, 1, 2, 5]))
-        for place in places:
-            data[place] ^= 1 << dice.randrange(8) if dice.random() < 0.5 else dice.randint(1, 255)
-        put_files(folder, {**files, name: bytes(data)})
-        try:
-            with durable.open(f"{folder}/table") as table:
-                found = table.replies(PROBE)
-        except (durable.Corrupt, durable.NotATable, durable.NewerFormat):
-            refused += 1
-            count.look(f"change {number}", lambda: None)
-        except Exception as fault:
-            failed = fault
-            count.look(f"change {number}", lambda: fail(f"{type(failed).__name__}: {failed}"))
-        else:
-            is_earlier = found != want[-1] and max(places) >= end and found in want
-            earlier += is_earlier
-            count.look(f"change {number}", lambda: None if found == want[-1] or is_earlier else fail("the table is another one"))
-    count.details = f"{refused:,} of them refused" + (f", {earlier:,} at the end of the log taken for a loss of power" if name == "table-wal" else "")
-    return count
-
-
-def end_of_log(data: bytes) -> int:
-    """The place of the last frame of the last transaction but one of SQLite's log, where its frames begin if there is none. A frame has 24 bytes and a page."""
-    heads = {at: data[at : at + 24] for at in range(32, len(data), 24 + 4_096)}
-    ends = [at for at, head in heads.items() if head[8:16] == data[16:24] and head[4:8] != bytes(4)]
-    return ends[-2] if len(ends) > 1 else 32
-
-
-def fail(reason: str) -> None:
-    raise Wrong(reason)
-
-
-class Starved(Session):
-    """A session with one allocation that is refused."""
-
-    refused = -1
-
-    def replies(self, script: str | bytes) -> bytes:
-        library().faults_count_requests(True, ctypes.c_long(self.refused))
-        try:
-            return super().replies(script)
-        finally:
-            library().faults_count_requests(False, ctypes.c_long(-1))
-
-
-def memory_refusals(folder: str, steps: list[Step], *, every: int = 1) -> Count:
-    """Each request for memory in the runs of the scripts is refused. The step is rolled back and made again, or the process is gone."""
-    want, count = list(expected(steps)), Count("memory refused")
-
-    def work() -> None:
-        # The message of a process that is out of memory is ignored.
-        os.dup2(os.open(os.devnull, os.O_WRONLY), 2)
-        with table_of(folder, make=Starved) as table:
-            for number, step in enumerate(steps):
-                try:
-                    step.make(table, number)
-                except durable.RolledBack:
-                    library().faults_note(ctypes.c_long(FAILED))
-                    step.make(table, number)
-                library().faults_note(ctypes.c_long(number + 1))
-        Path(f"{folder}.requests").write_text(str(library().faults_requests()))
-
-    Starved.refused = -1
-    if status_of_fork(work, folder) != 0:
-        raise Wrong("the history does not go through")
-    for refused in range(0, int(Path(f"{folder}.requests").read_text()), every):
-        Starved.refused = refused
-        status = status_of_fork(work, folder)
-        trace = trace_of(folder)
-        done = answered_steps(trace)
-        count.faults += note_count(trace, FAILED)
-        count.look(f"request {refused} refused, status {status}", lambda: check_after_crash(folder, steps, want, done, done + 1))
-    return count
 
 
 # ---- the process ----

@@ -15,23 +15,7 @@ from typing import Any
 
 from betable import Session
 
-IMAGE = "image {}\n"
-# How long a log is for a checkpoint by itself. Then images depend on when it was written, and rows alone are compared.
-CHECKPOINT_BYTES = int(os.environ.get("BETABLE_CHECKPOINT_BYTES", 0)) or None
-PROBE = "".join(f"{'' if CHECKPOINT_BYTES else IMAGE.format(name)}scan {name}\ngo\n" for name in ("primary", "q", "c", "b"))
-
-# What made a table's file before there was format 2.
-FORMAT_1 = """
-    PRAGMA journal_mode=WAL;
-    CREATE TABLE about(engine INTEGER NOT NULL, number INTEGER NOT NULL, checksum INTEGER NOT NULL, rollbacks INTEGER NOT NULL);
-    CREATE TABLE checkpoint(part INTEGER PRIMARY KEY, text BLOB NOT NULL);
-    CREATE TABLE log(number INTEGER PRIMARY KEY, script BLOB NOT NULL, checksum INTEGER NOT NULL);
-    CREATE TABLE requests(number INTEGER PRIMARY KEY, id TEXT NOT NULL UNIQUE, script BLOB NOT NULL, replies BLOB NOT NULL);
-    INSERT INTO about VALUES(1, 0, 0, 0);
-    PRAGMA application_id=0x6274626C;
-    PRAGMA user_version=1;
-"""
-
+PROBE = "".join(f"image {name}\nscan {name}\ngo\n" for name in ("primary", "q", "c", "b"))
 
 class Plain(Session):
     """A session with the calls of a durable table that keeps nothing."""

@@ -282,7 +282,7 @@ class Memory(TestCase):
         with session_after(FILLED) as session:
             before = images(session)
             session.check("get x\n")
-            kind = ctypes.CFUNCTYPE(ctypes.c_uint, ctypes.POINTER(client.library._Handle), ctypes.c_char_p, ctypes.c_size_t)
+            kind = ctypes.CFUNCTYPE(ctypes.c_uint, ctypes.POINTER(client.library.Handle), ctypes.c_char_p, ctypes.c_size_t)
             other = OtherLibrary(session, {"betable_check": kind(lambda *_: OUT_OF_MEMORY)})
             fault = fault_of(lambda: session.check("get x\n"))
             other.end(session)

@@ -90,7 +90,7 @@ class OtherLibrary:
 def library_without_memory(session, calls=PACKED_CALLS):
     """A library whose calls on packed bytes return that memory ran out, in a session."""
     module = betable().library
-    kind = ctypes.CFUNCTYPE(ctypes.c_uint, ctypes.POINTER(module._Handle), ctypes.c_char_p, ctypes.c_size_t, ctypes.POINTER(module._Fault))
+    kind = ctypes.CFUNCTYPE(ctypes.c_uint, ctypes.POINTER(module.Handle), ctypes.c_char_p, ctypes.c_size_t, ctypes.POINTER(module.Fault))
     return OtherLibrary(session, {name: kind(lambda *_: module.OUT_OF_MEMORY) for name in calls})
 
 

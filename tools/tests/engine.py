@@ -30,7 +30,7 @@ from ..frames import APPLY, CHECK, COLUMNS, DONE, EXPLAIN, GET, INVALID, LAST_PA
 from . import csv_puts, python_changes, python_columns, python_ranges
 from .clients import WORKED, betable, build_extension, library
 from .common import SECONDS, TOP, fault_of, run
-from .durable import durable, folder
+from .durable import folder
 
 SOME_CREWS = [(1, 2, 64), (2, 1, 1), (4, 1, 1), (4, 2, 64), (4, 6, 16)]
 TABLE = b"table 4 8 4 1 id:int city:text qty:int\n"
@@ -47,7 +47,6 @@ def program():
 def setUpModule():
     library()
     build_extension()
-    durable()
     if program() is None:
         raise SkipTest("the program betable_engine is not built")
 
@@ -870,44 +869,3 @@ class Kept(TestCase):
         with folder() as path:
             fault = fault_of(lambda: engine(1, keep=path / "none" / "table"))
             self.assertEqual((type(fault), fault.status, fault.said), (betable().EngineEnded, 2, "betable: the file cannot be opened"))
-
-
-class Durable(TestCase):
-    def test_a_durable_table_on_an_engine_is_that_on_a_session(self):
-        dice = random.Random(5)
-        batches = [rows_of(dice, 300, 2_000) for _ in range(10)]
-        found = []
-        for make in (lambda: engine(4), betable().Session):
-            with folder() as path:
-                with durable().open(path / "t", make=make) as table:
-                    table.run("table 4 8 4 1 id:int city:text qty:int\nindex by_city on city include qty\nbuild by_city 1\n")
-                    for rows in batches:
-                        table.put(rows)
-                    table.checkpoint()
-                    table.put(batches[0])
-                    before = images(table)
-                with durable().open(path / "t", make=make) as table:
-                    found.append((before, images(table), table.number, table.scan(), table.sums("by_city", 1, "qty")))
-        self.assertEqual(*found)
-        self.assertEqual(found[0][0], found[0][1])
-
-    def test_a_durable_table_goes_on_from_its_file_after_its_engine_was_killed(self):
-        """What was kept is there, and nothing of the call that failed."""
-        made = []
-
-        def make():
-            made.append(engine(2))
-            return made[-1]
-
-        with folder() as path, durable().open(path / "t", make=make) as table:
-            table.table("id:int qty:int")
-            table.put([(1, 1)])
-            calls = [lambda: table.put([(2, 2)]), lambda: table.get(1), lambda: table.scan(), lambda: table.replies("batch\nput 3,3\nend\n")]
-            for number, call in enumerate(calls):
-                with self.subTest(number=number):
-                    os.kill(made[-1].pid, signal.SIGKILL)
-                    fault = fault_of(call)
-                    self.assertEqual((type(fault), type(fault.__cause__)), (durable().RolledBack, betable().EngineEnded))
-                    self.assertEqual((table.scan(), len(made)), ([(1, 1)], number + 2))
-            self.assertEqual((table.put([(2, 2)]), table.count()), (1, 2))
-        self.assertEqual([is_child(one.pid) for one in made], [False] * len(made))

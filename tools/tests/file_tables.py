@@ -6,11 +6,9 @@ import os
 import pickle
 import re
 import shutil
-import signal
 import subprocess
 import sys
 import tempfile
-import threading
 from contextlib import contextmanager
 from functools import cache, partial
 from pathlib import Path
@@ -53,7 +51,7 @@ with session:
             kind, reply = 0, text + len(text).to_bytes(8, "little")
         except betable.RequestReused:
             kind, reply = 2, b"RequestReused"
-        except betable.InDoubt as fault:
+        except (betable.InDoubt, betable.RolledBack) as fault:
             assert isinstance(fault.__cause__, OSError)
             end(1, "the disk failed")
         sys.stdout.buffer.write(b"BTF\\1" + len(reply).to_bytes(8, "little") + bytes([kind]) + reply)
@@ -504,7 +502,7 @@ def by_files(case):
         self.addCleanup(folder.cleanup)
         count = iter(range(10**9))
 
-        class FileSession(client.KeptSession):
+        class FileSession(client.durable.Durable):
             def __init__(self):
                 super().__init__(f"{folder.name}/{next(count)}")
 
@@ -534,22 +532,9 @@ class InPython(TestCase):
         self.path = f"{folder.name}/table"
 
     def opened(self):
-        session = betable().open(self.path)
-        self.addCleanup(session.close)
-        return session
-
-    def test_a_table_is_there_again(self):
-        with betable().open(self.path) as session:
-            self.assertEqual((session.trees(), session.path), ((), self.path))
-            self.assertEqual(repr(session), f"<betable.KeptSession {self.path!r}, open, without a table>")
-            session.table("id:int city:text qty:int")
-            session.index("by_city", on="city")
-            session.put((number, f"city\n{number % 7}", number) for number in range(1000))
-            rows = session.scan("by_city")
-        self.assertEqual(type_of_fault(session.scan), ValueError)
-        with betable().open(Path(self.path)) as session:
-            self.assertEqual((session.scan("by_city"), session.get(7)), (rows, (7, "city\n0", 7)))
-            self.assertIsInstance(session, betable().KeptSession)
+        table = betable().open(self.path)
+        self.addCleanup(table.close)
+        return table
 
     def test_what_one_call_of_the_system_does_not_write_is_there_again(self):
         """A batch and a checkpoint of five megabytes each."""
@@ -575,15 +560,12 @@ class InPython(TestCase):
 
     def test_faults_have_fields(self):
         client = betable()
-        session = self.opened()
-        self.assertIn(self.path, str(fault_of(self.opened)))
-        self.assertEqual(type_of_fault(self.opened), client.InUse)
-        self.assertEqual(type_of_fault(lambda: pickle.dumps(session)), TypeError)
-        session.table("id:int qty:int")
-        session.once("a", "batch\nput 1,2\nend\n")
-        fault = fault_of(lambda: session.once("a", "get 1\n"))
-        self.assertEqual((type(fault), fault.request_id, session.get(1)), (client.RequestReused, "a", (1, 2)))
-        session.close()
+        table = self.opened()
+        table.table("id:int qty:int")
+        table.once("a", "batch\nput 1,2\nend\n")
+        fault = fault_of(lambda: table.once("a", "get 1\n"))
+        self.assertEqual((type(fault), fault.request_id, table.get(1)), (client.RequestReused, "a", (1, 2)))
+        table.close()
         data = Path(self.path).read_bytes()
         Path(self.path).write_bytes(data[:45] + bytes([data[45] ^ 1]) + data[46:])
         fault = fault_of(self.opened)
@@ -592,79 +574,13 @@ class InPython(TestCase):
         self.path += "/none"
         fault = fault_of(self.opened)
         self.assertEqual((type(fault), fault.filename), (NotADirectoryError, self.path))
-        self.assertEqual(type_of_fault(lambda: client.open("a\0b")), ValueError)
-
-    def test_a_disk_that_fails_in_a_put_is_told_with_the_rows_before(self):
-        """The system refuses to write past the end of the file."""
-        code = f"""if True:
-            import resource, signal, betable
-            signal.signal(signal.SIGXFSZ, signal.SIG_IGN)
-            session = betable.open({self.path!r})
-            session.table("id:int qty:int")
-            resource.setrlimit(resource.RLIMIT_FSIZE, (1 << 20, 1 << 20))
-            try:
-                session.put(((n, n) for n in range(100_000)), most=1000)
-            except betable.InDoubt as fault:
-                print(fault.taken, fault.__cause__.errno, fault.__cause__.filename == session.path, session.is_lost)
-            for call in (lambda: session.get(1), lambda: session.put([(1, 1)]), session.checkpoint, lambda: session.once("a", "")):
-                try:
-                    print(call())
-                except betable.InDoubt as fault:
-                    print("earlier" in str(fault), fault.taken)
-            session.close()
-            print(len(betable.open({self.path!r}).scan()))
-        """
-        environment = {**os.environ, "PYTHONPATH": str(TOP / "clients/python"), "BETABLE_LIBRARY": library()}
-        done = subprocess.run([sys.executable, "-B", "-c", code], capture_output=True, text=True, timeout=SECONDS, env=environment)
-        first, *later, last = done.stdout.splitlines()
-        taken = int(first.split()[0])
-        self.assertEqual((done.returncode, done.stderr, first, later), (0, "", f"{taken} 27 True True", ["True 0"] * 4))
-        self.assertEqual((taken > 10_000, int(last) in (taken, taken + 1000)), (True, True))
-
-    def test_a_checkpoint_is_made_when_it_is_asked_for(self):
-        with self.opened() as session:
-            session.checkpoint()
-            session.table("id:int qty:int")
-            for _ in range(200):
-                session.put((n, n) for n in range(100))
-            size = os.stat(self.path).st_size
-            session.checkpoint()
-            self.assertLess(os.stat(self.path).st_size, size // 10)
-            session.replies("index by_qty on qty\n")
-            fault = fault_of(session.checkpoint)
-            self.assertEqual((type(fault), fault.names), (betable().IndexBuilding, ["by_qty"]))
-            session.replies("build by_qty 1000\n")
-            session.checkpoint()
-            rows = session.scan("by_qty")
-        with self.opened() as session:
-            self.assertEqual((session.scan("by_qty"), len(rows)), (rows, 100))
-        self.assertEqual(os.listdir(os.path.dirname(self.path)), ["table"])
-
-    def test_a_forked_child_cannot_use_it_and_does_not_keep_it_locked(self):
-        session = self.opened()
-        session.table("id:int qty:int")
-        read, write = os.pipe()
-        child = os.fork()
-        if child == 0:
-            calls = [lambda: session.get(1), lambda: session.put([(1, 1)]), lambda: session.once("a", ""), session.checkpoint]
-            found = [type_of_fault(call) for call in calls]
-            session.close()
-            os.write(write, b"1" if found == [RuntimeError] * 4 else b"0")
-            signal.pause()
-        try:
-            self.assertEqual(os.read(read, 1), b"1")
-            session.put([(2, 2)])
-            session.close()
-            self.assertEqual(self.opened().scan(), [(2, 2)])
-        finally:
-            os.kill(child, signal.SIGKILL)
-            os.waitpid(child, 0)
 
     def test_the_library_refuses_a_forked_child(self):
         """Without the package, which closes the file there."""
-        from betable import kept, library as of_calls
+        from betable import library as of_calls
+        from betable.durable.file_calls import loaded_library
 
-        calls, file = kept._loaded_library(), kept._File()
+        calls, file = loaded_library(), of_calls.Handle()
         self.assertEqual(calls.betable_file_open(file, self.path.encode()), of_calls.DONE)
         child = os.fork()
         if child == 0:
@@ -673,23 +589,6 @@ class InPython(TestCase):
         self.assertEqual(os.waitstatus_to_exitcode(os.waitpid(child, 0)[1]), 0)
         self.assertEqual(type_of_fault(self.opened), betable().InUse)
         self.assertEqual([calls.betable_file_run(file, b"", 0), calls.betable_file_close(file), calls.betable_file_close(file)], [0, 0, of_calls.NOT_OPEN])
-
-    def test_a_session_that_is_dropped_is_closed(self):
-        for _ in range(3):
-            self.assertEqual(betable().open(self.path).trees(), ())
-
-    def test_a_call_during_another_one_is_refused(self):
-        session = self.opened()
-        session.table("id:int qty:int")
-        session.put((n, n) for n in range(50_000))
-        thread = threading.Thread(target=lambda: session.replies("image primary\n" * 20))
-        thread.start()
-        faults = set()
-        while thread.is_alive():
-            faults.add(type_of_fault(lambda: session.get(1)))
-        thread.join()
-        self.assertLessEqual(faults, {RuntimeError, type(None)})
-        self.assertIn(RuntimeError, faults)
 
     def test_a_link_leads_to_the_file(self):
         """Which a checkpoint replaces, and not the link."""

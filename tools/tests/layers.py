@@ -332,7 +332,7 @@ class Replicas(TestCase):
             one.replies(TABLE)
             wanted = b"batch 1\nrow 1,,1\n"
             self.assertEqual([replica.once("r", add) for replica in (one, two, one)], [wanted] * 3)
-            self.assertEqual(type_of_fault(lambda: two.once("r", "get 1\n")), package.durable.RequestReused)
+            self.assertEqual(type_of_fault(lambda: two.once("r", "get 1\n")), package.RequestReused)
             # The script is in the log, and the caller gets no reply. It sends the request again, to any replica.
             log.failures = [package.cluster.logs.Unreachable("gone")]
             fault = raised(package.cluster.replicas.Unanswered, lambda: two.replies(add))
@@ -571,7 +571,7 @@ class Replicas(TestCase):
                 log.add("id", add)
                 log.add("id", b"drain primary\n")
                 self.assertEqual(
-                    (one.once("id", add), type_of_fault(lambda: two.once("id", "get 1\n"))), (b"batch 1\nrow 1,,1\n", package.durable.RequestReused)
+                    (one.once("id", add), type_of_fault(lambda: two.once("id", "get 1\n"))), (b"batch 1\nrow 1,,1\n", package.RequestReused)
                 )
                 package.cluster.replicas.MOST_REPLY_LETTERS = 10
                 one.checkpoint()

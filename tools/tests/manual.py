@@ -15,7 +15,7 @@ from .common import imported, PROGRAM, SECONDS, TOP, ProgramTestCase, needs
 
 import betable
 
-TOOLS = ["shell", "engine", "serve", "restore", "copy", "explain", "from_csv", "to_csv", "draw"]
+TOOLS = ["shell", "engine", "serve", "convert", "copy", "explain", "from_csv", "to_csv", "draw"]
 OPTIONS = ["--script", "--workers", "--cut", "--grain", "--help", "--version"]
 PAGE = TOP / "man/betable.1.in"
 COMPLETIONS = TOP / "packaging/completions"

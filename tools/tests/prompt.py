@@ -21,6 +21,7 @@ from .common import SECONDS, TOP
 PYTHON = "/usr/bin/python3"
 TABLE = "table 4 3 2 1 id:int city:text qty:int\n"
 CITIES = f"{TABLE}.import {TOP}/examples/cities.csv\n"
+NO_TABLE = "there is no table yet: make one by 'table', as 'table 16 1024 256 1 id:int city:text qty:int'"
 HARD_TEXTS = ["", ".", "..", '"', 'a"b', '""', ",", "\ufeffx", '\ufeff"', " ", " x ", "row x", "end", "put 1", "\0", "æøå", "'", "x\ty"]
 
 
@@ -398,6 +399,34 @@ class ADurableTable(TestCase):
             with betable_module("durable").open(path):
                 self.assertEqual(prompt("", path), (1, "", f"betable shell: {path} is open already, by another process or by this one\n"))
             self.assertEqual(prompt("", f"{TOP}/README.md")[:2], (1, ""))
+
+    def test_the_schema_of_a_file_is_that_of_its_commands(self):
+        """In whatever requests they came, before a checkpoint and after it. What was refused, or dropped, is no part of it."""
+        with tempfile.TemporaryDirectory() as folder:
+            path, lines = f"{folder}/stock.table", [TABLE, 'index c on city,qty where city = "a\tb, c"\n', "index d on qty include city\n"]
+            with betable_module("durable").open(path) as table:
+                self.assertEqual(prompt(".schema\n", f"{folder}/none")[2], f"error: {NO_TABLE}\n")
+                table.replies("index c on city\n" + lines[0] + lines[0].replace("text", "int") + "batch\nput 1,index c on city,2\nend\n")
+                table.once("a", "index c on none\nindex c on qty\ndrop c\ndrop c\n" + lines[1])
+                with table.group():
+                    table.put([(2, "x", 3)])
+                    table.replies(lines[1] + "build c 9\n")
+                    table.replies(lines[2] + "index e on id\n")
+                table.once("a", "index c on none\nindex c on qty\ndrop c\ndrop c\n" + lines[1])
+            shown = "".join(lines) + "index e on id\n"
+            self.assertEqual(printed(self, ".schema\n", path), shown)
+            with betable_module("durable").open(path) as table:
+                table.replies("build d 9\ndrop e\n")
+                table.checkpoint()
+            index = "index f on id where qty >= 3\n"
+            self.assertEqual(printed(self, f".schema\n{index}.schema\n.indexes\n", path), f"""{"".join(lines)}index f
+{"".join(lines)}{index}name  on        include  where          complete
+----  --------  -------  -------------  --------
+c     city,qty           city = a·b, c  yes
+d     qty       city                    yes
+f     id                 qty >= 3       building
+3 indexes
+""")  # fmt: skip
 
 
 # ---- a terminal ----

@@ -1,15 +1,12 @@
-"""Tests of the Python client on changes by columns, on prepared upserts, and on texts with line breaks, in sessions and in durable tables, whose logs have
+"""Tests of the Python client on changes by columns, on prepared upserts, and on texts with line breaks, in sessions and in durable tables, whose files have
 packed changes. The library is that of BETABLE_LIBRARY, or bin/build_c builds it. NumPy and pandas are tested where they are installed."""
 
 import random
-import shutil
-import sqlite3
 import tempfile
 from array import array
 from importlib import import_module
 from pathlib import Path
 from unittest import TestCase, skipUnless
-from unittest.mock import patch
 
 from .clients import betable, build_extension, library
 from .layers import Log
@@ -41,7 +38,6 @@ def setUpModule():
     library()
     build_extension()
     betable()
-    __import__("betable.durable.table")
 
 
 def filled(schema=SCHEMA, make=None):
@@ -104,7 +100,7 @@ class ChangesByColumns(Folder):
                 by_messages.batch(messages, most)
                 self.assertEqual(by_columns.replies(IMAGES), by_messages.replies(IMAGES))
                 path = self.folder / str(seed)
-                with durable().open(path, sync=False) as table:
+                with durable().open(path) as table:
                     table.run(SCHEMA)
                     table.upsert_columns(columns, most, **given)
                 with durable().open(path) as table:
@@ -289,89 +285,18 @@ class LineBreaks(Folder):
                 call()
 
 
-class LogsOfPackedChanges(Folder):
-    def entries(self, path=None):
-        db = sqlite3.connect(path or self.path)
-        try:
-            return db.execute("SELECT number, script, is_packed FROM log ORDER BY number").fetchall()
-        finally:
-            db.close()
-
+class FilesOfPackedChanges(Folder):
     def test_values_are_kept_as_the_bytes_that_were_applied(self):
+        """Those that are refused are not, and leave the table as it was."""
         with durable().open(self.path) as table:
             table.run("table 4 6 3 1 id:int city:text\n")
             table.put([(1, "a\n")])
-            table.replies("batch\nput 2,b\nend\n")
-            self.assertEqual((table.number, table.log_bytes > 0), (3, True))
-        script, packed, batch = self.entries()
-        self.assertEqual((script[2], packed[2], batch[2]), (0, 1, 0))
-        self.assertEqual(packed[1], b"BTV\1\1\0\0\0" + b"\0" + (1).to_bytes(8, "little") + b"\2a\n")
-
-    def test_refused_values_are_not_kept_and_leave_the_table_as_it_was(self):
-        with durable().open(self.path) as table:
-            table.run("table 4 6 3 1 id:int city:text\n")
-            table.put([(1, "a")])
+            before = self.path.read_bytes()
+            self.assertIn(b"BTV\1\1\0\0\0" + b"\0" + (1).to_bytes(8, "little") + b"\2a\n", before)
             with self.assertRaises(betable().Refused) as found:
                 table.batch([betable().put(2, "b"), betable().upsert(1, set={"id": 4})])
             self.assertIn("'id' is a column of the key", str(found.exception))
-            self.assertEqual((table.number, table.scan()), (2, [(1, "a")]))
-        self.assertEqual(len(self.entries()), 2)
-
-    def test_a_damaged_entry_is_told_by_its_number(self):
-        with durable().open(self.path) as table:
-            table.run("table 4 6 3 1 id:int city:text\n")
-            table.put([(1, "a")])
-            table.put([(2, "b")])
-        for change in ("script = CAST(replace(script, 'a', 'c') AS BLOB)", "is_packed = 0", "checksum = checksum + 1"):
-            path = self.folder / "damaged"
-            shutil.copy(self.path, path)
-            db = sqlite3.connect(path)
-            db.execute(f"UPDATE log SET {change} WHERE number = 2")
-            db.commit()
-            db.close()
-            with self.subTest(change=change), self.assertRaises(durable().Corrupt) as found:
-                durable().open(path)
-            self.assertEqual(found.exception.number, 2)
-
-    def old_file(self):
-        """A file of format 2, as a version without packed changes has left it."""
-        with durable().open(self.path) as table:
-            table.run("table 4 6 3 1 id:int city:text\n")
-            table.replies("batch\nput 1,a\nend\n")
-        db = sqlite3.connect(self.path, isolation_level=None)
-        db.executescript("ALTER TABLE log DROP COLUMN is_packed; ALTER TABLE checkpoint DROP COLUMN is_packed; PRAGMA user_version=2;")
-        db.close()
-
-    def test_a_file_of_format_2_is_brought_up_to_date(self):
-        self.old_file()
-        with durable().open(self.path) as table:
-            self.assertEqual(table.scan(), [(1, "a")])
-            table.put([(2, "b\nc")])
-            table.backup(self.folder / "backup")
-        for path in (self.path, self.folder / "backup"):
-            with durable().open(path) as table:
-                self.assertEqual((table.number, table.scan()), (3, [(1, "a"), (2, "b\nc")]))
-            self.assertEqual([is_packed for _, _, is_packed in self.entries(path)], [0, 0, 1])
-
-    def test_a_crash_while_a_file_of_format_2_is_brought_up_to_date_loses_nothing(self):
-        """Before each time that SQLite's log is written back, and after the first put."""
-        self.old_file()
-        module, copies = durable().table, []
-
-        def copied(db):
-            copies.append(self.folder / f"crashed {len(copies)}")
-            for suffix in ("", "-wal"):
-                shutil.copy(f"{self.path}{suffix}", f"{copies[-1]}{suffix}")
-            write_back(db)
-
-        write_back = module._write_back
-        with patch.object(module, "_write_back", copied), durable().open(self.path) as table:
-            table.put([(2, "b")])
-            copied(table._db)
-        self.assertEqual(len(copies), 4)
-        for number, path in enumerate(copies):
-            with self.subTest(number=number), durable().open(path) as table:
-                self.assertEqual(table.scan(), [(1, "a"), (2, "b")] if path is copies[-1] else [(1, "a")])
+            self.assertEqual((table.number, table.scan(), self.path.read_bytes() == before), (2, [(1, "a\n")], True))
 
     def test_a_group_keeps_values_and_scripts_together_or_not_at_all(self):
         with durable().open(self.path) as table:
@@ -385,30 +310,7 @@ class LogsOfPackedChanges(Folder):
                 table.upsert_columns({"id": [1, 2]}, add={"n": 3})
                 table.replies("batch\nups 1,add,n,1\nend\n")
         with durable().open(self.path) as table:
-            self.assertEqual((table.scan(), table.number), ([(1, 4), (2, 3)], 3))
-
-    def test_a_layer_over_sessions_runs_packed_changes_as_scripts(self):
-        """All kinds, messages and operations. A text with a line break is none of a script, and a checkpoint puts it in place of the log."""
-        dice, client = random.Random(3), betable()
-        with durable().open(self.path) as table:
-            table.run(SCHEMA)
-            for number in range(60):
-                row = [dice.choice([text for text in TEXTS if "\n" not in text and "\r" not in text]) for _ in range(2)]
-                table.put([(number, row[0], number, -number, 2**63 - 1, row[1], number % 2 == 0, dice.choice(BINARIES))])
-                changes = {"add": {"n": 1}, "set": {"note": row[1], "ok": True, "raw": b"\0"}, "min": {"hi": -5}}
-                table.batch([client.upsert(number, row[0], **changes), client.delete(number - 9, "")])
-            wanted = table.scan()
-        with durable().open(self.path, make=Layer) as table:
-            self.assertEqual(table.scan(), wanted)
-        with durable().open(self.path) as table:
-            table.put([(99, "a\nb", 0, 0, 0, "", True, b"")])
-            wanted = table.scan()
-        with self.assertRaisesRegex(ValueError, "'a.nb' has a line break"):
-            durable().open(self.path, make=Layer)
-        with durable().open(self.path) as table:
-            table.checkpoint()
-        with durable().open(self.path, make=Layer) as table:
-            self.assertEqual(table.scan(), wanted)
+            self.assertEqual(table.scan(), [(1, 4), (2, 3)])
 
 
 class ReplicasOfPackedChanges(TestCase):

@@ -11,7 +11,6 @@ import sys
 import tempfile
 import threading
 import time
-import zlib
 from array import array
 from pathlib import Path
 from unittest import SkipTest, TestCase
@@ -116,7 +115,7 @@ class PythonExtension(TestCase):
         client, session, dice = betable(), filled(), random.Random(1)
         expected = [call() for call in reads(session)]
         given = []
-        copy = ctypes.CFUNCTYPE(ctypes.c_size_t, ctypes.POINTER(client.library._Handle), ctypes.c_size_t, ctypes.c_void_p, ctypes.c_size_t)
+        copy = ctypes.CFUNCTYPE(ctypes.c_size_t, ctypes.POINTER(client.library.Handle), ctypes.c_size_t, ctypes.c_void_p, ctypes.c_size_t)
         own = session._bytes.library.betable_copy_replies
 
         def copied(handle, start, room, size):
@@ -209,8 +208,6 @@ class PythonExtension(TestCase):
         """Blocks of memory of Python, after calls that are done and calls that raise."""
         client, session = betable(), filled()
         columns = {name: list(values) for name, values in zip(("id", "city", "ok", "raw", "qty"), zip(*ROWS))} | {"id": array("q", range(len(ROWS)))}
-        changes = session._pack_rows(ROWS)
-        entries = [(number, changes, zlib.crc32(changes), 1) for number in (1, 2)]
         calls = [
             *reads(session), lambda: session.put(ROWS), lambda: session.put(columns), lambda: session.batch([client.upsert(1, add={"qty": 0}), client.delete(99), client.put(*ROWS[2])]),
             lambda: session.put([ROWS[0], (1, "\ud800", True, b"", 1)]), lambda: session.get("x"), lambda: session.get(2**70), lambda: session.scan("nothing"),
@@ -218,8 +215,6 @@ class PythonExtension(TestCase):
             lambda: client.Session().table("id:int"), lambda: session.upsert_columns({"id": columns["id"]}, add={"qty": 0}, set={"ok": True}),
             lambda: session.upsert_columns({"id": columns["id"]}, add={"qty": columns["city"]}), lambda: session.delete_columns({"id": 99}),
             lambda: session._puts_after(None, 3), lambda: session._puts_after((10**6,), 3), lambda: session._puts_after(("x",), 3), lambda: session._puts_after(1),
-            lambda: session._replay(iter(entries), 1, 9, zlib.crc32), lambda: session._replay(iter(entries), 2, 9, zlib.crc32), lambda: session._replay(iter(entries)),
-            lambda: session._replay(iter([*entries[:1], (2, b"", 0, 1)]), 1, 9, zlib.crc32), lambda: session._replay(iter(entries), 1, 9, None),
         ]  # fmt: skip
         for call in calls:
             for count in (20, 1_000):

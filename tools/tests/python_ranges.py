@@ -7,7 +7,7 @@ from unittest import TestCase
 
 from .clients import betable, both_ways, build_extension, library
 from .common import SECONDS, TOP, fault_of
-from .durable import durable, expect_fault, failing_session, folder, probe
+from .durable import Failing, durable, expect_fault, folder, probe
 
 
 def setUpModule():
@@ -85,20 +85,12 @@ class DeleteRange(TestCase):
     def test_each_batch_is_kept_by_itself(self):
         """A call that fails in the middle says how many rows are gone, and is made again. In a group it is all or nothing."""
         with folder() as path:
-            with durable().open(path / "t", make=failing_session("whole")) as table:
+            with durable().open(path / "t") as table:
                 table.table("id:int city:text")
                 table.put([(number, "") for number in range(40)])
                 table.index("by_city", "city")
-                real, left = table._session._apply_packed, [1, 1]
-
-                def apply(changes):
-                    if not left:
-                        raise betable().OutOfMemory
-                    left.pop()
-                    return real(changes)
-
-                table._session._apply_packed = apply
-                fault = expect_fault(self, durable().RolledBack, lambda: table.delete_range("by_city", ("",), None, most=10), "20 rows")
+                with Failing(table, after=2):
+                    fault = expect_fault(self, durable().RolledBack, lambda: table.delete_range("by_city", ("",), None, most=10), "20 rows")
                 self.assertEqual((fault.taken, [row[0] for row in table.scan()], table.number), (20, [*range(20, 40)], 5))
                 self.assertEqual(table.delete_range("by_city", ("",), None, most=7), 20)
                 self.assertEqual((table.scan(), table.number), ([], 8))
@@ -193,7 +185,7 @@ class NewestFirst(TestCase):
 
     def test_pages_are_those_of_the_table_when_they_are_read(self):
         """On sessions and on durable tables, over a rollback too: what is put before the last row that was read comes, and what is put after it does not."""
-        with folder() as path, durable().open(path / "t", make=failing_session("whole")) as table, betable().Session() as session:
+        with folder() as path, durable().open(path / "t") as table, Failing(table), betable().Session() as session:
             for one in (session, table):
                 with self.subTest(one=type(one).__name__):
                     one.table("id:int city:text", fanout=4, buffer=3, leaf=2)

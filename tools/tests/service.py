@@ -14,14 +14,13 @@ import resource
 import select
 import signal
 import socket
-import sqlite3
 import subprocess
 import sys
 import tempfile
 import time
 import xml.etree.ElementTree as xml
 from concurrent.futures import ThreadPoolExecutor
-from contextlib import ExitStack, closing, contextmanager
+from contextlib import ExitStack, contextmanager
 from functools import cache, wraps
 from html import unescape
 from http.client import HTTPConnection
@@ -36,6 +35,7 @@ from .draw import browser
 
 TABLE = b"table 4 8 4 1 id:int city:text qty:int\nindex by_city on city include qty\nbuild by_city 1\n"
 TOKEN = "0123456789abcdef0123456789abcdef"
+HEAD = 40  # bytes of the head of a file
 
 
 @cache
@@ -212,6 +212,13 @@ def events_of(test, server):
         yield (line for line in (line.decode().rstrip("\n") for line in response) if line)
     finally:
         connection.close()
+
+
+def start_of(lines):
+    """The next event that the worker was started."""
+    while next(lines) != "event: start":
+        pass
+    return json.loads(next(lines).removeprefix("data: "))
 
 
 # In place of a server: it is away at first, and then has 120 rows, a tree that is too large, and a script with a refusal.
@@ -406,7 +413,7 @@ class Endpoints(TestCase):
                     self.assertEqual(type(fault), engine.WrongKey)
                     self.assertIn(part, str(fault))
                 # What is refused is run, so that its reply says why.
-                table.replies = lambda script: b"refused\n"
+                table.replies = lambda script: b"refused 11 Building\n"
                 refused = [
                     ("none", None, None, ["x"]),
                     ("late", None, None, None),
@@ -415,7 +422,7 @@ class Endpoints(TestCase):
                 ]
                 for words in refused:
                     with self.subTest(words=words):
-                        self.assertEqual(page(*words).replies, b"refused\n")
+                        self.assertEqual(page(*words).replies, b"refused 11 Building\n")
 
     @with_aiohttp
     def test_values_of_each_kind_are_written(self):
@@ -475,7 +482,9 @@ class Endpoints(TestCase):
     def test_events_tell_which_scripts_were_kept(self):
         with server() as found:
             with events_of(self, found) as lines:
-                self.assertEqual([next(lines) for _ in range(3)], ["id: 1", "event: start", 'data: {"number": 1}'])
+                self.assertEqual([next(lines) for _ in range(2)], ["id: 1", "event: start"])
+                start = json.loads(next(lines).removeprefix("data: "))
+                self.assertEqual((start["number"], time.time() - SECONDS < start["since"] < time.time()), (1, True))
                 found.run(b'get 1\nbatch\nput 1,"batch 9",2\nend\nbatch\nput x\nend\n')
                 found.run(b"get 1\n")
                 found.run(b"drop by_city\n")
@@ -819,7 +828,7 @@ class WhoMayAsk(TestCase):
                 self.assertEqual([found.ask("POST", path, b"1,a,1\n")[0] for path in ("/rows", "/checkpoint")], [403, 403])
                 self.assertEqual(found.run(b"scan primary\ngo\nget 1\nput batch\n"), rows + b"row 1,batch,2\nrefused 1 Syntax\n")
                 self.assertEqual(found.json("/rows/by_city")["rows"], [["batch", 1, 2]])
-                self.assertEqual(found.metric("betable_kept_scripts"), 1)
+                self.assertEqual(found.metric("betable_kept_scripts"), 0)
 
     @with_aiohttp
     def test_read_only_servers_write_nothing(self):
@@ -831,10 +840,9 @@ class WhoMayAsk(TestCase):
             with server_in(folder, "--read-only") as found:
                 for number in range(20):
                     found.run(b"scan primary\ngo\nget %d\n" % number, Idempotency_Key=str(number))
-                log = Path(f"{found.path}-wal")
-                self.assertEqual(log.stat().st_size if log.exists() else 0, 0)
+                self.assertTrue(found.path.read_bytes() == before)
                 self.assertEqual(found.end(), 0)
-            self.assertTrue(found.path.read_bytes() == before)
+            self.assertEqual((found.path.read_bytes() == before, os.listdir(folder)), (True, [found.path.name]))
 
     @with_aiohttp
     def test_scripts_that_only_read_are_not_stored(self):
@@ -852,11 +860,11 @@ class WhoMayAsk(TestCase):
 
 
 def commits_of(path):
-    """How many transactions are in SQLite's log of a table: the frames in which one ends, of those written since the log began."""
-    log = Path(f"{path}-wal").read_bytes()
-    size = 24 + int.from_bytes(log[8:12], "big")
-    frames = [log[at : at + 24] for at in range(32, len(log), size)]
-    return sum(frame[4:8] != bytes(4) and frame[8:16] == log[16:24] for frame in frames)
+    """How many groups of requests are in the file of a table: each is a frame that begins with its length, and zeros may come after the last one."""
+    data, at, count = path.read_bytes(), HEAD, 0
+    while size := int.from_bytes(data[at : at + 8], "little"):
+        at, count = at + size, count + 1
+    return count
 
 
 def command_line(process):
@@ -931,35 +939,45 @@ class CommitsCrashesAndEnds(TestCase):
             self.assertEqual(found.metric("betable_engine_starts"), 2)
 
     @with_aiohttp
-    def test_damaged_stored_reply_is_told_and_ends_nothing(self):
+    def test_numbers_go_on_when_the_worker_ends_and_begin_again_with_the_server(self):
+        """A worker that ended in a script may have kept it: the next number is another one then, so that a reader of events reads again."""
         with tempfile.TemporaryDirectory() as folder:
+            with server_in(folder) as found, ThreadPoolExecutor(1) as pool:
+                found.run(TABLE + adds(1))
+                found.run(adds(1))
+                with events_of(self, found) as lines:
+                    starts = [start_of(lines)]
+                    for is_asked in (False, True):
+                        with found.stopped_engine() as engine:
+                            asked = pool.submit(found.ask, "POST", "/run", adds(1)) if is_asked else None
+                            if asked:
+                                found.await_metric("betable_queued_scripts", 1)
+                            os.kill(engine, signal.SIGKILL)
+                        self.assertEqual(asked and asked.result()[0], 503 if is_asked else None)
+                        starts.append(start_of(lines))
+                self.assertEqual([start["number"] for start in starts], [2, 2, 3])
+                self.assertEqual(len({start["since"] for start in starts}), 1)
+                self.assertEqual(found.ask("POST", "/run", adds(1))[1]["Betable-Number"], "4")
+                self.assertEqual(found.end(), 0)
             with server_in(folder) as found:
-                found.run(TABLE)
-                replies = {key: found.run(adds(1), Idempotency_Key=key) for key in ("one", "two")}
-                self.assertEqual((found.metric("betable_request_bytes"), found.end()), (sum(map(len, replies.values())), 0))
-            with closing(sqlite3.connect(Path(folder) / "stock.table")) as db:
-                db.execute("UPDATE requests SET replies = x'00' WHERE id = 'one'")
-                db.commit()
-            with server_in(folder) as found:
-                for _ in range(2):
-                    status, _, body = found.ask("POST", "/run", adds(1), {"Idempotency-Key": "one"})
-                    self.assertEqual((status, "run once" in json.loads(body)["reason"]), (500, True))
-                self.assertEqual((found.run(adds(1), Idempotency_Key="two"), quantities(found)), (replies["two"], {1: 2}))
-                self.assertEqual(found.metric("betable_engine_starts"), 1)
+                with events_of(self, found) as lines:
+                    start = start_of(lines)
+                self.assertEqual((start["number"], start["since"] > starts[0]["since"]), (0, True))
+                self.assertEqual(found.ask("POST", "/run", adds(1))[1]["Betable-Number"], "1")
 
     @with_aiohttp
     def test_requests_run_once_over_a_kill_of_the_server(self):
         with tempfile.TemporaryDirectory() as folder:
             with server_in(folder) as found, ThreadPoolExecutor(1) as pool:
                 found.run(TABLE)
-                engine, log = found.engine(), Path(f"{found.path}-wal")
+                engine = found.engine()
                 with found.stopped_engine():
                     asked = pool.submit(found.ask, "POST", "/run", adds(1), {"Idempotency-Key": "a"})
                     found.await_metric("betable_queued_scripts", 1)
-                    size = log.stat().st_size
+                    count = commits_of(found.path)
                     os.kill(found.process.pid, signal.SIGSTOP)
-                # The engine has kept the script when its log has grown and it waits again; nobody reads its reply.
-                until(lambda: log.stat().st_size > size and " S " in Path(f"/proc/{engine}/stat").read_text())
+                # The engine has kept the script when it is in the file and it waits again; nobody reads its reply.
+                until(lambda: commits_of(found.path) > count and " S " in Path(f"/proc/{engine}/stat").read_text())
                 found.process.kill()
                 self.assertIsInstance(asked.exception(), (ConnectionError, OSError))
                 found.process.wait()
@@ -1039,13 +1057,16 @@ class CommitsCrashesAndEnds(TestCase):
             until(lambda: not Path(f"/proc/{engine}").exists())
 
     @with_aiohttp
-    def test_checkpoints_take_the_place_of_the_log(self):
+    def test_checkpoints_take_the_place_of_the_requests(self):
         with tempfile.TemporaryDirectory() as folder:
             with server_in(folder) as found:
                 found.run(TABLE + adds(1), Idempotency_Key="a")
-                self.assertGreater(found.metric("betable_log_bytes"), 0)
+                found.run(b"batch\n" + b"put 2,%b,1\n" % (b"x" * 200) * 5_000 + b"end\n")
+                before = found.metric("betable_file_bytes")
                 status, _, body = found.ask("POST", "/checkpoint")
-                self.assertEqual((status, json.loads(body)), (200, {"number": 1, "log_bytes": 0}))
+                self.assertEqual((status, json.loads(body)), (200, {"number": 2, "file_bytes": found.path.stat().st_size}))
+                self.assertLess(found.metric("betable_file_bytes"), before)
+                found.run(b"batch\ndel 2\nend\n")
                 image = found.run(b"image primary\nimage by_city\n")
                 self.assertEqual(found.end(), 0)
             with server_in(folder) as found:
@@ -1076,7 +1097,7 @@ class CommitsCrashesAndEnds(TestCase):
                 ([path, "--host", "0.0.0.0"], 2, "--token"),
                 ([path, "--token", short], 2, "16 bytes"),
                 ([path, "--token", Path(folder) / "none"], 2, "No such file"),
-                ([other], 1, "no SQLite database"),
+                ([other], 1, "is no table"),
                 ([folder], 1, folder),
                 ([Path(folder) / "none" / "stock.table"], 1, "none"),
                 ([path, "--most-held", "1000"], 2, "--most-body"),

@@ -12,7 +12,9 @@ from contextlib import ExitStack
 from pathlib import Path
 
 from .clients import library
-from .service import TABLE, TOKEN, adds, python, server, server_in, until
+from .service import TABLE, TOKEN, Server, adds, python, server, server_in, until
+
+DUE = 1 << 24  # bytes of a file at which a checkpoint is due
 
 
 def setUpModule() -> None:
@@ -29,7 +31,7 @@ class Operations(unittest.TestCase):
             self.assertEqual(found.run(adds(1)), b"batch 1 by_city:1\n")
             self.assertEqual(found.printed().splitlines(), [
                 "betable serve: the worker ended by the signal SIGKILL; requests get 503 until it is started again",
-                "betable serve: the worker was started again, and has the table open, with 2 scripts",
+                "betable serve: the worker was started again, and has the table open",
             ])  # fmt: skip
 
     def test_an_end_that_was_asked_for_is_not_told(self) -> None:
@@ -91,39 +93,40 @@ class Operations(unittest.TestCase):
             until(lambda: found.ask("POST", "/run", adds(2))[0] == 200)
             self.assertEqual(json.loads(found.ask("GET", "/healthz")[2]), {"status": "open"})
 
+    def fill(self, found: Server) -> None:
+        """Puts rows again and again until the file has so many bytes that a checkpoint is due."""
+        body = b"".join(b"%d,%b,1\n" % (key % 1_000, b"x" * 250) for key in range(60_000))
+        while found.metric("betable_file_bytes") < DUE:
+            self.assertEqual(found.ask("POST", "/rows", body)[0], 200)
+
     def test_checkpoints_are_written_by_themselves_and_counted(self) -> None:
         def of(cause: str, what: str) -> float:
             return found.metric(f'betable_checkpoint_seconds_{what}{{cause="{cause}"}}')
 
-        body = b"".join(b"%d,x,1\n" % key for key in range(1_000))
-        for size, is_due in ((1, True), (0, False), (1 << 30, False)):
-            with server("--checkpoint-bytes", size) as found:
-                for _ in range(3):
-                    self.assertEqual(found.ask("POST", "/rows", body)[0], 200)
-                count = of("size", "count")
-                self.assertEqual([one > 0 for one in (count, of("size", "sum"), found.metric("betable_checkpoint_time"))], [is_due] * 3)
-                self.assertEqual((found.metric("betable_log_bytes") < 2 * len(body), of("request", "count")), (is_due, 0))
-                self.assertEqual(found.ask("POST", "/checkpoint")[0], 200)
-                self.assertEqual((of("size", "count"), of("request", "count")), (count, 1))
-                self.assertGreater(found.metric("betable_checkpoint_time"), 1_700_000_000)
-                self.assertEqual((found.metric("betable_log_bytes"), found.metric("betable_checkpoint_failed")), (0, 0))
-        for wrong in ("-1", "x", str(2**61)):
-            with self.assertRaisesRegex(RuntimeError, "--checkpoint-bytes"), server("--checkpoint-bytes", wrong):
-                pass
+        with server() as found:
+            self.fill(found)
+            self.assertEqual((of("size", "count"), found.metric("betable_checkpoint_time")), (0, 0))
+            found.run(adds(1))
+            self.assertEqual((of("size", "count"), of("size", "sum") > 0, of("request", "count")), (1, True, 0))
+            self.assertGreater(found.metric("betable_checkpoint_time"), 1_700_000_000)
+            self.assertLess(found.metric("betable_file_bytes"), 1_000_000)
+            self.assertEqual(found.ask("POST", "/checkpoint")[0], 200)
+            self.assertEqual((of("size", "count"), of("request", "count"), found.metric("betable_checkpoint_failed")), (1, 1, 0))
+            self.assertEqual(found.json("/row?key=1")["rows"], [[1, "x" * 250, 2]])
 
     def test_a_checkpoint_that_fails_is_told_and_the_change_is_kept(self) -> None:
-        with server("--checkpoint-bytes", 100_000) as found:
-            self.assertEqual(found.ask("POST", "/rows", b"".join(b"%d,%b,1\n" % (key, b"x" * 200) for key in range(450)))[0], 200)
-            self.assertEqual(found.metric("betable_checkpoint_time"), 0)
-            resource.prlimit(found.engine(), resource.RLIMIT_FSIZE, (230_000, resource.RLIM_INFINITY))
-            key = 1_000
-            while found.metric("betable_log_bytes") <= 100_000:
-                key += 1
-                self.assertEqual(found.ask("POST", "/rows", b"%d,%b,1\n" % (key, b"y" * 200))[0], 200)
-            self.assertEqual((found.metric("betable_checkpoint_failed"), found.ask("GET", f"/row?key={key}")[0]), (1, 200))
-            resource.prlimit(found.engine(), resource.RLIMIT_FSIZE, (resource.RLIM_INFINITY, resource.RLIM_INFINITY))
+        with server() as found:
+            self.fill(found)
+            # It is written there.
+            blocked = Path(f"{found.path}.new")
+            blocked.mkdir()
+            found.run(adds(1))
+            self.assertEqual((found.metric("betable_checkpoint_failed"), found.json("/row?key=1")["rows"]), (1, [[1, "x" * 250, 2]]))
+            self.assertEqual(found.ask("POST", "/checkpoint")[0], 507)
+            blocked.rmdir()
             self.assertEqual((found.ask("POST", "/checkpoint")[0], found.metric("betable_checkpoint_failed")), (200, 0))
-            self.assertRegex(found.printed(), "no checkpoint was written")
+            self.assertEqual((found.metric("betable_engine_starts"), found.run(adds(1))), (1, b"batch 1 by_city:1\n"))
+            self.assertRegex(found.printed(), "stock.table: no checkpoint was made: Is a directory")
 
     def test_metrics_have_refused_connections_and_the_last_checkpoint(self) -> None:
         with server("--most-connections", 1) as found, ExitStack() as stay:

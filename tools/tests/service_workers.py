@@ -1,6 +1,8 @@
-"""Tests of a server whose table is in the program betable_engine: the same answers as of one whose table is in a session, its processes and threads, and the end
-of any of them."""
+"""Tests of a server whose table is in the program betable_engine: the same answers as of one without it, its processes and threads, and the end of any of
+them."""
 
+import fcntl
+import json
 import os
 import random
 import signal
@@ -9,11 +11,12 @@ import sys
 import tempfile
 import time
 import unittest
+from concurrent.futures import ThreadPoolExecutor
 from pathlib import Path
 
 from .clients import library
 from .engine import has_ended, memory_of, program, threads_of
-from .service import TABLE, adds, process_of, python, quantities, server, server_in, until
+from .service import TABLE, adds, events_of, process_of, python, quantities, server, server_in, until
 
 
 def setUpModule() -> None:
@@ -47,9 +50,8 @@ class Workers(unittest.TestCase):
                 some.append(found.ask("DELETE", "/rows/by_city?from=Oslo")[::2])
                 for path in ("/rows/primary", "/rows/by_qty?limit=9&newest_first=1", "/sums/by_city?of=qty", "/row?key=1", "/row?key=9999999", "/trees"):
                     some.append(found.ask("GET", path)[::2])
-                some.append(found.ask("POST", "/checkpoint")[0])
                 answers.append(some)
-        self.assertEqual([one[0] if isinstance(one, tuple) else one for one in answers[0]], [200] * 5 + [422] + [200] * 6 + [404, 200, 200])
+        self.assertEqual([one[0] for one in answers[0]], [200] * 5 + [422] + [200] * 6 + [404, 200])
         self.assertEqual((answers[1], answers[2]), (answers[0], answers[0]))
 
     def test_the_table_is_in_a_process_of_that_many_threads(self) -> None:
@@ -80,8 +82,65 @@ class Workers(unittest.TestCase):
             os.kill(table_process(found), signal.SIGKILL)
             self.assertEqual(quantities(found), {1: 3, 2: 3})
             self.assertEqual(found.metric("betable_engine_starts"), 1)
-            lines = found.printed().splitlines()
-            self.assertEqual((len(lines), {line.partition(", after ")[0] for line in lines}), (4, {"betable serve: the engine ended by the signal SIGKILL"}))
+            line = "betable serve: the engine ended by the signal SIGKILL: the table is opened again from the file"
+            self.assertEqual(found.printed().splitlines(), [line] * 4)
+
+    def test_what_ran_when_the_table_was_killed_is_run_again_if_that_is_safe(self) -> None:
+        """A read, and a request with an id. Another one may have been kept: it gets 503, and readers of events are told of a start with another number."""
+        with server("--workers", 2) as found, ThreadPoolExecutor(1) as pool, events_of(self, found) as lines:
+            found.run(adds(1))
+            sent = (
+                ("GET", "/row?key=1", None, {}, 200), ("POST", "/run", adds(2), {"Idempotency-Key": "a"}, 200), ("POST", "/run", adds(3), {}, 503),
+                ("POST", "/rows", b'4,"a\nb",1\n', {"Idempotency-Key": "b"}, 200), ("POST", "/rows", b'5,"a\nb",1\n', {}, 503),
+                ("DELETE", "/rows/primary?from=9", None, {}, 503),
+            )  # fmt: skip
+            for method, path, body, headers, status in sent:
+                process = table_process(found)
+                os.kill(process, signal.SIGSTOP)
+                asked = pool.submit(found.ask, method, path, body, headers)
+                found.await_metric("betable_queued_scripts", 1)
+                until(lambda: " S " in Path(f"/proc/{found.engine()}/stat").read_text())
+                os.kill(process, signal.SIGKILL)
+                self.assertEqual((method, path, asked.result()[0]), (method, path, status))
+            self.assertEqual({key: quantity for key, quantity in quantities(found).items() if key not in (3, 5)}, {1: 1, 2: 1, 4: 1})
+            self.assertEqual(found.metric("betable_engine_starts"), 1)
+            self.assertEqual(found.ask("POST", "/run", adds(2), {"Idempotency-Key": "a"})[0], 200)
+            self.assertEqual(quantities(found)[2], 1)
+            self.assertEqual(found.end(), 0)
+            events = " ".join(line for line in lines if not line.startswith("data: "))
+            self.assertEqual(events.replace(" event: start", "!"), "id: 1! id: 2 id: 3 id: 4! id: 5 id: 6! id: 7! id: 8")
+
+    def test_checkpoints_are_written_by_the_engine_alone(self) -> None:
+        with server("--workers", 2) as found:
+            body = b"".join(b"%d,%b,1\n" % (key % 1_000, b"x" * 250) for key in range(60_000))
+            for _ in range(2):
+                self.assertEqual(found.ask("POST", "/rows", body)[0], 200)
+            self.assertEqual(found.run(b"get 1000\n"), b"none\n")
+            self.assertLess(found.metric("betable_file_bytes"), 1_000_000)
+            status, _, said = found.ask("POST", "/checkpoint")
+            self.assertEqual((status, "the engine writes checkpoints by itself" in json.loads(said)["reason"]), (409, True))
+            self.assertEqual(found.run(b"get 999\n"), b"row 999,%b,1\n" % (b"x" * 250))
+
+    def test_backups_are_the_table_and_are_checked(self) -> None:
+        with tempfile.TemporaryDirectory() as folder, server("--workers", 2, "--backup-folder", folder) as found:
+            found.run(adds(1), Idempotency_Key="a")
+            said = json.loads(found.ask("POST", "/backup?name=stock.table")[2])
+            self.assertEqual((said["path"], said["number"], os.listdir(folder)), (f"{folder}/stock.table", 2, ["stock.table"]))
+            found.run(adds(1))
+            for words in ((), ("--workers", 1)):
+                with server_in(folder, *words) as backup:
+                    self.assertEqual(backup.run(adds(1), Idempotency_Key="a"), b"batch 1 by_city:1\n")
+                    self.assertEqual((quantities(backup), quantities(found)), ({1: 1}, {1: 2}))
+
+    def test_what_no_engine_opens_is_told_as_without_workers(self) -> None:
+        with tempfile.TemporaryDirectory() as folder:
+            other, taken = Path(folder) / "other.table", Path(folder) / "stock.table"
+            other.write_bytes(b"SQLite format 3\0" + bytes(99))
+            with server_in(folder):
+                for path in (other, taken):
+                    errors = {process_of(path, *words).communicate()[1] for words in ((), ("--workers", "2"))}
+                    self.assertEqual(len(errors), 1, errors)
+                    self.assertIn(str(path), errors.pop())
 
     def test_a_worker_that_is_killed_ends_its_table_and_another_one_has_the_rows(self) -> None:
         with server("--workers", 2) as found:
@@ -92,6 +151,19 @@ class Workers(unittest.TestCase):
             until(lambda: found.metric("betable_engine_starts") == 2 and found.ask("GET", "/healthz")[0] == 200)
             found.run(adds(1))
             self.assertEqual((quantities(found), table_process(found) != process), ({1: 2}, True))
+
+    def test_a_worker_waits_for_the_table_of_the_one_before_it(self) -> None:
+        """Which has the file until the end of its request. Here this process has it."""
+        with server("--workers", 2) as found, found.path.open("rb") as file:
+            found.run(adds(1))
+            os.kill(found.engine(), signal.SIGKILL)
+            fcntl.flock(file, fcntl.LOCK_EX)
+            until(lambda: found.metric("betable_engine_starts") == 2)
+            time.sleep(1)
+            self.assertEqual(found.ask("GET", "/healthz")[0], 503)
+            file.close()
+            until(lambda: found.ask("GET", "/healthz")[0] == 200)
+            self.assertEqual((quantities(found), found.metric("betable_engine_starts")), ({1: 1}, 2))
 
     def test_a_server_that_ends_leaves_no_process(self) -> None:
         for number in (signal.SIGTERM, signal.SIGKILL):

@@ -16,23 +16,23 @@ The library is libbt_c.so, in the folder that BETABLE_LIBRARY names, or else bes
 where the Debian package has it. docs/SCRIPT.md has the language, and docs/PYTHON.md the calls and their errors.
 
 `Engine` has the same calls on a table in a process of its own, the program betable_engine, whose threads share the work (docs/ENGINE.md). `open` has them on a
-table in a file, in this process.
+durable table, which is in a file.
 
 Without the extension `_packed`, calls on values go by scripts, and a warning says so.
 
-Layers over sessions have the same calls, each in a package of its own, which says at its top what it is for: `betable.durable` has tables that are kept on
-disk, `betable.cluster` tables on several machines, `betable.server` the server by HTTP and `betable.shell` the prompt.
+Packages of its own, each of which says at its top what it is for, have the same calls: `betable.durable` has tables that are kept on disk, `betable.cluster`
+tables on several machines, `betable.server` the server by HTTP and `betable.shell` the prompt.
 """
 
 from pathlib import Path
 
 from .calls import MOST_MESSAGES, Calls
+from .durable import open as open
 from .engine import Engine
 from .errors import (
-    Corrupt, EngineEnded, InDoubt, IndexBuilding, InUse, NewerFormat, NotATable, OtherEngine, OutOfMemory, Refused, RequestReused, RowError, RowTypeError,
-    RowValueError,
+    Corrupt, EngineEnded, InDoubt, IndexBuilding, InUse, NewerFormat, NotATable, OtherEngine, OutOfMemory, Refused, RequestReused, RolledBack, RowError,
+    RowTypeError, RowValueError,
 )  # fmt: skip
-from .kept import KeptSession, open as open
 from .messages import OPERATIONS, Message, delete, field, put, record, upsert, upsert_form
 from .packed import Usage
 from .reasons import Problem, Reason
@@ -55,7 +55,6 @@ __all__ = [
     "InDoubt",
     "InUse",
     "IndexBuilding",
-    "KeptSession",
     "Message",
     "NewerFormat",
     "NotATable",
@@ -66,6 +65,7 @@ __all__ = [
     "Refused",
     "Reply",
     "RequestReused",
+    "RolledBack",
     "RowError",
     "RowTypeError",
     "RowValueError",

@@ -1,9 +1,9 @@
-"""The commands of the package, by `python3 -m betable`: `shell [PATH]`, `serve PATH --port N`, `restore BACKUP PATH` and `copy OLD NEW`."""
+"""The commands of the package, by `python3 -m betable`: `shell [PATH]`, `serve PATH --port N`, `copy OLD NEW` and `convert OLD NEW`."""
 
 import argparse
 import sys
 
-from .durable import backups, copies
+from .durable import conversions, copies
 from .shell import prompt
 
 SERVE = "Serves a durable table by HTTP. docs/SERVICE.md has its endpoints, and docs/OPERATING.md what whoever runs it has to know."
@@ -14,11 +14,11 @@ def main() -> int:
     commands = parser.add_subparsers(dest="command", required=True)
     prompt.add_words(commands.add_parser("shell", help="a prompt over a table", description=prompt.DESCRIPTION))
     words = commands.add_parser("serve", help="a durable table by HTTP", description=SERVE)
-    backups.add_words(commands.add_parser("restore", help="a backup in the place of a durable table", description=backups.DESCRIPTION))
     copies.add_words(commands.add_parser("copy", help="a durable table in a new file, with other columns", description=copies.DESCRIPTION))
+    conversions.add_words(commands.add_parser("convert", help="a table of an earlier version in a new file", description=conversions.DESCRIPTION))
     if sys.argv[1:2] != ["serve"]:
         given = parser.parse_args()
-        return {"restore": backups.run, "copy": copies.run, "shell": prompt.run}[given.command](given)
+        return {"copy": copies.run, "convert": conversions.run, "shell": prompt.run}[given.command](given)
     try:
         from .server import serve
     except ModuleNotFoundError as fault:

@@ -7,7 +7,7 @@
  *
  * The module is not linked with the library. ctypes has loaded it, and `_connect` gets the addresses of its calls, so the process has one copy of the library:
  * the one that opened the session. Without addresses, as for an engine, packed bytes go to the method `_ask`, which returns the reply, or None if they are
- * refused.
+ * refused. Changes of a table in a file go there too.
  *
  * Code of Python may run during a call: the collector of garbage runs `__del__` when an object is made, and that may call the session again. So the bytes of a
  * call are its own (from `taken` to `kept`), `is_ready` is asked directly before the library is called, and a reply is read directly after. Values are borrowed
@@ -16,6 +16,9 @@
  * One call at a time uses a session, of any thread. The lock of the session is a flag, which is written while the interpreter lock is held. It is set while
  * other threads run during a call of the library, and in the contexts in which the plain class calls it. A call that finds it set goes to the plain class,
  * which raises the fault.
+ *
+ * Threads may share a table in a file: its lock also has a mutex. Each call takes it, and waits until another thread has given it back. A thread that has it may
+ * take it again, so that a group is a context in which it is held.
  */
 #define Py_LIMITED_API 0x030B0000
 #define PY_SSIZE_T_CLEAN
@@ -65,7 +68,16 @@ typedef struct {
 typedef struct {
     PyObject_HEAD
     int is_taken;
+    PyThread_type_lock mutex; /* or NULL if calls do not wait */
+    unsigned long holder;     /* the thread that has the mutex, if the depth is not 0 */
+    Py_ssize_t depth;         /* how often it has taken it */
 } call_lock;
+
+/* A context in which a thread has the mutex of a lock. */
+typedef struct {
+    PyObject_HEAD
+    call_lock *lock;
+} hold;
 
 typedef struct {
     PyObject_HEAD
@@ -89,7 +101,7 @@ typedef struct {
     size_t name_length; /* with its byte of length */
 } tree;
 
-static PyObject *plain, *message_type, *lock_type;
+static PyObject *plain, *message_type, *lock_type, *hold_type;
 static PyObject *word_name, *shape_name, *values_name, *put_word, *del_word, *ups_word, *plan_name, *out_of_memory_name, *ask_name;
 static PyObject *names_of_scan[6], *names_of_sums[5];
 
@@ -639,6 +651,49 @@ static PyObject *as_columns(reader reply, const tree *there)
 
 /* ---- calls of the library ---- */
 
+/* Takes the mutex, if there is one. Whether it could: the handler of a signal may raise meanwhile. */
+static int is_entered(call_lock *lock)
+{
+    if (lock->mutex == NULL)
+        return 1;
+    const unsigned long thread = PyThread_get_thread_ident();
+    if (lock->depth > 0 && lock->holder == thread) {
+        lock->depth++;
+        return 1;
+    }
+    PyLockStatus status = PyThread_acquire_lock_timed(lock->mutex, 0, 0);
+    while (status != PY_LOCK_ACQUIRED) {
+        Py_BEGIN_ALLOW_THREADS
+        status = PyThread_acquire_lock_timed(lock->mutex, -1, 1);
+        Py_END_ALLOW_THREADS
+        if (status == PY_LOCK_INTR && PyErr_CheckSignals() < 0)
+            return 0;
+    }
+    lock->holder = thread;
+    lock->depth = 1;
+    return 1;
+}
+
+/* Gives the mutex back. */
+static void leave_lock(call_lock *lock)
+{
+    if (lock->mutex != NULL && --lock->depth == 0)
+        PyThread_release_lock(lock->mutex);
+}
+
+/* Waits until no other thread makes a call. What is not open is for the plain class. Followed by `end_call` if it is DONE. */
+static outcome begin_call(caller *self)
+{
+    if (self->lock == NULL || (self->session != NULL && !self->session->is_open))
+        return OTHER;
+    return is_entered(self->lock) ? DONE : RAISED;
+}
+
+static void end_call(caller *self)
+{
+    leave_lock(self->lock);
+}
+
 static int is_ready(const caller *self)
 {
     return self->lock != NULL && !self->lock->is_taken && (self->session == NULL || self->session->is_open);
@@ -664,7 +719,7 @@ static outcome called(caller *self, unsigned number, const bytes_in_room *bytes,
 {
     if (!is_ready(self))
         return OTHER;
-    if (self->session == NULL)
+    if (self->session == NULL || (number == APPLY && self->lock->mutex != NULL))
         return asked_by_method(self, number, bytes);
     packed_call *call = self->calls[number];
     betable_fault fault;
@@ -805,70 +860,20 @@ static outcome applied(caller *self, encoder *encode, PyObject *given)
 {
     tree there;
     bytes_in_room bytes;
+    outcome found = begin_call(self);
+    if (found != DONE)
+        return found;
     PyObject *description = is_ready(self) ? description_of(self, NULL) : NULL;
-    if (description == NULL)
-        return OTHER;
-    outcome found = OTHER;
+    found = OTHER;
     if (described(description, &there)) {
         found = taken(self, &bytes) ? encode(self, &bytes, given, &there) : RAISED;
         if (found == DONE)
             found = called(self, APPLY, &bytes, bytes.length >= MUCH_CHANGED);
         kept(self, &bytes);
     }
-    Py_DECREF(description);
+    Py_XDECREF(description);
+    end_call(self);
     return found;
-}
-
-/* The packed changes of a row of a log, or NULL if it has none with this number, or other ones than its checksum says: also with an exception. */
-static PyObject *changes_of_entry(PyObject *row, uint64_t number, PyObject *checksum)
-{
-    if (!PyTuple_CheckExact(row) || PyTuple_Size(row) != 4)
-        return NULL;
-    PyObject *place = PyTuple_GetItem(row, 0), *changes = PyTuple_GetItem(row, 1), *is_packed = PyTuple_GetItem(row, 3);
-    if (!PyLong_CheckExact(place) || !PyBytes_CheckExact(changes) || !PyLong_CheckExact(is_packed))
-        return NULL;
-    int overflow;
-    if (PyLong_AsLongLongAndOverflow(is_packed, &overflow) != 1 || (uint64_t)PyLong_AsLongLongAndOverflow(place, &overflow) != number || overflow != 0)
-        return NULL;
-    PyObject *found = PyObject_CallFunctionObjArgs(checksum, changes, NULL);
-    const int is_same = found != NULL && PyObject_RichCompareBool(found, PyTuple_GetItem(row, 2), Py_EQ) == 1;
-    Py_XDECREF(found);
-    return is_same ? changes : NULL;
-}
-
-/* _replay(rows, number, most, checksum): applies the packed changes of the next rows of a log, each a number, bytes, their checksum, and 1. The first one has
- * the number. Returns how many were applied, how many bytes they have, and the row at which that ended: one of another form, or that the library refuses. It is
- * None after as many rows as the most, or at the end of the log. */
-static PyObject *replay(PyObject *object, PyObject *const *args, Py_ssize_t count)
-{
-    caller *self = (caller *)object;
-    if (count != 4 || !PyIter_Check(args[0])) {
-        PyErr_SetString(PyExc_TypeError, "_replay takes an iterator of rows, a number, the most rows, and a checksum");
-        return NULL;
-    }
-    const uint64_t number = PyLong_AsUnsignedLongLong(args[1]), most = PyLong_AsUnsignedLongLong(args[2]);
-    if (PyErr_Occurred())
-        return NULL;
-    uint64_t applied = 0, total = 0;
-    PyObject *row = NULL;
-    while (applied < most && (row = PyIter_Next(args[0])) != NULL) {
-        char *at;
-        Py_ssize_t length;
-        PyObject *changes = changes_of_entry(row, number + applied, args[3]);
-        if (changes == NULL || PyBytes_AsStringAndSize(changes, &at, &length) < 0)
-            break;
-        const bytes_in_room bytes = {(unsigned char *)at, (size_t)length, (size_t)length};
-        if (called(self, APPLY, &bytes, length >= MUCH_CHANGED) != DONE)
-            break;
-        Py_CLEAR(row);
-        applied++;
-        total += (uint64_t)length;
-    }
-    if (PyErr_Occurred()) {
-        Py_XDECREF(row);
-        return NULL;
-    }
-    return Py_BuildValue("(KKN)", (unsigned long long)applied, (unsigned long long)total, row == NULL ? Py_NewRef(Py_None) : row);
 }
 
 /* The count of what was given to `put` or `batch`, if it is one batch that is applied here. */
@@ -899,8 +904,12 @@ static PyObject *packed(PyObject *object, encoder *encode, PyObject *given)
     caller *self = (caller *)object;
     tree there;
     bytes_in_room bytes;
-    PyObject *found = NULL, *description = is_ready(self) ? description_of(self, NULL) : NULL;
-    outcome ended = OTHER;
+    PyObject *found = NULL;
+    outcome ended = begin_call(self);
+    if (ended != DONE)
+        return ended == RAISED ? NULL : Py_NewRef(Py_None);
+    PyObject *description = is_ready(self) ? description_of(self, NULL) : NULL;
+    ended = OTHER;
     if (described(description, &there)) {
         ended = taken(self, &bytes) ? encode(self, &bytes, given, &there) : RAISED;
         if (ended == DONE) {
@@ -910,6 +919,7 @@ static PyObject *packed(PyObject *object, encoder *encode, PyObject *given)
         kept(self, &bytes);
     }
     Py_XDECREF(description);
+    end_call(self);
     return ended != OTHER ? found : PyErr_Occurred() ? NULL : Py_NewRef(Py_None);
 }
 
@@ -1040,32 +1050,44 @@ static PyObject *pack_columns(PyObject *self, PyObject *const *args, Py_ssize_t 
 
 /* ---- gets, pages and sums ---- */
 
-static PyObject *call_get(PyObject *object, PyObject *const *args, Py_ssize_t count, PyObject *names)
+/* The row of a key, or None. NULL with OTHER is for the plain class. */
+static PyObject *row_of(caller *self, PyObject *const *key, Py_ssize_t count, outcome *found)
 {
-    caller *self = (caller *)object;
     tree there;
     bytes_in_room bytes;
     reader reply;
-    PyObject *row = NULL, *description = names == NULL && is_ready(self) ? description_of(self, NULL) : NULL;
-    outcome found = OTHER;
+    PyObject *row = NULL;
+    *found = begin_call(self);
+    if (*found != DONE)
+        return NULL;
+    PyObject *description = is_ready(self) ? description_of(self, NULL) : NULL;
+    *found = OTHER;
     if (described(description, &there) && count == there.keys) {
-        found = taken(self, &bytes) && has_room(&bytes, HEADER_LENGTH + (size_t)count * MOST_VALUE_LENGTH) ? DONE : RAISED;
-        if (found == DONE)
+        *found = taken(self, &bytes) && has_room(&bytes, HEADER_LENGTH + (size_t)count * MOST_VALUE_LENGTH) ? DONE : RAISED;
+        if (*found == DONE)
             begin(&bytes, 1);
-        for (Py_ssize_t place = 0; found == DONE && place < count; place++)
-            found = add_value(&bytes, args[place], there.kinds[place]);
-        if (found == DONE)
-            found = called(self, GET, &bytes, 0);
-        if (found == DONE)
-            found = read_reply(self, &bytes, &reply);
-        if (found == DONE) {
+        for (Py_ssize_t place = 0; *found == DONE && place < count; place++)
+            *found = add_value(&bytes, key[place], there.kinds[place]);
+        if (*found == DONE)
+            *found = called(self, GET, &bytes, 0);
+        if (*found == DONE)
+            *found = read_reply(self, &bytes, &reply);
+        if (*found == DONE) {
             row = reply.at == reply.end ? Py_NewRef(Py_None) : next_tuple(&reply, 0, there.columns, there.kinds);
-            found = row == NULL ? RAISED : DONE;
+            *found = row == NULL ? RAISED : DONE;
         }
         kept(self, &bytes);
     }
     Py_XDECREF(description);
-    return found == OTHER ? by_python(object, "get", args, count, names) : row;
+    end_call(self);
+    return row;
+}
+
+static PyObject *call_get(PyObject *self, PyObject *const *args, Py_ssize_t count, PyObject *names)
+{
+    outcome found = OTHER;
+    PyObject *row = names == NULL ? row_of((caller *)self, args, count, &found) : NULL;
+    return found == OTHER ? by_python(self, "get", args, count, names) : row;
 }
 
 /* The bound of the first values of a key, or that directly after the row of a whole one. */
@@ -1159,9 +1181,13 @@ static PyObject *scanned(caller *self, PyObject *const given[6], int are_columns
     bytes_in_room bytes;
     reader reply;
     *found = OTHER;
-    if (!is_ready(self) || limit_of(given[3], &limit) != DONE || (given[5] != NULL && !newest_first && given[5] != Py_False))
+    if (limit_of(given[3], &limit) != DONE || (given[5] != NULL && !newest_first && given[5] != Py_False))
         return NULL;
-    PyObject *description = description_of(self, given[0]);
+    *found = begin_call(self);
+    if (*found != DONE)
+        return NULL;
+    PyObject *description = is_ready(self) ? description_of(self, given[0]) : NULL;
+    *found = OTHER;
     if (described(description, &there)) {
         *found = taken(self, &bytes) ? begin_range(&bytes, &there, limit) : RAISED;
         if (*found == DONE)
@@ -1179,6 +1205,7 @@ static PyObject *scanned(caller *self, PyObject *const given[6], int are_columns
         *found = RAISED;
     }
     Py_XDECREF(description);
+    end_call(self);
     return rows;
 }
 
@@ -1242,7 +1269,11 @@ static PyObject *puts_after(PyObject *object, PyObject *const *args, Py_ssize_t 
     if (!have_count(count, 2))
         return NULL;
     outcome found = limit_of(args[1], &limit);
-    PyObject *description = found == DONE && is_ready(self) ? description_of(self, NULL) : NULL;
+    if (found == DONE)
+        found = begin_call(self);
+    if (found != DONE)
+        return found == OTHER ? Py_NewRef(Py_None) : NULL;
+    PyObject *description = is_ready(self) ? description_of(self, NULL) : NULL;
     found = OTHER;
     if (described(description, &there)) {
         found = taken(self, &bytes) ? read_page(self, &bytes, &there, limit, args[0], &reply) : RAISED;
@@ -1256,6 +1287,7 @@ static PyObject *puts_after(PyObject *object, PyObject *const *args, Py_ssize_t 
         kept(self, &bytes);
     }
     Py_XDECREF(description);
+    end_call(self);
     if (found == DONE)
         return Py_BuildValue("(NN)", puts, row);
     Py_XDECREF(puts);
@@ -1302,10 +1334,13 @@ static PyObject *summed(caller *self, PyObject *const given[5], outcome *ended)
     tree there;
     bytes_in_room bytes;
     reader reply;
-    outcome found = OTHER;
     int overflow;
+    outcome found = *ended = begin_call(self);
+    if (found != DONE)
+        return NULL;
     if (is_ready(self) && given[0] != NULL)
         description = description_of(self, given[0]);
+    found = OTHER;
     const int are_there = described(description, &there) && given[1] != NULL && given[2] != NULL;
     if (are_there && PyLong_CheckExact(given[1]) && PyUnicode_CheckExact(given[2])) {
         const long long grouped = PyLong_AsLongLongAndOverflow(given[1], &overflow);
@@ -1329,6 +1364,7 @@ static PyObject *summed(caller *self, PyObject *const given[5], outcome *ended)
         found = RAISED;
     }
     Py_XDECREF(description);
+    end_call(self);
     *ended = found;
     return groups;
 }
@@ -1379,8 +1415,12 @@ static PyObject *enter(PyObject *object, PyObject *none)
 {
     (void)none;
     call_lock *self = (call_lock *)object;
+    if (!is_entered(self))
+        return NULL;
     if (self->is_taken) {
-        PyErr_SetString(PyExc_RuntimeError, "the session is in a call, which another thread has just begun: one call at a time may use it");
+        leave_lock(self);
+        PyErr_SetString(PyExc_RuntimeError, self->mutex == NULL ? "the session is in a call, which another thread has just begun: one call at a time may use it"
+                                                                : "the table is in a call of this thread");
         return NULL;
     }
     self->is_taken = 1;
@@ -1392,7 +1432,54 @@ static PyObject *leave(PyObject *object, PyObject *const *args, Py_ssize_t count
     (void)args;
     (void)count;
     ((call_lock *)object)->is_taken = 0;
+    leave_lock((call_lock *)object);
     Py_RETURN_NONE;
+}
+
+/* Lock(waits): whether it has a mutex. */
+static PyObject *new_lock(PyTypeObject *type, PyObject *args, PyObject *named)
+{
+    (void)named;
+    int waits = 0;
+    if (!PyArg_ParseTuple(args, "|p", &waits))
+        return NULL;
+    call_lock *made = (call_lock *)PyType_GenericAlloc(type, 0);
+    if (made != NULL && waits && (made->mutex = PyThread_allocate_lock()) == NULL) {
+        Py_CLEAR(made);
+        PyErr_NoMemory();
+    }
+    return (PyObject *)made;
+}
+
+static PyObject *new_hold(PyObject *lock, PyObject *none)
+{
+    (void)none;
+    hold *made = (hold *)PyType_GenericAlloc((PyTypeObject *)hold_type, 0);
+    if (made != NULL)
+        made->lock = (call_lock *)Py_NewRef(lock);
+    return (PyObject *)made;
+}
+
+static PyObject *enter_hold(PyObject *object, PyObject *none)
+{
+    (void)none;
+    return is_entered(((hold *)object)->lock) ? Py_NewRef(object) : NULL;
+}
+
+static PyObject *leave_hold(PyObject *object, PyObject *const *args, Py_ssize_t count)
+{
+    (void)args;
+    (void)count;
+    leave_lock(((hold *)object)->lock);
+    Py_RETURN_NONE;
+}
+
+static void dealloc_hold(PyObject *object)
+{
+    PyTypeObject *type = Py_TYPE(object);
+    Py_XDECREF((PyObject *)((hold *)object)->lock);
+    ((freefunc)PyType_GetSlot(type, Py_tp_free))(object);
+    Py_DECREF(type);
 }
 
 static PyObject *locked(PyObject *object, PyObject *none)
@@ -1404,6 +1491,8 @@ static PyObject *locked(PyObject *object, PyObject *none)
 static void dealloc_lock(PyObject *object)
 {
     PyTypeObject *type = Py_TYPE(object);
+    if (((call_lock *)object)->mutex != NULL)
+        PyThread_free_lock(((call_lock *)object)->mutex);
     ((freefunc)PyType_GetSlot(type, Py_tp_free))(object);
     Py_DECREF(type);
 }
@@ -1504,7 +1593,6 @@ static PyMethodDef methods[] = {
     {"_rows_between", FAST(rows_between), METH_FASTCALL, "The rows of a scan, or None."},
     {"_columns_between", FAST(columns_between), METH_FASTCALL, "The columns of the rows of a scan, of ints their bytes, and lists of other values, or None."},
     {"_puts_after", FAST(puts_after), METH_FASTCALL, "The changes that put the first rows after a key, and the last of these rows, or None."},
-    {"_replay", FAST(replay), METH_FASTCALL, "Applies the packed changes of the next rows of a log."},
     {"_groups_between", FAST(groups_between), METH_FASTCALL, "The groups of a range, or None."},
     {"_places", places_of_replies, METH_NOARGS, "The places of the replies to the last script."},
     {"_connect", FAST(connect), METH_FASTCALL, "Connects it with a session, by addresses."},
@@ -1523,17 +1611,33 @@ static PyMethodDef methods_of_lock[] = {
     {"__enter__", enter, METH_NOARGS, "Takes the lock."},
     {"__exit__", FAST(leave), METH_FASTCALL, "Frees the lock."},
     {"locked", locked, METH_NOARGS, "Whether the lock is taken."},
+    {"hold", new_hold, METH_NOARGS, "A context in which other threads wait."},
     {NULL, NULL, 0, NULL},
 };
 
 static PyType_Slot slots_of_lock[] = {
-    {Py_tp_doc, (void *)(uintptr_t) "The lock of a session, as that of threading, which does not wait."},
+    {Py_tp_doc, (void *)(uintptr_t) "The lock of a session, as that of threading, which does not wait unless it is made so."},
+    {Py_tp_new, new_lock},
     {Py_tp_dealloc, dealloc_lock},
     {Py_tp_methods, methods_of_lock},
     {0, NULL},
 };
 
+static PyMethodDef methods_of_hold[] = {
+    {"__enter__", enter_hold, METH_NOARGS, "Waits until no other thread has the lock."},
+    {"__exit__", FAST(leave_hold), METH_FASTCALL, "Lets other threads go on."},
+    {NULL, NULL, 0, NULL},
+};
+
+static PyType_Slot slots_of_hold[] = {
+    {Py_tp_doc, (void *)(uintptr_t) "A context in which the calls of other threads wait."},
+    {Py_tp_dealloc, dealloc_hold},
+    {Py_tp_methods, methods_of_hold},
+    {0, NULL},
+};
+
 static PyType_Spec spec_of_lock = {"betable._packed.Lock", sizeof(call_lock), 0, Py_TPFLAGS_DEFAULT, slots_of_lock};
+static PyType_Spec spec_of_hold = {"betable._packed.Hold", sizeof(hold), 0, Py_TPFLAGS_DEFAULT, slots_of_hold};
 static PyType_Spec spec = {"betable._packed.Caller", sizeof(caller), 0, Py_TPFLAGS_DEFAULT | Py_TPFLAGS_BASETYPE, slots};
 
 /* ---- the module ---- */
@@ -1592,11 +1696,12 @@ PyMODINIT_FUNC PyInit__packed(void)
     ask_name = interned[8];
     PyObject *module = PyModule_Create(&definition), *type = PyType_FromSpec(&spec);
     lock_type = PyType_FromSpec(&spec_of_lock);
+    hold_type = PyType_FromSpec(&spec_of_hold);
     PyObject *calls =
         Py_BuildValue("(sssssssss)", "betable_apply", "betable_get", "betable_page", "betable_last_page", "betable_sums", "betable_replies_length",
                       "betable_copy_replies", "betable_reply_count", "betable_reply");
     /* With no object to add, an exception is set, as is wanted. */
-    if (module != NULL && (PyModule_AddObjectRef(module, "Caller", type) < 0 || PyModule_AddObjectRef(module, "Lock", lock_type) < 0 ||
+    if (module != NULL && (hold_type == NULL || PyModule_AddObjectRef(module, "Caller", type) < 0 || PyModule_AddObjectRef(module, "Lock", lock_type) < 0 ||
                            PyModule_AddObjectRef(module, "CALLS", calls) < 0))
         Py_CLEAR(module);
     Py_XDECREF(type);

@@ -1,5 +1,5 @@
 """The calls of a table on bytes: scripts, and changes and questions in packed bytes (docs/C.md has their layout). Three classes have them: `LibraryCalls`, of
-the library in this process, `FileCalls`, of a table in a file, and `EngineCalls`, of a process of the program betable_engine. What a session does over them is
+the library in this process, `FileCalls`, of a durable table, and `EngineCalls`, of a process of the program betable_engine. What a session does over them is
 in session.py, once for all."""
 
 from __future__ import annotations

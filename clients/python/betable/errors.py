@@ -138,8 +138,19 @@ class InUse(Exception):
     """Another process, or another object of this one, has the table open."""
 
 
+class RolledBack(Exception):
+    """A call or a group failed, and nothing of it was kept: it can be made again. `__cause__` is what failed. `taken` is how many rows of a call of several
+    batches were kept before it, in earlier batches; in a group none are."""
+
+    taken, of_group = 0, False
+
+    def __str__(self) -> str:
+        return super().__str__() + before(self.taken)
+
+
 class Corrupt(Exception):
-    """What the file has is not what was kept. `number` is that of the script at fault, 0 for the checkpoint, or None if it is neither."""
+    """What the file has is not what was kept. `number` is that of the script at fault in a file that is converted, 0 for its checkpoint, or None if it is
+    neither."""
 
     def __init__(self, path: str, number: int | None, reason: str) -> None:
         super().__init__(path, number, reason)
@@ -151,10 +162,10 @@ class Corrupt(Exception):
 
 
 class InDoubt(Exception):
-    """The disk failed, so that it is not known whether the script or group was kept. The table is closed; opening it again shows which. `__cause__` is what
+    """The disk failed, so that it is not known whether the call or group was kept. The table is closed; opening it again shows which. `__cause__` is what
     failed. `taken` is how many rows of a call of several batches were kept before it, in earlier batches."""
 
-    taken = 0
+    taken, of_group = 0, False
 
     def __str__(self) -> str:
         return super().__str__() + before(self.taken)
@@ -211,8 +222,8 @@ def told_with(taken: int) -> Iterator[None]:
         yield
     except (OutOfMemory, EngineEnded) as fault:
         raise fault.with_taken(taken) from None
-    except InDoubt as fault:
-        fault.taken = taken
+    except (InDoubt, RolledBack) as fault:
+        fault.taken = 0 if fault.of_group else taken
         raise
 
 

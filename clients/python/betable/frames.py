@@ -40,11 +40,15 @@ class FramedCalls:
         return self._take_marks(self._answered(Request.SCRIPT, script)[1])
 
     def run_once(self, request_id: str, script: bytes) -> bytes:
+        return self._take_marks(self._answered_once(request_id, Request.SCRIPT, script)[1])
+
+    def _answered_once(self, request_id: str, request: int, payload: bytes) -> tuple[int, bytes]:
+        """The reply to a request, which is that of the first time if there was one with this id."""
         identity = blake2b(request_id.encode(), digest_size=ID_BYTES).digest()
-        reply = self._exchange(Request.ONCE, identity + bytes((Request.SCRIPT,)) + script)
+        reply = self._exchange(Request.ONCE, identity + bytes((request,)) + payload)
         if reply == (INVALID, b"RequestReused"):
             raise RequestReused(request_id)
-        return self._take_marks(taken(reply)[1])
+        return taken(reply)
 
     def check(self, script: bytes) -> None:
         self._take_marks(self._answered(Request.CHECK, script)[1])

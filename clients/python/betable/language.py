@@ -53,6 +53,8 @@ BLOCK_WORDS = {word: form.block for word, form in COMMANDS.items() if form.block
 WORDS = {word: form.words or (len(form.text.split()),) * 2 for word, form in COMMANDS.items()}
 DEFINING = (b"table", b"index", b"build", b"drop")  # create or drop something
 CHANGING = {word for word, form in COMMANDS.items() if form.changes != "nothing"}
+# A line that may begin a command that changes the table.
+CHANGING_LINE = re.compile(rb"^ *(?:%b)" % b"|".join(sorted(CHANGING)), re.MULTILINE)
 OF_TREES = [word for word, form in COMMANDS.items() if form.names == "a tree"]
 OF_INDEXES = [word for word, form in COMMANDS.items() if form.names == "an index"]
 

@@ -26,11 +26,11 @@ PACKED_CALLS = {
 }  # fmt: skip
 
 
-class _Handle(ctypes.Structure):
+class Handle(ctypes.Structure):
     _fields_ = [("at", ctypes.c_void_p), ("is_open", ctypes.c_bool)]
 
 
-class _Fault(ctypes.Structure):
+class Fault(ctypes.Structure):
     _fields_ = [("refusal", ctypes.c_uint64), ("item", ctypes.c_uint64), ("column", ctypes.c_uint64)]
 
 
@@ -48,8 +48,8 @@ def library_path() -> str:
 
 def _loaded_library() -> ctypes.CDLL:
     library = ctypes.CDLL(library_path())
-    handle, size = ctypes.POINTER(_Handle), ctypes.c_size_t
-    of_packed = [handle, ctypes.c_char_p, size, ctypes.POINTER(_Fault)]
+    handle, size = ctypes.POINTER(Handle), ctypes.c_size_t
+    of_packed = [handle, ctypes.c_char_p, size, ctypes.POINTER(Fault)]
     calls: list[tuple[str, list[Any], Any]] = [
         ("betable_open", [handle], ctypes.c_uint),
         ("betable_run", [handle, ctypes.c_char_p, size], ctypes.c_uint),
@@ -94,7 +94,7 @@ class LibraryCalls:
 
     def __init__(self) -> None:
         global _library
-        self.handle, self.fault, self.place = _Handle(), _Fault(), _ReplyPlace()
+        self.handle, self.fault, self.place = Handle(), Fault(), _ReplyPlace()
         self._room = ctypes.create_string_buffer(SHORT_REPLIES)
         _library = _library or _loaded_library()
         self.library: Any = _library

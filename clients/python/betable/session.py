@@ -50,6 +50,7 @@ class ScriptSession(Calls):
     session raises ValueError."""
 
     _name = "session"  # what messages call it
+    _waits = False  # whether a call waits until that of another thread has ended
 
     def __init__(self, calls: ByteCalls | None = None) -> None:
         # While the lock is taken, a call is being made.
@@ -89,7 +90,7 @@ class ScriptSession(Calls):
         return f"open, {counted(len(trees.columns), 'column')}{', indexes: ' + ', '.join(indexes) if indexes else ''}"
 
     def _made_lock(self) -> Any:
-        return threading.Lock()
+        return threading.RLock() if self._waits else threading.Lock()
 
     def _calls(self) -> Any:
         """The lock, for a `with` in which calls on bytes that belong together are made. After `with` no interrupt leaves it taken."""
@@ -381,8 +382,14 @@ if TYPE_CHECKING or _packed is not None:
             """Lets the extension ask by `_ask`."""
             self._connect(None, 0, None, self._lock)
 
+        def _connect_library(self, library: Any, handle: ctypes.Structure, prefix: str) -> None:
+            """Gives the extension the calls of the library that ctypes has loaded, whose names begin so: as many as there are."""
+            calls = [getattr(library, name.replace("betable_", prefix), None) for name in _packed.CALLS]
+            addresses = [0 if call is None else ctypes.cast(call, ctypes.c_void_p).value for call in calls]
+            self._connect(handle, ctypes.addressof(handle), tuple(addresses), self._lock)
+
         def _made_lock(self) -> Any:
-            return _packed.Lock()
+            return _packed.Lock(self._waits)
 
         def _take_trees(self, trees: Trees | None) -> None:
             super()._take_trees(trees)
@@ -401,6 +408,9 @@ else:
             super().__init__(calls)
             _warn_of_scripts()
 
+        def _connect_library(self, library: Any, handle: ctypes.Structure, prefix: str) -> None:
+            pass
+
 
 class Session(PackedSession):
     __doc__ = ScriptSession.__doc__
@@ -414,12 +424,7 @@ class Session(PackedSession):
         return self
 
     def _connect_calls(self) -> None:
-        """Gives the extension the calls of the library that ctypes has loaded."""
-        if _packed is None:
-            return
-        library, handle = self._bytes.library, self._bytes.handle
-        addresses = [ctypes.cast(getattr(library, name), ctypes.c_void_p).value for name in _packed.CALLS]
-        self._connect(handle, ctypes.addressof(handle), tuple(addresses), self._lock)
+        self._connect_library(self._bytes.library, self._bytes.handle, "betable_")
 
 
 @cache

@@ -32,24 +32,17 @@ from typing import Any, Literal, NamedTuple, TypeVar
 
 from ..batches import Batch
 from ..calls import as_script
-from ..durable.checkpoints import AutomaticCheckpoints, Part, parts_of, puts_of, scripts_of
-from ..durable.table import (
-    CHANGING_LINE,
-    CHECKPOINT_BYTES,
-    DEFINED,
-    ENGINE,
-    REFUSED,
-    applied,
-    check_checkpoint_bytes,
-)
 from ..errors import IndexBuilding, RequestReused
-from ..language import Definitions, commands
+from ..language import CHANGING_LINE, Definitions, commands
 from ..packed import MAGIC
-from ..reads import Reads, Runner, reader_of
 from ..replies import answered
 from ..schema import Tree, Trees
 from ..session import Session
+from .checkpoints import (
+    CHECKPOINT_BYTES, DEFINED, ENGINE, REFUSED, AutomaticCheckpoints, Part, applied, check_checkpoint_bytes, parts_of, puts_of, scripts_of,
+)  # fmt: skip
 from .logs import ANOTHER_CHECKPOINT, LONGEST_WAIT, Checkpoint, Entry, Log, Unreachable, UnusableLog, check_request_id, log_of
+from .reads import Reads, Runner, reader_of
 
 T = TypeVar("T")
 # The number of last requests that a replica knows, the same for all replicas of a log, and the largest size of their replies.

@@ -1,4 +1,4 @@
-"""Durable tables: a table on disk, in a file of SQLite, with the calls of a session.
+"""Durable tables: a session whose table is in a file.
 
     from betable import durable
 
@@ -10,31 +10,31 @@
             table.upsert(1, add={"qty": -5})
             table.delete(2)
         table.once("order 17", "batch\\nups 1,add,qty,-1\\nend\\n")  # run once, however often it is sent
-        table.checkpoint()                                      # rows in place of the log, which is also done by itself
+        table.checkpoint()                                      # the state in place of the changes, which is also done by itself
         table.backup("stock.backup")
 
 A call that changes the table returns when the change is synced. After a crash of the process, or a loss of power, the table has all calls that returned, each
-of them whole. Reads go to the session in memory, and take as long as its own.
+of them whole. Reads take as long as those of a session. The file is that of `betable_engine --keep`, and of the clients in C and Rust.
 
 | Name | What it is |
 |---|---|
-| `open(path, sync=True, most_requests=.., checkpoint_bytes=.., make=..)` | opens or creates a table, a `Durable` |
+| `open(path)` | opens or creates a table, a `Durable`; also `betable.open` |
 | `Durable` | the table: the calls of a session, and `group`, `once`, `checkpoint`, `backup`, `number`, `close` |
 | `copy(old, new, add={..}, rename={..}, drop=[..])` | copies a table with other columns; also `python3 -m betable copy OLD NEW` |
-| `restore(backup, path)` | puts a backup in the place of a table; also `python3 -m betable restore BACKUP PATH` |
-| `RolledBack`, `ScriptTooLong`, `InDoubt` | why a call was not kept, or may have been |
-| `RequestReused`, `ReplyDamaged` | why `once` does not reply |
+| `convert(old, new)` | makes a table of a file of an earlier version; also `python3 -m betable convert OLD NEW` |
+| `RolledBack`, `InDoubt` | why a call was not kept, or may have been |
+| `RequestReused` | why `once` does not reply |
 | `IndexBuilding` | why no checkpoint is written |
-| `InUse`, `NotATable`, `NewerFormat`, `Corrupt` | why a file is not opened |
+| `InUse`, `NotATable`, `NewerFormat`, `OtherEngine`, `Corrupt` | why a file is not opened |
 
-docs/DURABLE.md says what is promised, and what each exception means. `table.py` has the table, `checkpoints.py` says what a checkpoint is, `wal.py` finds
-damage that SQLite would pass over, `backups.py` has `restore`, `copies.py` has `copy`, and `file_lock.py` the lock of a file.
+docs/DURABLE.md says what is promised, and what each exception means. `table.py` has the table, `file_calls.py` the calls on its file, `definitions.py` reads in
+it what the prompt shows, `copies.py` has `copy`, and `conversions.py` `convert`.
 """
 
-from ..errors import Corrupt, InDoubt, IndexBuilding, InUse, NewerFormat, NotATable, RequestReused
-from .backups import restore
+from ..errors import Corrupt, InDoubt, IndexBuilding, InUse, NewerFormat, NotATable, OtherEngine, RequestReused, RolledBack
+from .conversions import convert
 from .copies import copy
-from .table import Durable, ReplyDamaged, RolledBack, Runner, ScriptTooLong, open as open
+from .table import Durable, open as open
 
 # Without `open`, which would hide that of Python.
 __all__ = [
@@ -45,11 +45,9 @@ __all__ = [
     "IndexBuilding",
     "NewerFormat",
     "NotATable",
-    "ReplyDamaged",
+    "OtherEngine",
     "RequestReused",
     "RolledBack",
-    "Runner",
-    "ScriptTooLong",
+    "convert",
     "copy",
-    "restore",
 ]

@@ -1,6 +1,6 @@
 """Copies of durable tables with other columns: `copy`, also by `python3 -m betable copy OLD NEW`.
 
-The new file gets a checkpoint, which is made of the rows of the old table a page at a time. It has its name once it was opened and is whole.
+The lines that made the old table are in a checkpoint of it, as docs/ENGINE.md describes one. The new file has its name once it was opened and is whole.
 """
 
 from __future__ import annotations
@@ -8,20 +8,25 @@ from __future__ import annotations
 import argparse
 import os
 import sys
-from collections.abc import Iterable, Iterator, Mapping
-from contextlib import suppress
-from itertools import islice
+from collections.abc import Iterable, Mapping
 from typing import Any, NamedTuple
 
 from ..calls import checked_kind, checked_name
-from ..errors import Corrupt, IndexBuilding, InUse, NewerFormat, NotATable, Refused, RowError
-from ..language import INDEX, PRIMARY, Definitions, Line, index_of, matched
-from ..packed import puts_of_rows
+from ..errors import Corrupt, InDoubt, IndexBuilding, InUse, NewerFormat, NotATable, OtherEngine, Refused, RolledBack, RowError
+from ..frames import HEAD, LENGTH_BYTES, MAGIC
+from ..language import INDEX, MOST_DIGITS, PRIMARY, Definitions, Line, commands, index_of, matched
 from ..rows import EXACT_TYPES, Value, plain_value, value_of_field
 from ..schema import TreeColumn
 from ..session import Session
-from .checkpoints import PART_ROWS, parts_of
-from .table import Durable, RolledBack, open as open_table, sync_path
+from .table import Durable, open as open_table, renamed_when_whole
+
+# Bytes of the head of a file, and of a frame of the file before its payload.
+FILE_HEAD, FRAME_HEAD = 40, 16
+PAGE_ROWS = 16_384
+RESTORE, KNOWN = 14, 15  # the kinds of the requests of a checkpoint
+FAULTS = (
+    OSError, ValueError, TypeError, Refused, RowError, Corrupt, InDoubt, IndexBuilding, InUse, NewerFormat, NotATable, OtherEngine, RolledBack, MemoryError,
+)  # fmt: skip
 
 
 class Plan(NamedTuple):
@@ -45,45 +50,57 @@ def copy(
     """Copies a table, which nobody may have open, to a new file with other columns, and returns the number of its rows.
 
     `add` has the kind of each new column, or its kind and the value that all rows get: the columns come after the others. `rename` has the new names of
-    columns, and `drop` the names of those that are left out. Indexes are made again, with the new names. Request ids are kept. ValueError says what cannot be
-    done; then, and after any other fault, there is no new file."""
+    columns, and `drop` the names of those that are left out. Indexes are made again, with the new names. Request ids are kept. The old table gets a checkpoint
+    first. ValueError says what cannot be done; then, and after any other fault, there is no new file."""
     old, new = (os.path.abspath(os.fsdecode(name)) for name in (old, new))
-    part = f"{new}.part"
-    for name in (new, f"{new}-wal"):
-        if os.path.lexists(name):
-            raise FileExistsError(f"{name} is there already: a copy is written to a new file")
+    if os.path.lexists(new):
+        raise FileExistsError(f"{new} is there already: a copy is written to a new file")
     if not os.path.exists(old):
         raise FileNotFoundError(f"{old} is not there")
-    _remove(part)
-    try:
-        with open_table(old, checkpoint_bytes=None) as source:
-            count = _write(part, source, _plan(source, add or {}, rename or {}, [drop] if isinstance(drop, str) else [*drop]))
-        with open_table(part, checkpoint_bytes=None) as table:
-            if (found := table.usage().rows) != count:
-                raise Corrupt(part, 0, f"it has {found:,} rows, and not {count:,}")
-        sync_path(part)
-        os.rename(part, new)
-        sync_path(os.path.dirname(new))
-    except BaseException:
-        _remove(part)
-        raise
+    with open_table(old) as source, renamed_when_whole(new) as part:
+        if not source.trees():
+            raise ValueError(f"{old} has no table yet")
+        if (found := _read_checkpoint(old)) is None:
+            source.checkpoint()
+            found = _read_checkpoint(old)
+        if found is None:
+            raise Corrupt(old, None, "it does not begin with its checkpoint")
+        definitions, requests = found
+        count = _write(part, source, _plan(source, definitions, add or {}, rename or {}, [drop] if isinstance(drop, str) else [*drop]), requests)
+        with open_table(part) as table:
+            if (rows := table.count()) != count:
+                raise Corrupt(part, None, f"it has {rows:,} rows, and not {count:,}")
     return count
 
 
-def _remove(part: str) -> None:
-    for name in (part, f"{part}-wal"):
-        with suppress(FileNotFoundError):
-            os.remove(name)
+def _read_checkpoint(path: str) -> tuple[Definitions, bytes] | None:
+    """The lines that made the table of a file which has only a checkpoint, and the requests before its snapshot, which say what is known of those that ran
+    once. None if the file has more."""
+    with open(path, "rb") as file:
+        begin = at = FILE_HEAD + FRAME_HEAD
+        while True:
+            file.seek(at)
+            magic, length, kind = HEAD.unpack(file.read(HEAD.size).ljust(HEAD.size, b"\0"))
+            if magic != MAGIC or kind not in (KNOWN, RESTORE):
+                return None
+            if kind == RESTORE:
+                break
+            at += HEAD.size + length
+        script = file.read(int.from_bytes(file.read(LENGTH_BYTES), "little"))
+        file.seek(begin)
+        requests = file.read(at - begin)
+        file.seek(at + HEAD.size + length)
+        if file.read(FRAME_HEAD).strip(b"\0"):
+            return None
+    definitions = Definitions()
+    for command in commands(script):
+        definitions.take(command)
+    return definitions, requests
 
 
-def _plan(source: Durable, add: Mapping[str, str | tuple[str, Any]], rename: Mapping[str, str], drop: list[str]) -> Plan:
+def _plan(source: Durable, definitions: Definitions, add: Mapping[str, str | tuple[str, Any]], rename: Mapping[str, str], drop: list[str]) -> Plan:
     """What the copy has. ValueError if that is no table."""
-    trees, definitions = source.trees(), source.definitions
-    if not trees:
-        raise ValueError(f"{source.path} has no table yet")
-    if trees.building:
-        raise IndexBuilding(trees.building)
-    there = trees.tree()
+    there = source.trees().tree()
     names = there.names
     for name in [*rename, *drop]:
         if name not in names:
@@ -143,24 +160,19 @@ def _renamed(line: bytes, rename: Mapping[str, str]) -> bytes:
     return line
 
 
-def _write(part: str, source: Durable, plan: Plan) -> int:
+def _write(part: str, source: Durable, plan: Plan, requests: bytes) -> int:
     """Writes the copy, and returns the number of its rows."""
-    count = 0
-
-    def puts(trial: Session) -> Iterator[bytes]:
-        nonlocal count
-        rows, kinds = source.iterate(page=PART_ROWS), trial.trees().tree().kinds
-        while page := list(islice(rows, PART_ROWS)):
-            count += len(page)
-            changed = [tuple([row[place] for place in plan.places]) + plan.added for row in page]
-            yield (trial._pack_rows(changed) if hasattr(trial, "_pack_rows") else None) or puts_of_rows(changed, kinds)
-
-    with Session() as trial, open_table(part, checkpoint_bytes=None) as target:
+    lines = {name: line.text for name, line in plan.definitions.items()}
+    with Session() as trial, open_table(part) as target:
         # What the library refuses, such as too many columns or a text that is too long, is refused by its reason.
-        trial.run(b"\n".join([*(line.text for line in plan.definitions.values()), b""]))
+        trial.run(b"\n".join([*lines.values(), b""]))
         if plan.added:
             trial.put([(*[_default(column.kind) for column in plan.columns[: len(plan.places)]], *plan.added)])
-        target._store_copy(source, parts_of(plan.definitions, puts(trial)))
+        target.run(lines.pop(PRIMARY) + b"\n")
+        count = target.put(tuple([row[place] for place in plan.places]) + plan.added for row in source.iterate(page=PAGE_ROWS))
+        target.run(b"".join(b"%b\nbuild %b %d\n" % (line, name, 10**MOST_DIGITS - 1) for name, line in lines.items()))
+        target._bytes.run_frames(requests)
+        target.checkpoint()
     return count
 
 
@@ -185,7 +197,7 @@ def run(words: argparse.Namespace) -> int:
         if len(add) < len(words.add) or len(rename) < len(words.rename):
             raise ValueError("a column is named twice")
         count = copy(words.old, words.new, add=add, rename=rename, drop=words.drop)
-    except (OSError, ValueError, TypeError, Refused, RowError, Corrupt, IndexBuilding, InUse, NewerFormat, NotATable, RolledBack) as fault:
+    except FAULTS as fault:
         print(f"betable copy: {fault}", file=sys.stderr)
         return 1
     print(f"{words.new} has the {count:,} rows of {words.old}.")

@@ -15,6 +15,6 @@ scripts that wait and keeps them by one commit. A client that sends a request id
 | `engine.Engine` | the durable table in a process of its own, to which `Service` hands works |
 
 docs/SERVICE.md has the endpoints, and what is promised; docs/OPERATING.md how to run it. `requests.py` reads what is asked and `bodies.py` the rows that are
-sent, `answers.py` writes replies, `backups.py` writes backups, `connections.py` watches the connections, `notices.py` writes the log, and `page.html` is the
-page in the browser. This package imports none of them by itself, as most need aiohttp.
+sent, `answers.py` writes replies, `engine_table.py` has a table that the program betable_engine keeps, `backups.py` writes backups, `connections.py` watches
+the connections, `notices.py` writes the log, and `page.html` is the page in the browser. This package imports none of them by itself, as most need aiohttp.
 """

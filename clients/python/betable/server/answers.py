@@ -126,9 +126,10 @@ def first_reason(script: bytes, replies: bytes, trees: Trees) -> str:
     return ""
 
 
-def start_event(number: int) -> str:
-    """The event that the engine was started, or that a reader has come: the number of the last script that is kept."""
-    return f"id: {number}\nevent: start\ndata: {json.dumps({'number': number})}\n\n"
+def start_event(number: int, since: float) -> str:
+    """The event that the engine was started, or that a reader has come: the number of the last script that is kept, and when the numbers began, in seconds
+    since 1970."""
+    return f"id: {number}\nevent: start\ndata: {json.dumps({'number': number, 'since': since})}\n\n"
 
 
 def event_of(script: bytes, answer: Answer) -> str:

@@ -15,16 +15,16 @@ import sys
 import time
 from contextlib import suppress
 from pathlib import Path
-from typing import Any, NamedTuple
+from typing import NamedTuple
 
 from ..durable.table import open as open_table, sync_path
 from ..errors import Corrupt
-from .engine import PR_SET_PDEATHSIG, Closed, Engine, Lost, Work, package_environment
+from .engine import PR_SET_PDEATHSIG, Closed, Engine, Lost, Work, contents_of, package_environment
 from .requests import Problem
 
 NAME = re.compile(r"[A-Za-z0-9_][A-Za-z0-9_.-]{0,99}")
-# The ends of the names of files that SQLite, or a backup that is not done, has beside a table.
-ENDS_BESIDE = ("-journal", "-shm", "-wal", ".part", ".unchecked")
+# The ends of the names of what is written beside a table by a checkpoint, and of backups that are not done.
+ENDS_BESIDE = (".new", ".part", ".unchecked")
 CHECK = "import sys; from betable.server.backups import check; sys.exit(check())"
 NICENESS = 10  # of the process that checks, so that it takes no time from requests
 FAILED_CHECK, NO_MEMORY = 1, 3
@@ -72,9 +72,10 @@ class Backups:
         return done
 
     async def _written(self, engine: Engine, part: Path, name: str | None, is_checked: bool) -> Backup:
-        number = (await engine.run(Work(None, backup=str(part)))).number
+        answer = await engine.run(Work(None, backup=str(part)))
+        number = answer.number
         if is_checked:
-            await _check(part, number)
+            await _check(part, answer.replies.decode())
         name = name or f"{self._table.stem}-{time.strftime('%Y%m%dT%H%M%SZ', time.gmtime())}-{number}{self._table.suffix}"
         path = part.with_name(name)
         _expect_free(part.parent, name)
@@ -91,25 +92,24 @@ class Backups:
 def checked_name(name: str) -> str:
     """A name of a file, without a folder."""
     if not NAME.fullmatch(name) or name.endswith(ENDS_BESIDE):
-        rule = "1 to 100 letters, digits, '_', '-' and '.', begins with none of the last two, and does not end like a file of SQLite's, as -wal"
+        rule = f"1 to 100 letters, digits, '_', '-' and '.', begins with none of the last two, and does not end with {', '.join(ENDS_BESIDE)}"
         raise Problem(400, f"'name' is that of a file in the folder of backups: it has {rule}")
     return name
 
 
 def _expect_free(folder: Path, name: str) -> None:
-    for taken in (name, f"{name}-wal"):
-        if os.path.lexists(folder / taken):
-            raise Problem(409, f"{folder / taken} is there already: a backup is written to a new file")
+    if os.path.lexists(folder / name):
+        raise Problem(409, f"{folder / name} is there already: a backup is written to a new file")
 
 
 def _remove(part: Path) -> None:
-    for end in ("", "-journal", "-shm", "-wal", ".part", ".part-journal"):
+    for end in ("", ".new", ".part"):
         with suppress(OSError):
             os.remove(f"{part}{end}")
 
 
-async def _check(path: Path, number: int) -> None:
-    """Opens a backup in another process."""
+async def _check(path: Path, contents: str) -> None:
+    """Opens a backup in another process, where it has to have the same contents."""
     process = await asyncio.create_subprocess_exec(
         sys.executable, "-P", "-c", CHECK, path, str(os.getpid()), stdout=asyncio.subprocess.PIPE, env=package_environment()
     )  # fmt: skip
@@ -124,14 +124,14 @@ async def _check(path: Path, number: int) -> None:
     if status not in (0, FAILED_CHECK):
         raise Problem(507, "no backup was written: there was no memory to open it. With check=0 it is not opened")
     found = said.decode(errors="replace").strip()
-    if status == 0 and found != str(number):
-        found = f"its last script is {found}, and not {number}"
-    if status or found != str(number):
+    if status == FAILED_CHECK:
         raise Problem(500, f"no backup was written, since it could not be opened: {found}")
+    if found != contents:
+        raise Problem(500, f"no backup was written, since it has another table: {found}, and not {contents}")
 
 
 def check() -> int:
-    """Opens the table of a file, and prints the number of its last script, or why it cannot be opened."""
+    """Opens the table of a file, and prints what its trees hold, or why it cannot be opened."""
     path, parent = sys.argv[1:]
     os.nice(NICENESS)
     ctypes.CDLL(None).prctl(PR_SET_PDEATHSIG, signal.SIGKILL)
@@ -140,14 +140,14 @@ def check() -> int:
     with suppress(OSError):
         # If memory runs out, this process is to end first.
         Path("/proc/self/oom_score_adj").write_text("1000")
-    said: Any
+    status = 0
     try:
         with open_table(path) as table:
-            said = table.number
+            said = contents_of(table)
     except MemoryError:
         return NO_MEMORY
     except Exception as fault:
-        said = fault.reason if isinstance(fault, Corrupt) else fault
+        status, said = FAILED_CHECK, fault.reason if isinstance(fault, Corrupt) else str(fault)
     sync_path(path)
     print(said)
-    return 0 if isinstance(said, int) else FAILED_CHECK
+    return status

@@ -1,5 +1,5 @@
 """The engine of a server: a durable table in a separate process, which runs all waiting scripts and keeps them with one commit. With a number of workers the
-table is in a further process, the program betable_engine, which the separate one starts.
+program betable_engine, which the separate process starts, has the table and keeps it in the same file.
 
 `Engine` is the server's side: it starts the process, hands it works and gives their answers. `main` is the process. It is started from scratch, since the
 library does not allow calls in the forked child of a process with threads, and it ends with its server. Both talk by frames through a pair of pipes: eight
@@ -21,16 +21,15 @@ from pathlib import Path
 from typing import Any, BinaryIO, NamedTuple
 
 from ..calls import Row
-from ..durable.table import CHECKPOINT_BYTES, FAULTS, Durable, ReplyDamaged, RolledBack, ScriptTooLong, open as open_table
-from ..engine import Engine as TableEngine
-from ..errors import EngineEnded, Refused, RequestReused, RowError, ending
-from ..language import counted
+from ..durable.table import FAULTS, Durable, open as open_table
+from ..errors import EngineEnded, OutOfMemory, Refused, RequestReused, RolledBack, RowError, ending
+from ..language import CHANGING_LINE, counted
 from ..messages import delete
 from ..packed import Usage, change_count
 from ..replies import reply_end
 from ..rows import Value, printed_records, value_of_field
 from ..schema import UNKNOWN, Tree, TreeColumn, Trees
-from ..session import Session
+from .engine_table import EngineTable
 
 # The largest number of requests in a group, and the bytes of scripts that close one.
 MOST_GROUP, GROUP_BYTES = 256, 16 << 20
@@ -39,12 +38,14 @@ MOST_IMAGE_BYTES = 1 << 20  # of a tree that is drawn
 MOST_IMAGE_ITEMS = MOST_IMAGE_BYTES >> 4  # rows and messages of a tree whose image is made: one of them takes about 16 bytes at least
 # How often in a row the process may end before the table is open, and the seconds between two starts, times the number of failures.
 MOST_FAILURES, FAILURE_SECONDS = 5, 0.2
+REFUSED_FILE = 2  # the status of a program betable_engine that does not open the file
 START = "import sys; from betable.server.engine import main; sys.exit(main())"
 PR_SET_PDEATHSIG = 1
 # A read that is refused, also with a bound that no script has.
 REFUSALS = (Refused, RowError)
 # The first word of a line of a row or of a group, and that of the line after the last one.
 LAST_WORDS = {b"row ": b"rows", b"sum ": b"sums"}
+Table = Durable | EngineTable
 
 
 class Page(NamedTuple):
@@ -85,11 +86,16 @@ class Work(NamedTuple):
     def size(self) -> int:
         return len(self.script or b"") + len(self.changes or b"")
 
+    @property
+    def may_run_again(self) -> bool:
+        """Whether it changes nothing, or runs once also if it was kept."""
+        return self.request is not None or not (self.deletes or self.changes is not None or CHANGING_LINE.search(self.script or b""))
+
 
 class Answer(NamedTuple):
-    """The replies to a script, and the number of the last script that the table had kept after it. `is_cut` says whether rows were left out, and `columns` are
-    the names and kinds of the rows' columns, if `most_rows` was given. A page has the key of its last row as `last`. A tree whose image is too large has its
-    `usage` in place of replies."""
+    """The replies to a script, and the number of the last script that was kept after it. `is_cut` says whether rows were left out, and `columns` are the names
+    and kinds of the rows' columns, if `most_rows` was given. A page has the key of its last row as `last`. A tree whose image is too large has its `usage` in
+    place of replies. A backup has what `contents_of` says in place of them."""
 
     replies: bytes
     number: int
@@ -101,16 +107,15 @@ class Answer(NamedTuple):
 
 class Result(NamedTuple):
     """The results of works: for each its answer or its fault, the time of its scripts and that of its commit. `number` is that of the last script that
-    is kept, `log_bytes` are those of the log, `request_bytes` those of the stored replies, and `trees` are those of the table if they have changed. If a
-    checkpoint was written, `checkpoint_seconds` is how long the last one took. `checkpoint_failed` says whether none can be written by itself. `table_process`
-    is the number of the process betable_engine, or 0 if there is none."""
+    is kept, `file_bytes` are those of the file, and `trees` are those of the table if they have changed. If a checkpoint was written, `checkpoint_seconds` is
+    how long the last one took. `checkpoint_failed` says whether none can be written by itself. `table_process` is the number of the process betable_engine, or
+    0 if there is none."""
 
     answers: list[Answer | Exception]
     run_seconds: float = 0
     commit_seconds: float = 0
     number: int = 0
-    log_bytes: int = 0
-    request_bytes: int = 0
+    file_bytes: int = 0
     trees: Trees | None = None
     checkpoint_seconds: float | None = None
     checkpoint_failed: bool = False
@@ -122,7 +127,7 @@ class WrongKey(Exception):
 
 
 class Lost(Exception):
-    """The engine's process ended before it replied: the script may be kept or not."""
+    """The process of the engine, or that of the table, ended before it replied: the script may be kept or not, and is counted. The worker gives its number."""
 
 
 class Closed(Exception):
@@ -136,7 +141,7 @@ def main() -> int:
     """Runs groups of works until the server closes its pipe. Signals to end are the server's, which then replies to what waits."""
     for number in (signal.SIGINT, signal.SIGTERM):
         signal.signal(number, signal.SIG_IGN)
-    path, parent, checkpoint_bytes, workers = sys.argv[1:]
+    path, parent, workers, before, starts = sys.argv[1:]
     ctypes.CDLL(None).prctl(PR_SET_PDEATHSIG, signal.SIGKILL)
     if os.getppid() != int(parent):
         return 1
@@ -144,65 +149,97 @@ def main() -> int:
     works, results = os.fdopen(os.dup(0), "rb"), os.fdopen(os.dup(1), "wb")
     os.dup2(2, 1)
     try:
-        worker = Worker(path, int(checkpoint_bytes), int(workers))
+        worker = Worker(path, int(workers), int(before), is_restart=int(starts) > 1)
     except EngineEnded as fault:
-        return _told(fault, "the worker ends with it")
+        _told(fault, "the worker ends with it")
+        return 1
     except Exception as fault:
         _send(results, fault)
         return 1
-    with worker.table:
-        try:
-            worker.serve(works, results)
-        except RolledBack as fault:
-            if not isinstance(fault.__cause__, EngineEnded):
-                raise
-            return _told(fault.__cause__, "the worker ends with it")
+    try:
+        worker.serve(works, results)
+    except EngineEnded as fault:
+        _told(fault, "the worker ends with it")
+        return 1
+    finally:
+        worker.table.close()
     return 0
 
 
-def _told(fault: EngineEnded, follows: str) -> int:
-    """Tells the end of the program of the table, and returns the status of a process that ends with it."""
-    print(f"betable serve: {fault}: {follows}", file=sys.stderr, flush=True)
-    return 1
+def _told(fault: EngineEnded | OutOfMemory, follows: str) -> str:
+    """Prints that the program of the table has ended, and returns the reason."""
+    if isinstance(fault, OutOfMemory):
+        reason = "the engine ended: out of memory"
+    else:
+        how = ending(-fault.signal if fault.signal is not None else fault.status or 0)
+        reason = f"the engine ended by {how}{f' ({fault.said})' if fault.said else ''}"
+    print(f"betable serve: {reason}: {follows}", file=sys.stderr, flush=True)
+    return reason
 
 
 class Worker:
-    """The durable table of a server, in a session, or in an engine with that many workers."""
+    """The table of a server: a durable one, or that of an engine with that many workers. `before` is the number of scripts that workers before it have kept."""
 
-    def __init__(self, path: str, checkpoint_bytes: int = CHECKPOINT_BYTES, workers: int = 0) -> None:
-        self._workers, self.table_process = workers, 0
-        self.table = open_table(path, checkpoint_bytes=checkpoint_bytes or None, make=self._made_engine if workers else Session)
+    def __init__(self, path: str, workers: int = 0, before: int = 0, *, is_restart: bool = False) -> None:
+        self._path, self._workers, self._before = path, workers, before
+        self.table = self._opened(is_restart)
 
-    def _made_engine(self) -> TableEngine:
-        engine = TableEngine(self._workers)
-        self.table_process = engine.pid
-        return engine
+    def _opened(self, is_again: bool) -> Table:
+        """The table of the file. The engine of a worker that was killed has the file until the end of its last request."""
+        if not self._workers:
+            return open_table(self._path)
+        while True:
+            try:
+                return EngineTable(self._path, self._workers)
+            except EngineEnded as fault:
+                if fault.status != REFUSED_FILE:
+                    raise
+                if not (is_again and fault.said.endswith("in use")):
+                    open_table(self._path).close()  # which raises why
+                    raise
+            time.sleep(FAILURE_SECONDS)
+
+    def _open_again(self) -> None:
+        self._before += self.table.number
+        self.table.close()
+        self.table = self._opened(True)
+
+    @property
+    def number(self) -> int:
+        """The number of the last script that was kept."""
+        return self._before + self.table.number
 
     def serve(self, works: BinaryIO, results: BinaryIO) -> None:
         """Runs groups of works until there are no more. The first result, of no works, says that the table is open."""
-        table = self.table
         known: Trees | None = None
         group: list[Work] | None = []
         while group is not None:
-            count = table.checkpoint_count
+            count = self.table.checkpoint_count
             result = self.run_group(group)
-            before, known = known, table.trees()
-            result = result._replace(number=table.number, log_bytes=table.log_bytes, request_bytes=table.request_bytes)
+            table, before = self.table, known
+            known = table.trees()
+            result = result._replace(number=self.number, file_bytes=table.file_bytes, checkpoint_failed=table.checkpoint_fault is not None)
             if known != before:
                 result = result._replace(trees=known)
             if table.checkpoint_count != count and table.checkpoint_seconds is not None:
-                commit_seconds = max(0, result.commit_seconds - table.checkpoint_seconds)
-                result = result._replace(checkpoint_seconds=table.checkpoint_seconds, commit_seconds=commit_seconds)
-            _send(results, result._replace(checkpoint_failed=table.checkpoint_fault is not None, table_process=self.table_process))
+                # One that was due was written before the scripts.
+                run_seconds = max(0, result.run_seconds - table.checkpoint_seconds)
+                result = result._replace(checkpoint_seconds=table.checkpoint_seconds, run_seconds=run_seconds)
+            _send(results, result._replace(table_process=table.pid if isinstance(table, EngineTable) else 0))
             group = _received(works)
 
-    def run_group(self, group: list[Work], failures: int = 0) -> Result:
-        """Runs works and keeps what they changed by one commit. If one of them fails, nothing of the group is kept, and each is run by itself. If the program
-        of the table has ended, a work is run again on another one."""
+    def run_group(self, group: list[Work]) -> Result:
+        """Runs works and keeps what they changed by one commit. If one of them fails, nothing of the group is kept, and each is run by itself. An engine has no
+        groups: each is run by itself."""
+        if isinstance(self.table, EngineTable) and len(group) > 1:
+            return self._run_alone(group)
         begin = end = time.perf_counter()
         answers: list[Answer | Exception] = []
         try:
-            if [work.script for work in group] == [None]:
+            if isinstance(self.table, EngineTable):
+                answers = [self._answer_of_engine(work) for work in group]
+                end = time.perf_counter()
+            elif [work.script for work in group] == [None]:
                 answers = [self._answer_alone(group[0])]
             else:
                 with self.table.group():
@@ -210,29 +247,54 @@ class Worker:
                     end = time.perf_counter()
         except FAULTS as fault:
             if len(group) > 1:
-                alone = [self.run_group([work]) for work in group]
-                return Result([one.answers[0] for one in alone], sum(one.run_seconds for one in alone), sum(one.commit_seconds for one in alone))
-            if isinstance(fault.__cause__, EngineEnded) and failures < MOST_FAILURES:
-                _told(fault.__cause__, "the table is made again from the file")
-                return self.run_group(group, failures + 1)
+                return self._run_alone(group)
             answers = [fault]
         return Result(answers, end - begin, time.perf_counter() - end)
+
+    def _run_alone(self, group: list[Work]) -> Result:
+        alone = [self.run_group([work]) for work in group]
+        return Result([one.answers[0] for one in alone], sum(one.run_seconds for one in alone), sum(one.commit_seconds for one in alone))
+
+    def _answer_of_engine(self, work: Work) -> Answer | Exception:
+        """The answer to a work by an engine. If that ends, another one opens the file, and runs the work again unless it may have been kept."""
+        reason = ""
+        for _ in range(MOST_FAILURES + 1):
+            is_begun = False
+            try:
+                assert isinstance(self.table, EngineTable)
+                self.table.expect_running()
+                is_begun = True
+                return self._answer_alone(work) if work.script is None else self._answer(work)
+            except (EngineEnded, OutOfMemory) as fault:
+                reason = _told(fault, "the table is opened again from the file")
+                self._open_again()
+                if is_begun and not work.may_run_again:
+                    return self._lost()
+                if isinstance(fault, OutOfMemory):
+                    break
+        return RolledBack(reason) if work.request is None else self._lost()
+
+    def _lost(self) -> Lost:
+        """What is answered to a work that may be kept, which is counted so that readers of events see that they may have missed it."""
+        self._before += 1
+        return Lost(self.number)
 
     def _answer_alone(self, work: Work) -> Answer | Exception:
         """The answer to a backup or to a checkpoint."""
         if work.backup is None:
+            assert isinstance(self.table, Durable)
             self.table.checkpoint()
-        else:
-            try:
-                self.table.backup(work.backup)
-            except OSError as fault:
-                return fault
-        return Answer(b"", self.table.number)
+            return Answer(b"", self.number)
+        try:
+            self.table.backup(work.backup)
+        except OSError as fault:
+            return fault
+        return Answer(contents_of(self.table).encode(), self.number)
 
     def _answer(self, work: Work) -> Answer | Exception:
         table, script = self.table, work.script or b""
         if work.image_of is not None and (usage := self._usage(work.image_of)) and usage.rows + usage.messages > MOST_IMAGE_ITEMS:
-            return Answer(b"", table.number, usage=usage)
+            return Answer(b"", self.number, usage=usage)
         try:
             if work.page is not None and (answer := self._page(work.page, work.most_rows or ALL_ROWS, work.deletes)):
                 return answer
@@ -240,14 +302,14 @@ class Worker:
                 replies = self._applied(work.changes, work.request)
             else:
                 replies = table.replies(script) if work.request is None else table.once(work.request, script)
-        except (RequestReused, ReplyDamaged, ScriptTooLong, WrongKey) as fault:
+        except (RequestReused, WrongKey) as fault:
             return fault  # nothing was run, and the group goes on
         if work.image_of is not None and len(replies) > MOST_IMAGE_BYTES:
-            return Answer(b"", table.number, usage=self._usage(work.image_of))
+            return Answer(b"", self.number, usage=self._usage(work.image_of))
         if work.most_rows is None:
-            return Answer(replies, table.number)
+            return Answer(replies, self.number)
         rows, is_cut = first_rows(replies, work.most_rows)
-        return Answer(rows, table.number, is_cut, _columns(table.trees(), script))
+        return Answer(rows, self.number, is_cut, _columns(table.trees(), script))
 
     def _applied(self, changes: bytes, request: str | None) -> bytes:
         """The reply to a batch that is given by packed changes. It does not count what was sent to each index."""
@@ -272,7 +334,7 @@ class Worker:
             return None
         if page.is_row:
             row = self.table.get(*(start or ()))
-            return Answer(_reply_of_get(row, there), self.table.number, columns=_named_columns(there.columns))
+            return Answer(_reply_of_get(row, there), self.number, columns=_named_columns(there.columns))
         if page.group is not None:
             return self._groups(page, start, stop, there, most)
         try:
@@ -287,11 +349,11 @@ class Worker:
         rows = rows[:most]
         if deletes:
             last = rows[-1][: len(there.key)] if rows else None
-            return Answer(b"batch %d\n" % delete_rows(self.table, rows, there), self.table.number, is_cut, last=last)
+            return Answer(b"batch %d\n" % delete_rows(self.table, rows, there), self.number, is_cut, last=last)
         found = printed_records(rows, there.kinds)
         replies = "".join([f"row {line}\n" for line in found]) + f"rows {len(found)}\n"
         last = rows[-1][: len(there.key)] if rows else None
-        return Answer(replies.encode(), self.table.number, is_cut, _named_columns(there.columns), last=last)
+        return Answer(replies.encode(), self.number, is_cut, _named_columns(there.columns), last=last)
 
     def _groups(self, page: Page, start: tuple[Value, ...] | None, stop: tuple[Value, ...] | None, there: Tree, most: int) -> Answer | None:
         """At most that many groups of a range, written as the reply to the sums of them. None if the sums would be refused."""
@@ -304,10 +366,16 @@ class Worker:
         found = printed_records([group[2:] for group in groups[:most]], there.key_kinds[:count])
         lines = [f"sum {int(group[0])} {int(group[1])} {line}\n" for group, line in zip(groups, found)]
         replies = "".join(lines) + f"sums {len(lines)}\n"
-        return Answer(replies.encode(), self.table.number, len(groups) > most, _named_columns(there.key[:count]))
+        return Answer(replies.encode(), self.number, len(groups) > most, _named_columns(there.key[:count]))
 
 
-def delete_rows(table: Durable, rows: list[Row], there: Tree) -> int:
+def contents_of(table: Table) -> str:
+    """How much each tree of a table holds, as the table of its backup does."""
+    found = [(tree.name, table.usage(tree.name)) for tree in table.trees()]
+    return "; ".join(f"{name}: {counted(of.rows, 'row')}, {counted(of.messages, 'message')}, height {of.height}" for name, of in found) or "no table"
+
+
+def delete_rows(table: Table, rows: list[Row], there: Tree) -> int:
     """Deletes rows that were read of a tree, and returns their number. The key of a tree ends with that of the table."""
     key, end = table.trees().tree().key, len(there.key)
     start = end - len(key)
@@ -373,20 +441,20 @@ def _frame(sent: Any) -> bytes:
 
 
 class Engine:
-    """The engine's process, as its server sees it. `trees` are the table's, `number` that of the last script that is kept, `starts` how often it was started.
+    """The engine's process, as its server sees it. `trees` are the table's, `number` that of the last script that is kept, counted from the first one of the
+    server, and `starts` how often the process was started.
 
     `on_result` is called with the works and the result of each group, before their answers are given, and `on_notice` with a line when the process has ended,
-    and when another one has taken its place. By itself the process writes a checkpoint once the log has `checkpoint_bytes`, or never with 0. The table has that
-    many workers, in a process `table_process`, or with 0 it is in a session of the engine's process.
+    and when another one has taken its place. The table has that many workers, in a process `table_process`, or with 0 it is in the engine's process.
     """
 
     def __init__(
         self, path: str | os.PathLike[str], on_result: Callable[[list[Work], Result], None] = lambda group, result: None,
-        on_notice: Callable[[str], None] = lambda line: None, checkpoint_bytes: int = CHECKPOINT_BYTES, workers: int = 0,
+        on_notice: Callable[[str], None] = lambda line: None, workers: int = 0,
     ) -> None:  # fmt: skip
-        self.path, self.on_result, self.on_notice, self.checkpoint_bytes = os.fspath(path), on_result, on_notice, checkpoint_bytes
+        self.path, self.on_result, self.on_notice = os.fspath(path), on_result, on_notice
         self.workers, self.table_process = workers, 0
-        self.trees, self.number, self.log_bytes, self.request_bytes, self.starts = Trees(), 0, 0, 0, 0
+        self.trees, self.number, self.file_bytes, self.starts = Trees(), 0, 0, 0
         self.is_open = False
         self._waiting: deque[tuple[Work, asyncio.Future[Answer]]] = deque()
         self._group: list[tuple[Work, asyncio.Future[Answer]]] = []
@@ -421,7 +489,7 @@ class Engine:
             failures = 0
             opened.set()
             if self.starts > 1:
-                self.on_notice(f"the worker was started again, and has the table open, with {counted(self.number, 'script')}")
+                self.on_notice("the worker was started again, and has the table open")
             try:
                 while True:
                     self._take(await self._receive())
@@ -450,13 +518,13 @@ class Engine:
         return await future
 
     async def _start(self) -> None:
+        self.starts += 1
         process = await asyncio.create_subprocess_exec(
-            sys.executable, "-P", "-c", START, self.path, str(os.getpid()), str(self.checkpoint_bytes), str(self.workers),
+            sys.executable, "-P", "-c", START, self.path, str(os.getpid()), str(self.workers), str(self.number), str(self.starts),
             stdin=asyncio.subprocess.PIPE, stdout=asyncio.subprocess.PIPE, limit=1 << 20, env=package_environment(),
         )  # fmt: skip
         assert process.stdin is not None and process.stdout is not None
         self._process, self._stdin, self._stdout = process, process.stdin, process.stdout
-        self.starts += 1
         if self._is_ending:
             process.kill()
         try:
@@ -502,7 +570,7 @@ class Engine:
         group, self._group = self._group, []
         self.on_result([work for work, _ in group], result)
         self.trees, self.number = self.trees if result.trees is None else result.trees, result.number
-        self.log_bytes, self.request_bytes, self.table_process = result.log_bytes, result.request_bytes, result.table_process
+        self.file_bytes, self.table_process = result.file_bytes, result.table_process
         self._send_group()
         for (_, future), answer in zip(group, result.answers):
             if future.cancelled():
@@ -513,8 +581,9 @@ class Engine:
                 future.set_result(answer)
 
     def _fail(self) -> None:
-        """The process has ended: what it was given may be kept, and what still waited was not begun."""
+        """The process has ended: what it was given may be kept, and is counted, and what still waited was not begun."""
         self.is_open = False
+        self.number += bool(self._group)
         faults: list[tuple[asyncio.Future[Answer], Exception]] = [(future, Lost()) for _, future in self._group]
         faults += [(future, Closed()) for _, future in self._waiting]
         self._group, self._waiting = [], deque()

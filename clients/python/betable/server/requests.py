@@ -9,10 +9,9 @@ from urllib.parse import parse_qsl
 
 from aiohttp import web
 
-from ..durable.table import CHANGING_LINE, ReplyDamaged, ScriptTooLong
 from ..errors import IndexBuilding, Refused, RequestReused
 from ..forms import name_fault
-from ..language import NUMBER
+from ..language import CHANGING_LINE, NUMBER
 from ..messages import record
 from .engine import Closed, Lost, Page, WrongKey
 
@@ -44,7 +43,7 @@ def problem_of(fault: Exception) -> Problem:
         return Problem(503, reason, {"Retry-After": "1"})
     if isinstance(fault, Closed):
         return Problem(503, "the engine is starting: nothing was done, so try again", {"Retry-After": "1"})
-    for kind, status in ((WrongKey, 400), (IndexBuilding, 409), (RequestReused, 422), (ScriptTooLong, 413), (ReplyDamaged, 500)):
+    for kind, status in ((WrongKey, 400), (IndexBuilding, 409), (RequestReused, 422)):
         if isinstance(fault, kind):
             return Problem(status, str(fault))
     return Problem(507, str(fault))

@@ -24,7 +24,7 @@ from aiohttp import web
 from prometheus_client import CollectorRegistry, Counter, Gauge, Histogram, ProcessCollector, generate_latest
 
 from ..calls import refusal
-from ..durable.table import CHECKPOINT_BYTES, FAULTS, LARGEST_CHECKPOINT_BYTES
+from ..durable.table import FAULTS
 from ..engine import MOST_WORKERS
 from ..errors import Refused
 from ..language import MOST_SCRIPT_BYTES, commands
@@ -88,19 +88,18 @@ class Metrics:
         self.commit_seconds = Histogram("betable_commit_seconds", "A commit", buckets=SECONDS, registry=registry)
         self.failed_backups = Counter("betable_failed_backups", "Backups that were not written", registry=registry)
         self.checkpoint_seconds = Histogram(
-            "betable_checkpoint_seconds", "A checkpoint, by itself as the log was long (size), or by POST /checkpoint (request)", ["cause"], buckets=SECONDS,
+            "betable_checkpoint_seconds", "A checkpoint, by itself as the file was long (size), or by POST /checkpoint (request)", ["cause"], buckets=SECONDS,
             registry=registry,
         )  # fmt: skip
         for cause in CAUSES:
             self.checkpoint_seconds.labels(cause)
         self.refused_connections = Counter("betable_refused_connections", "Connections that got 503, as each was in use", registry=registry)
         for name, help_text, value in (
-            ("betable_kept_scripts", "The number of the last script that is kept", lambda: engine.number),
-            ("betable_log_bytes", "Bytes of the scripts since the last checkpoint", lambda: engine.log_bytes),
-            ("betable_request_bytes", "Bytes of the replies that are stored with an Idempotency-Key", lambda: engine.request_bytes),
+            ("betable_kept_scripts", "The number of the last script that is kept, counted since the start", lambda: engine.number),
+            ("betable_file_bytes", "Bytes of the file of the table", lambda: engine.file_bytes),
             ("betable_checkpoint_time", "When the last checkpoint was written, in seconds since 1970, or 0 if none was since the start",
              lambda: service.checkpoint_time),
-            ("betable_checkpoint_failed", "1 if the last checkpoint that was due by the size of the log was not written", lambda: service.checkpoint_failed),
+            ("betable_checkpoint_failed", "1 if the last checkpoint that was due by the size of the file was not written", lambda: service.checkpoint_failed),
             ("betable_backup_time", "When the last backup was written, in seconds since 1970, or 0 if none was since the start", lambda: service.backups.time),
             ("betable_backup_seconds", "From the request for the last backup to its end", lambda: service.backups.seconds),
             ("betable_waiting_requests", "Requests that wait for the engine, or for the rest of their bodies", lambda: service.waiting),
@@ -129,7 +128,7 @@ class Metrics:
         self.group.observe(len(group))
         self.run_seconds.observe(result.run_seconds)
         if result.number != before:
-            self.commits.inc()
+            self.commits.inc(result.number - before if result.table_process else 1)
             self.commit_seconds.observe(result.commit_seconds)
         if result.checkpoint_seconds is not None:
             self.checkpoint_seconds.labels(CAUSES[group[0].script is None]).observe(result.checkpoint_seconds)
@@ -140,15 +139,16 @@ class Service:
 
     def __init__(
         self, path: str, limits: Limits = Limits(), token: bytes | None = None, is_read_only: bool = False, log: Path | None = None,
-        slow_seconds: float | None = None, backup_folder: Path | None = None, checkpoint_bytes: int = CHECKPOINT_BYTES, workers: int = 0,
+        slow_seconds: float | None = None, backup_folder: Path | None = None, workers: int = 0,
     ) -> None:  # fmt: skip
         self.notices = Notices()
-        self.engine = Engine(path, self.take, self.notices.tell, checkpoint_bytes, workers)
+        self.engine = Engine(path, self.take, self.notices.tell, workers)
         self.limits, self.token, self.is_read_only = limits, token, is_read_only
         self.log = RequestLog(log, slow_seconds, self.notices.tell)
         # When a change failed because memory or disk ran out, if none has succeeded since, and why.
         self.failed_change: tuple[float, str] | None = None
         self.checkpoint_time, self.checkpoint_failed = 0.0, False
+        self.since = round(time.time(), 3)
         self.backups = Backups(backup_folder, path)
         self.waiting, self.held, self.is_ending = 0, 0, False
         self.watchers: set[asyncio.Queue[str | None]] = set()
@@ -309,7 +309,7 @@ class Service:
         if result.checkpoint_seconds is not None:
             self.checkpoint_time = time.time()
         if not group:
-            return self.tell(start_event(result.number))
+            return self.tell(start_event(result.number, self.since))
         if result.number > before:
             self.failed_change = None
         self.metrics.take(group, result, before)
@@ -318,6 +318,9 @@ class Service:
                 before = answer.number
                 if self.watchers and work.script is not None:
                     self.tell(event_of(EMPTY_BATCH if work.deletes else work.script, answer))
+            elif isinstance(answer, Lost):
+                (before,) = answer.args
+                self.tell(start_event(before, self.since))
 
     def tell(self, event: str) -> None:
         for watcher in list(self.watchers):
@@ -434,9 +437,11 @@ class Service:
 
     async def post_checkpoint(self, request: web.Request) -> web.StreamResponse:
         self.expect_writable()
+        if self.engine.workers:
+            raise Problem(409, "with --workers the engine writes checkpoints by itself, and none when it is asked")
         with self.place():
             answer = await self.engine.run(Work(None))
-        return json_response({"number": answer.number, "log_bytes": self.engine.log_bytes})
+        return json_response({"number": answer.number, "file_bytes": self.engine.file_bytes})
 
     async def post_backup(self, request: web.Request) -> web.StreamResponse:
         query = query_of(request, "name", "check")
@@ -558,7 +563,7 @@ class Service:
         self.watchers.add(watcher)
         client_of(request).on_lost = lambda: self.end_watcher(watcher)
         response = web.StreamResponse(headers={**COMMON_HEADERS, "Content-Type": "text/event-stream"})
-        event: str | None = start_event(self.engine.number)
+        event: str | None = start_event(self.engine.number, self.since)
         try:
             await response.prepare(request)
             while event is not None:
@@ -637,11 +642,8 @@ def add_words(parser: argparse.ArgumentParser) -> None:
     parser.add_argument("--read-only", action="store_true", help="refuses what would change the table; backups are written all the same")
     parser.add_argument("--backup-folder", metavar="DIR", type=Path, help="the folder into which POST /backup writes; without it there are no backups")
     number, seconds = number_from(1), number_from(0.001, 86_400, float)
-    of_workers = "keeps the table in the program betable_engine, which works in N threads; without it the table is in a session, with one thread"
+    of_workers = "leaves the table to the program betable_engine, which works in N threads and keeps each request by itself; without it there is one thread"
     parser.add_argument("--workers", metavar="N", type=number_from(1, MOST_WORKERS), default=0, help=of_workers)
-    of_log = "a checkpoint is written once the log is longer, and longer than the last checkpoint; 0: only by POST /checkpoint (%(default)s)"
-    most = number_from(0, LARGEST_CHECKPOINT_BYTES)
-    parser.add_argument("--checkpoint-bytes", metavar="N", type=most, default=CHECKPOINT_BYTES, help=of_log)
     parser.add_argument("--most-body", metavar="BYTES", type=number, default=limits.body, help="the most bytes of a body (%(default)s)")
     parser.add_argument("--most-waiting", metavar="N", type=number, default=limits.waiting, help="the most requests that wait (%(default)s)")
     parser.add_argument("--most-held", metavar="BYTES", type=number, default=limits.held, help="the most bytes of bodies and replies in memory (%(default)s)")
@@ -685,7 +687,7 @@ def run(words: argparse.Namespace) -> int:
     if folder and not (folder.is_dir() and os.access(folder, os.W_OK | os.X_OK)):
         return fail(f"{words.backup_folder}: no folder that backups can be written into", 2)
     try:
-        service = Service(words.path, limits, token, words.read_only, words.access_log, words.slow_seconds, folder, words.checkpoint_bytes, words.workers)
+        service = Service(words.path, limits, token, words.read_only, words.access_log, words.slow_seconds, folder, words.workers)
     except OSError as fault:
         return fail(f"{words.access_log}: {fault.strerror}", 2)
     logging.getLogger().addHandler(service.notices)

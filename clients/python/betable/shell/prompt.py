@@ -18,10 +18,11 @@ from io import TextIOWrapper
 from types import FrameType
 from typing import NamedTuple
 
-from .. import durable
 from ..advice import warnings
 from ..calls import Calls
-from ..errors import OutOfMemory
+from ..durable.definitions import definitions_of
+from ..durable.table import Durable, open as open_table
+from ..errors import Corrupt, InDoubt, InUse, NewerFormat, NotATable, OtherEngine, OutOfMemory, RolledBack
 from ..faults import MEANINGS, WITH_ADVICE, Fault, batch_faults, bound_faults
 from ..forms import head_faults
 from ..language import (
@@ -78,9 +79,7 @@ class Interrupted(Exception):
     """Ctrl-C ended a command of the prompt between two of its steps."""
 
 
-FAULTS = (
-    OSError, ValueError, OutOfMemory, FileFault, durable.Corrupt, durable.InDoubt, durable.InUse, durable.NewerFormat, durable.NotATable, durable.RolledBack,
-)  # fmt: skip
+FAULTS = (OSError, ValueError, OutOfMemory, FileFault, Corrupt, InDoubt, InUse, NewerFormat, NotATable, OtherEngine, RolledBack)
 
 
 @contextmanager
@@ -319,7 +318,7 @@ class Shell:
             print(f"  {meaning}")
 
     def definitions(self) -> Definitions:
-        return self.table.definitions if isinstance(self.table, durable.Durable) else self.typed
+        return definitions_of(self.table.path) if isinstance(self.table, Durable) else self.typed
 
     def schema(self) -> None:
         self.the_table()
@@ -484,7 +483,7 @@ def run(words: argparse.Namespace) -> int:
     if isinstance(sys.stdout, TextIOWrapper):
         sys.stdout.reconfigure(errors="backslashreplace")
     try:
-        table: Session | durable.Durable = durable.open(words.path) if words.path else Session()
+        table: Session | Durable = open_table(words.path) if words.path else Session()
     except FAULTS as fault:
         print(f"betable shell: {fault}", file=sys.stderr)
         return 1

@@ -1,33 +1,50 @@
-"""When a table writes a checkpoint by itself, and the parts of one: a script that makes the table, the puts of its rows in the order of their keys, and a script
-that makes the indexes and rebuilds all trees. So the table that they make is that of a `rebuild` of each tree, byte for byte. Neither writing nor reading needs all rows at once.
+"""When a replica writes a checkpoint by itself, and the parts of one: a script that makes the table, the puts of its rows in the order of their keys, and a
+script that makes the indexes and rebuilds all trees. So the table that they make is that of a `rebuild` of each tree, byte for byte. Neither writing nor reading
+needs all rows at once.
 
-Rows are packed changes, since a script cannot have all texts: a line that is a point alone ends a load. Checkpoints of before format 4 are one script with a
-load, which is divided among the parts."""
+Rows are packed changes, since a script cannot have all texts: a line that is a point alone ends a load. Earlier checkpoints are one script with a load, which
+is divided among the parts."""
 
 from __future__ import annotations
 
 import logging
 import operator
+import re
 from collections.abc import Callable, Iterable, Iterator
 from itertools import groupby
+from typing import Any
 
-from ..batches import rows_of_changes
+from ..batches import rows_of_changes, script_of_changes
 from ..calls import Row
-from ..language import MOST_DIGITS, PRIMARY, Definitions
+from ..language import DEFINING, MOST_DIGITS, PRIMARY, Definitions
 from ..packed import puts_of_rows
-from ..reads import Runner
 from ..replies import line_blocks
 from ..rows import records, rows_of
 from ..session import ScriptSession
+from .reads import Runner
 
+ENGINE = 1  # raised when a script may give other replies, or other trees, than before
 PART_ROWS = 16_384
+CHECKPOINT_BYTES, LARGEST_CHECKPOINT_BYTES = 1 << 24, 1 << 60  # of a log that is replayed in some seconds
+# The start of a reply to a command that defines something, and of one that is a refusal.
+DEFINED = re.compile(rb"^(?:%b)" % b"|".join(sorted(DEFINING)), re.MULTILINE)
+REFUSED = re.compile(rb"^refused ", re.MULTILINE)
 # A part, and whether it is packed changes.
 Part = tuple[bytes, bool]
 
 
+def check_checkpoint_bytes(number: Any) -> None:
+    if number is None:
+        return
+    if isinstance(number, bool) or not isinstance(number, int):
+        raise TypeError(f"checkpoint_bytes is an int, and not {number!r}")
+    if not 1 <= number <= LARGEST_CHECKPOINT_BYTES:
+        raise ValueError(f"checkpoint_bytes is between 1 and {LARGEST_CHECKPOINT_BYTES:,}, and not {number:,}")
+
+
 class AutomaticCheckpoints:
-    """The checkpoints that a table writes by itself: once its log has more than `checkpoint_bytes`, and more than the last checkpoint, so that checkpoints are
-    no larger than all logs. With None it writes none."""
+    """The checkpoints that a replica writes by itself: once its log has more than `checkpoint_bytes`, and more than the last checkpoint, so that checkpoints
+    are no larger than all logs. With None it writes none."""
 
     def __init__(self, checkpoint_bytes: int | None, notices: logging.Logger) -> None:
         # A checkpoint is due when the log has more bytes than the last of these.
@@ -38,7 +55,7 @@ class AutomaticCheckpoints:
 
     @property
     def checkpoint_count(self) -> int:
-        """How many checkpoints were written since the table was opened."""
+        """How many checkpoints were written since the replica was opened."""
         return self._checkpoint_count
 
     @property
@@ -104,3 +121,11 @@ def scripts_of(parts: Iterable[Part], runner: Runner) -> Iterator[Part]:
             there = runner.trees().tree()
             rows = [records(list(rows_of_changes(puts, there)), there.columns, is_load=True) for puts, _ in some]
             yield "".join(["load\n", ",".join(there.names), "\n", *rows, ".\n"]).encode(), False
+
+
+def applied(runner: Runner, changes: bytes) -> bytes:
+    """No bytes if packed changes were applied, or their refusal. A layer over sessions runs them as a script."""
+    if isinstance(runner, ScriptSession):
+        return runner._apply_packed(changes)
+    reply = runner.replies(script_of_changes(changes, runner.trees().tree()))
+    return reply if reply.startswith(b"refused ") else b""

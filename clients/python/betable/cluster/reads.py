@@ -1,5 +1,5 @@
-"""Reads of a table whose scripts are kept, as by a durable table or by a replica. They change nothing, so nothing of them is kept: they are the calls of the
-session that has the table, on packed bytes. A layer over sessions replies to scripts alone, so reads go to it by scripts."""
+"""Reads of a replica. They change nothing, so nothing of them is in the log: they are the calls of the session that has the table, on packed bytes. A layer
+over sessions replies to scripts alone, so reads go to it by scripts."""
 
 from __future__ import annotations
 
@@ -7,12 +7,12 @@ from abc import abstractmethod
 from collections.abc import Callable, Iterator
 from typing import Any, Protocol, TypeVar
 
-from .calls import Bound, Calls, Row
-from .packed import Usage
-from .reasons import Reason
-from .rows import ColumnValues
-from .schema import TreeColumn, Trees
-from .session import ScriptSession
+from ..calls import Bound, Calls, Row
+from ..packed import Usage
+from ..reasons import Reason
+from ..rows import ColumnValues
+from ..schema import TreeColumn, Trees
+from ..session import ScriptSession
 
 T = TypeVar("T")
 
