@@ -16,8 +16,8 @@ from contextlib import contextmanager, nullcontext
 from pathlib import Path
 from unittest import TestCase
 
-from .clients import OtherLibrary, betable, library
-from .common import fault_of, SECONDS, TOP, type_of_fault
+from .clients import betable, library
+from .common import fault_of, SECONDS, TOP
 from .kept_tables import file_of
 
 TABLE = "table 4 3 2 1 id:int city:text qty:int\n"
