@@ -27,8 +27,8 @@ of them whole. Reads take as long as those of a session. The file is that of `be
 | `IndexBuilding` | why no checkpoint is written |
 | `InUse`, `NotATable`, `NewerFormat`, `OtherEngine`, `Corrupt` | why a file is not opened |
 
-docs/DURABLE.md says what is promised, and what each exception means. `table.py` has the table, `file_calls.py` the calls on its file, `definitions.py` reads in
-it what the prompt shows, `copies.py` has `copy`, and `conversions.py` `convert`.
+docs/DURABLE.md says what is promised, and what each exception means. `table.py` has the table, `file_calls.py` the calls on its file, `file_requests.py` reads
+the requests in it, `copies.py` has `copy`, and `conversions.py` `convert`.
 """
 
 from ..errors import Corrupt, InDoubt, IndexBuilding, InUse, NewerFormat, NotATable, OtherEngine, RequestReused, RolledBack

@@ -13,17 +13,14 @@ from typing import Any, NamedTuple
 
 from ..calls import checked_kind, checked_name
 from ..errors import Corrupt, InDoubt, IndexBuilding, InUse, NewerFormat, NotATable, OtherEngine, Refused, RolledBack, RowError
-from ..frames import HEAD, LENGTH_BYTES, MAGIC
-from ..language import INDEX, MOST_DIGITS, PRIMARY, Definitions, Line, commands, index_of, matched
+from ..language import INDEX, MOST_DIGITS, PRIMARY, Definitions, Line, index_of, matched
 from ..rows import EXACT_TYPES, Value, plain_value, value_of_field
 from ..schema import TreeColumn
 from ..session import Session
+from .file_requests import checkpoint_of
 from .table import Durable, open as open_table, renamed_when_whole
 
-# Bytes of the head of a file, and of a frame of the file before its payload.
-FILE_HEAD, FRAME_HEAD = 40, 16
 PAGE_ROWS = 16_384
-RESTORE, KNOWN = 14, 15  # the kinds of the requests of a checkpoint
 FAULTS = (
     OSError, ValueError, TypeError, Refused, RowError, Corrupt, InDoubt, IndexBuilding, InUse, NewerFormat, NotATable, OtherEngine, RolledBack, MemoryError,
 )  # fmt: skip
@@ -60,9 +57,9 @@ def copy(
     with open_table(old) as source, renamed_when_whole(new) as part:
         if not source.trees():
             raise ValueError(f"{old} has no table yet")
-        if (found := _read_checkpoint(old)) is None:
+        if (found := checkpoint_of(old)) is None:
             source.checkpoint()
-            found = _read_checkpoint(old)
+            found = checkpoint_of(old)
         if found is None:
             raise Corrupt(old, None, "it does not begin with its checkpoint")
         definitions, requests = found
@@ -71,31 +68,6 @@ def copy(
             if (rows := table.count()) != count:
                 raise Corrupt(part, None, f"it has {rows:,} rows, and not {count:,}")
     return count
-
-
-def _read_checkpoint(path: str) -> tuple[Definitions, bytes] | None:
-    """The lines that made the table of a file which has only a checkpoint, and the requests before its snapshot, which say what is known of those that ran
-    once. None if the file has more."""
-    with open(path, "rb") as file:
-        begin = at = FILE_HEAD + FRAME_HEAD
-        while True:
-            file.seek(at)
-            magic, length, kind = HEAD.unpack(file.read(HEAD.size).ljust(HEAD.size, b"\0"))
-            if magic != MAGIC or kind not in (KNOWN, RESTORE):
-                return None
-            if kind == RESTORE:
-                break
-            at += HEAD.size + length
-        script = file.read(int.from_bytes(file.read(LENGTH_BYTES), "little"))
-        file.seek(begin)
-        requests = file.read(at - begin)
-        file.seek(at + HEAD.size + length)
-        if file.read(FRAME_HEAD).strip(b"\0"):
-            return None
-    definitions = Definitions()
-    for command in commands(script):
-        definitions.take(command)
-    return definitions, requests
 
 
 def _plan(source: Durable, definitions: Definitions, add: Mapping[str, str | tuple[str, Any]], rename: Mapping[str, str], drop: list[str]) -> Plan:

@@ -20,7 +20,7 @@ from typing import NamedTuple
 
 from ..advice import warnings
 from ..calls import Calls
-from ..durable.definitions import definitions_of
+from ..durable.file_requests import definitions_of
 from ..durable.table import Durable, open as open_table
 from ..errors import Corrupt, InDoubt, InUse, NewerFormat, NotATable, OtherEngine, OutOfMemory, RolledBack
 from ..faults import MEANINGS, WITH_ADVICE, Fault, batch_faults, bound_faults
