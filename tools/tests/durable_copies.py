@@ -88,7 +88,7 @@ class Copies(TestCase):
                 for name in ("by_qty", "by_raw", "spaces"):
                     self.assertEqual(new.scan(name), table.scan(name))
                 new.checkpoint()
-                self.assertEqual([line.text for line in copies()._read_checkpoint(path / "new")[0].values()][1:], [
+                self.assertEqual([line.text for line in copies().checkpoint_of(path / "new")[0].values()][1:], [
                     b"index by_qty on city,qty include blob where is_ok = true", b"index by_raw on blob where city >= 3",
                     b'index spaces on qty where qty = "x, y"',
                 ])  # fmt: skip
@@ -156,7 +156,7 @@ class Copies(TestCase):
             a_table(path / "t")
             (path / "new.part").write_bytes(b"of a killed copy")
             table = __import__("betable.durable.table").durable.table
-            for holder, name in ((table.Durable, "put"), (module, "_read_checkpoint"), (table, "sync_path"), (table.Durable, "count")):
+            for holder, name in ((table.Durable, "put"), (module, "checkpoint_of"), (table, "sync_path"), (table.Durable, "count")):
                 with self.subTest(name=name), patch.object(holder, name, side_effect=OSError(28, "No space left on device")):
                     expect_fault(self, OSError, lambda: module.copy(path / "t", path / "new", add={"x": "int"}), "No space")
                 self.assertEqual({one.name for one in path.iterdir()}, {"t"})
