@@ -63,7 +63,7 @@ typedef enum {
     /* A call on packed bytes was refused, and nothing has changed. Its fault says why. Or betable_explain has found a reason. Or the requests of a group are not
        whole frames. */
     BETABLE_REFUSED = 5,
-    /* The session has no table in a file: it was not opened by betable_keep_open, or an earlier call of it failed. Or a call is for a group, and none is open, or
+    /* The session has no table in a file: betable_keep_end_of_file has opened none, or an earlier call of it failed. Or a call is for a group, and none is open, or
        not for a group, and one is. Nothing was done. */
     BETABLE_NOT_KEPT = 6,
     /* The file, or the requests, are too long: 2^62 bytes. */
@@ -271,10 +271,17 @@ typedef struct {
     uint64_t length;
 } betable_file_call;
 
-/* Opens a session whose table is in a file, by the requests in the bytes of the file. The host has opened the file, locked it, synced it and read it. An empty
- * file becomes one of a table; the salt of each is a random number. Then make the calls of the file. DONE, OUT_OF_MEMORY, ALREADY_OPEN, FILE_TOO_LONG,
- * NOT_A_TABLE, OTHER_FORMAT, OTHER_ENGINE or DAMAGED. */
-betable_status betable_keep_open(betable_session *session, const unsigned char *file, size_t length, uint64_t salt) BETABLE_NOT_NULL;
+/* Opens a session for the table in a file, which the host has opened, locked and synced. Pass all bytes of the file to betable_keep_read, and then call
+ * betable_keep_end_of_file. An empty file becomes one of a table; the salt of each is a random number. DONE, OUT_OF_MEMORY or ALREADY_OPEN. */
+betable_status betable_keep_open(betable_session *session, uint64_t salt) BETABLE_NOT_NULL;
+
+/* Adds the next bytes of the file, as many as you like, and carries out the requests in them. DONE, OUT_OF_MEMORY, NOT_OPEN, NOT_KEPT, FILE_TOO_LONG, NOT_A_TABLE,
+ * OTHER_FORMAT or OTHER_ENGINE. After all but DONE close the session. */
+betable_status betable_keep_read(betable_session *session, const unsigned char *piece, size_t length) BETABLE_NOT_NULL;
+
+/* Opens the table, once all bytes of the file were passed. After DONE make the calls of the file. DONE, OUT_OF_MEMORY, NOT_OPEN, NOT_KEPT, FILE_TOO_LONG,
+ * NOT_A_TABLE or DAMAGED. After all but DONE close the session. */
+betable_status betable_keep_end_of_file(betable_session *session) BETABLE_NOT_NULL;
 
 /* Carries out requests, which are frames as docs/ENGINE.md describes them. The frames of the replies are read by betable_replies_length and
  * betable_copy_replies. If bytes are no frame, their reply says so, and nothing after them is carried out. A crash leaves the changes of all requests of a
@@ -303,7 +310,7 @@ betable_status betable_keep_add(betable_session *session, const unsigned char *r
  * the group is gone, and the file is to be opened again. */
 betable_status betable_keep_commit(betable_session *session) BETABLE_NOT_NULL;
 
-/* The number of calls of the file that the last betable_keep_open, betable_keep_run, betable_keep_checkpoint or betable_keep_commit asks for. */
+/* The number of calls of the file that the last betable_keep_end_of_file, betable_keep_run, betable_keep_checkpoint or betable_keep_commit asks for. */
 size_t betable_file_call_count(betable_session *session) BETABLE_NOT_NULL;
 
 /* Tells what the call of the file at a place is, counted from 0. False if there is none; then nothing is written. */

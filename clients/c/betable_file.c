@@ -14,7 +14,7 @@
 #include <unistd.h>
 
 enum {
-    PIECE = 1 << 20, /* bytes that one call of the system writes */
+    PIECE = 1 << 20, /* bytes that one call of the system reads or writes */
     RETRY = 1 << 24, /* bytes that are written before a checkpoint that failed is tried again */
     HEADER = 13,     /* bytes of a frame before its payload */
     APPLY = 3,       /* the kind of a request */
@@ -99,25 +99,13 @@ static bool write_all(int file, const unsigned char *bytes, size_t length, uint6
     return true;
 }
 
-/* The bytes of a file, or NULL. */
-static unsigned char *read_all(int file, size_t *length) {
-    struct stat found;
-    if (fstat(file, &found) != 0)
-        return NULL;
-    size_t size = (size_t)found.st_size;
-    unsigned char *bytes = malloc(size + 1);
-    for (*length = 0; bytes != NULL && *length < size;) {
-        ssize_t count = pread(file, bytes + *length, size - *length, (off_t)*length);
-        if (count > 0)
-            *length += (size_t)count;
-        else if (count == 0 || errno != EINTR) {
-            int fault = count == 0 ? EIO : errno;
-            free(bytes);
-            errno = fault;
-            return NULL;
-        }
-    }
-    return bytes;
+/* Reads the next bytes of a file from an offset on, and returns their number: 0 at its end, or -1. */
+static ssize_t read_piece(int file, unsigned char *piece, size_t room, off_t at) {
+    ssize_t count;
+    do
+        count = pread(file, piece, room, at);
+    while (count < 0 && errno == EINTR);
+    return count;
 }
 
 /* ---- calls of the file ---- */
@@ -211,7 +199,18 @@ static betable_status open_names(state *of, const char *path) {
     return BETABLE_DONE;
 }
 
-/* Reads the file, which has its name, and whose bytes are on the disk. */
+/* Passes the bytes of the file to the session, and opens the table in them. */
+static betable_status read_file(state *of) {
+    ssize_t count;
+    for (off_t at = 0; (count = read_piece(of->file, of->piece, sizeof of->piece, at)) > 0; at += count) {
+        betable_status status = betable_keep_read(&of->session, of->piece, (size_t)count);
+        if (status != BETABLE_DONE)
+            return status;
+    }
+    return count == 0 ? betable_keep_end_of_file(&of->session) : system_fault();
+}
+
+/* Opens the table in the file, which has its name, and whose bytes are on the disk. */
 static betable_status open_session(state *of) {
     struct stat found, named;
     of->use = NOTHING;
@@ -223,17 +222,14 @@ static betable_status open_session(state *of) {
         return system_fault();
     of->use = ROLL_BACK;
     uint64_t salt;
-    size_t length;
     ssize_t count;
     do
         count = getrandom(&salt, sizeof salt, 0);
     while (count < 0 && errno == EINTR);
-    unsigned char *bytes = count == sizeof salt ? read_all(of->file, &length) : NULL;
-    if (bytes == NULL)
+    if (count != sizeof salt)
         return system_fault();
-    betable_status status = betable_keep_open(&of->session, bytes, length, salt);
-    free(bytes);
-    return make_calls(of, status);
+    betable_status status = betable_keep_open(&of->session, salt);
+    return make_calls(of, status == BETABLE_DONE ? read_file(of) : status);
 }
 
 static betable_status read_again(state *of) {

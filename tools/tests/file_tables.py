@@ -1,6 +1,7 @@
 """Tests of tables in files of this process, by the clients in C, Rust and Python: the tests of `betable_engine --keep` on programs that do the same by them, and
 files that one of them writes and another one opens. They need the program betable_engine too, and do not build it."""
 
+import ctypes
 import errno
 import os
 import pickle
@@ -21,7 +22,7 @@ from .clients import betable, build_extension, compiled_by_rust, library, progra
 from .common import SECONDS, TABLE, TOP, fault_of, needs, output_of, type_of_fault
 from .durable import durable
 from .engine_clients import CLIENT, FILE_CLIENT, HERE, SANITIZERS, STRICT, ended, pairs
-from .kept_tables import INSTEAD, READ, SCRIPTS, batch, command, file_of, keep, keep_all, next_reply, replies_after, request, text_of
+from .kept_tables import INSTEAD, READ, SCRIPTS, batch, command, file_of, keep, keep_all, next_reply, replies_after, replies_in, request, text_of
 
 FILE_CALLS = TOP / "clients/c/betable_file.c"
 
@@ -521,6 +522,83 @@ for _case in (
 ):  # fmt: skip
     globals()[f"{_case.__name__}ByFiles"] = by_files(_case)
 del _case
+
+
+# ---- files that are read in pieces ----
+
+
+class Pieces(TestCase):
+    """The calls of the library by which a host passes the bytes of a file."""
+
+    def setUp(self):
+        from betable import library as of_calls
+
+        self.of_calls, self.calls = of_calls, ctypes.CDLL(f"{library()}/libbt_c.so")
+        handle, size = ctypes.POINTER(of_calls.Handle), ctypes.c_size_t
+        of_calls.declare(self.calls, [
+            ("betable_keep_open", [handle, ctypes.c_uint64], ctypes.c_uint),
+            ("betable_keep_read", [handle, ctypes.c_char_p, size], ctypes.c_uint),
+            ("betable_keep_end_of_file", [handle], ctypes.c_uint),
+            ("betable_keep_run", [handle, ctypes.c_char_p, size], ctypes.c_uint),
+            ("betable_file_call_count", [handle], size),
+            ("betable_replies_length", [handle], size),
+            ("betable_copy_replies", [handle, size, ctypes.c_char_p, size], size),
+            ("betable_close", [handle], ctypes.c_uint),
+        ])  # fmt: skip
+
+    @contextmanager
+    def opening(self):
+        handle = self.of_calls.Handle()
+        self.assertEqual(self.calls.betable_keep_open(handle, 7), self.of_calls.DONE)
+        try:
+            yield handle
+        finally:
+            self.assertEqual(self.calls.betable_close(handle), self.of_calls.DONE)
+
+    def read(self, handle, *pieces):
+        return [self.calls.betable_keep_read(handle, piece, len(piece)) for piece in pieces]
+
+    def replies_of(self, handle, script):
+        sent = request(script)
+        self.assertEqual(self.calls.betable_keep_run(handle, sent, len(sent)), self.of_calls.DONE)
+        found = ctypes.create_string_buffer(self.calls.betable_replies_length(handle))
+        self.calls.betable_copy_replies(handle, 0, found, len(found))
+        return text_of(replies_in(found.raw)[0])
+
+    def test_a_file_is_read_in_pieces_of_any_length(self):
+        data = file_of(12345, SCRIPTS)[0]
+        for length in (1, 2, 15, 16, 39, 40, 41, 1_000, len(data)):
+            with self.subTest(length=length), self.opening() as handle:
+                pieces = [data[at : at + length] for at in range(0, len(data), length)]
+                self.assertEqual(set(self.read(handle, *pieces, b"")), {self.of_calls.DONE})
+                self.assertEqual((self.calls.betable_keep_end_of_file(handle), self.calls.betable_file_call_count(handle)), (self.of_calls.DONE, 0))
+                self.assertEqual(self.replies_of(handle, READ), replies_after(SCRIPTS))
+
+    def test_what_follows_the_frames_is_looked_at_once_all_is_read(self):
+        """Bytes that are no frame are cut off, unless a whole frame follows them."""
+        data, places = file_of(12345, SCRIPTS)
+        changed = bytearray(data)
+        changed[places[2] + 20] ^= 1
+        for given, status, count in ((data[:-1], self.of_calls.DONE, 2), (bytes(changed), self.of_calls.DAMAGED, 0)):
+            with self.opening() as handle:
+                self.assertEqual(self.read(handle, given[:100], given[100:]), [self.of_calls.DONE] * 2)
+                self.assertEqual((self.calls.betable_keep_end_of_file(handle), self.calls.betable_file_call_count(handle)), (status, count))
+
+    def test_another_file_is_refused_by_its_head(self):
+        """Before the rest of it is read. Then the session opens no file."""
+        sent, of = request(READ), self.of_calls
+        other_engine, other_format = file_of(5, SCRIPTS, engine=2)[0], file_of(5, SCRIPTS, form=2)[0]
+        for front, status in ((b"x" * 40, of.NOT_A_TABLE), (other_engine[:40], of.OTHER_ENGINE), (other_format[:40], of.OTHER_FORMAT)):
+            with self.opening() as handle:
+                self.assertEqual(self.read(handle, front[:39], front[39:], b"more"), [of.DONE, status, of.NOT_KEPT])
+                self.assertEqual((self.calls.betable_keep_end_of_file(handle), self.calls.betable_keep_run(handle, sent, len(sent))), (of.NOT_KEPT, of.NOT_KEPT))
+        with self.opening() as handle:
+            self.assertEqual([*self.read(handle, b"x" * 39), self.calls.betable_keep_end_of_file(handle)], [of.DONE, of.NOT_A_TABLE])
+
+    def test_a_file_without_bytes_gets_a_head(self):
+        with self.opening() as handle:
+            self.assertEqual((self.calls.betable_keep_end_of_file(handle), self.calls.betable_file_call_count(handle)), (self.of_calls.DONE, 1))
+            self.assertEqual([*self.read(handle, b"x"), self.calls.betable_keep_end_of_file(handle)], [self.of_calls.NOT_KEPT] * 2)
 
 
 # ---- Python ----

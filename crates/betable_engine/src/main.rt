@@ -7,7 +7,6 @@
 mod stop;
 
 ghost use Rattle.std.specs.Prelude.{◌≡◌, [], IfOk, IfSome, IsSome, IsTrue, None, false};
-ghost use Rattle.bt_journal.specs.Disks.{Only};
 ghost use Rattle.bt_engine.specs.Options.{NamesNoFile};
 ghost use Rattle.bt_script.specs.Options.{AreWithinLimits};
 ghost use Rattle.bt_script.specs.Streams.{has_unflushed};
@@ -16,7 +15,7 @@ use bt_durable::{Ahead, OnceService, ServiceMachine, serve_and_keep};
 use bt_engine::{ENGINE, EngineWords, FORMAT, TableService, crew_of, engine, read_engine_words};
 use bt_frame::CompactService;
 use bt_gang::Context;
-use bt_journal::{Disk, Head, Store};
+use bt_journal::{Head, ReadDisk, Store};
 use bt_script::WordsError;
 use bt_shell::{Counted, ProgramFault, RunFault, arguments_of};
 use bt_value::Texts;
@@ -67,7 +66,6 @@ fn open_and_serve<X, S, D, I, W>(
     context: &X,
     service: OnceService<S>,
     disk: D,
-    bytes: Vec<u8>,
     head: Head,
     most: u64,
     input: I,
@@ -75,22 +73,20 @@ fn open_and_serve<X, S, D, I, W>(
 ) -> Result<(), Stop>
 where
     S: CompactService<X> + Drop,
-    D: Disk + Drop,
+    D: ReadDisk + Drop,
     I: Ahead + Drop,
     W: Write,
     requires ready { S.Service.accepts context.now }
     requires blank { service ≡ (S.Service.blank, []) }
-    requires read { bytes.items ≡ D.contents disk }
-    requires durable { Only (D.contents disk) (D.outcome disk) }
+    requires unread { D.original disk ≡ [] }
     requires healthy { IsTrue (D.is_healthy disk) }
     requires flushed { has_unflushed output.old ≡ false }
 {
     let machine = ServiceMachine::new(alloc, context, service);
-    let mut store = match Store::open(alloc, disk, &bytes, head, machine) {
+    let mut store = match Store::open(alloc, disk, head, machine) {
         Ok(store) => store,
         Err((fault, _disk)) => return Err(Stop::Store(fault)),
     };
-    mem::drop(bytes);
     let served = serve_and_keep(alloc, &mut store, most, input, output);
     mem::forget(store);
     served?;
@@ -121,13 +117,12 @@ fn serve_and_keep_in<R: AllocGlobal + Print + Threads + Wait + Sync>(
         crew: &crew,
     };
     let path = words.keep.as_ref().unwrap();
-    let (file, bytes) = bt_file::open(host, path.as_str())?;
+    let file = bt_file::open(host, path.as_str())?;
     open_and_serve(
         alloc,
         &context,
         OnceService::new(alloc, TableService::new())?,
         file,
-        bytes,
         head,
         words.most as u64,
         input,

@@ -36,9 +36,11 @@ use Rattle.bt_durable.specs.contracts.service_machine.ServiceMachineMachine.TheI
 use Rattle.bt_file.specs.contracts.ordered_file.OrderedFileDisk.TheImpl as file_ghosts
 use Rattle.bt_durable.specs.contracts.once.OnceService as OnceService
 use Rattle.bt_durable.proofs.service_machine.ServiceMachine.TheSendSync as machine
+use Rattle.bt_file.specs.contracts.ordered_file.OrderedFileHostDisk.TheImpl as host_ghosts
 use Rattle.bt_file.proofs.ordered_file.OrderedFile.TheSendSync as file
 use Rattle.bt_journal.proofs.disk.HostCall.TheSendSync as host_call
 use Rattle.bt_journal.proofs.group.Group.TheSendSync as group
+use Rattle.bt_journal.proofs.reading.Opening.TheSendSync as opening
 use Rattle.bt_journal.proofs.store.Store.TheSendSync as store
 use Rattle.bt_journal.specs.contracts.disk.HostCall as HostCall
 use Rattle.bt_c.proofs.reply.ReplyMark.TheSendSync as mark
@@ -97,7 +99,7 @@ session =
               option _ (store.the_send _ _ file_ghosts.ghosts state file.the_send sent),
               (
                 option _ (group.the_send _ _ file_ghosts.ghosts joined state file.the_send sent),
-                (Vec-send HostCall.the_row host_call.the_send, tt),
+                (option _ (opening.the_send _ _ host_ghosts.ghosts file_ghosts.ghosts state file.the_send sent), (Vec-send HostCall.the_row host_call.the_send, tt)),
               ),
             ),
           ),

@@ -5,9 +5,9 @@ use Rattle.bt_shell.specs.Steps.{State}
 use Rattle.bt_engine.specs.Exchanges as exchanges
 use Rattle.bt_file.specs.Calls.{Event}
 use Rattle.bt_file.specs.Due.{AreDue, IsTaken, take_count_of}
-use Rattle.bt_file.specs.Events.{contents_of, outcome_of, outcome_since_of}
+use Rattle.bt_file.specs.Events.{contents_of, moment_of, original_of, outcome_of, outcome_since_of}
 use Rattle.bt_journal.specs.Disks.{LeavesOnly, Only}
-use Rattle.bt_journal.specs.Stores.{GroupValue, StoreValue, ahead, disk_of, group_disk, group_head, group_state, head_in, state_in, state_of}
+use Rattle.bt_journal.specs.Stores.{GroupValue, OpeningValue, StoreValue, ahead, disk_of, group_disk, group_head, group_state, head_in, opening_disk, opening_head, state_in, state_of}
 use Rattle.bt_journal.specs.Stores.{Finds, IsBeforeOrAfterCheckpoint, IsBeforeOrAfterRun, IsKept}
 use Rattle.bt_journal.specs.declared.disk.HostCall.{HostCall}
 use Rattle.bt_journal.specs.declared.disk.HostCall.TheVariants as host
@@ -50,6 +50,10 @@ Kept = StoreValue (List Event) KeptState
 abbrev pub KeptGroup : Type 0
 KeptGroup = GroupValue (List Event) KeptState
 
+-- what it sees of a file that is being opened: the list of its calls, and the head that it is opened with
+abbrev pub KeptOpening : Type 0
+KeptOpening = OpeningValue (List Event)
+
 -- a crash leaves the file as it is, and opening it finds the state
 abbrev pub StaysInFile : Kept → Type 0
 StaysInFile kept = IsKept contents_of outcome_of after_requests blank (head_in kept) (disk_of kept) (state_in kept)
@@ -61,16 +65,25 @@ pub record HandsOver (old new : List Event) (calls : List HostCall) (P : List �
   pub due : AreDue made calls
   pub taken : IsTaken made new
   pub untaken : take_count_of made ≡ take_count_of old
-  pub any_moment : LeavesOnly length outcome_since_of old made P
+  pub any_moment : LeavesOnly moment_of outcome_since_of old made P
 
--- a file with these bytes was opened with this head
-pub record IsOpened (head : Head) (file : List ℕ) (kept : Kept) (calls : List HostCall) : Type 0 where
-  pub opened : List Event
-  pub bytes : contents_of opened ≡ file
-  pub durable : Only file (outcome_of opened)
-  pub state : state_in kept ≡ state_of_file file
+-- a file is to be opened with this head, and nothing of it was read
+pub record IsUnread (head : Head) (opening : KeptOpening) : Type 0 where
+  pub no_call : opening_disk opening ≡ []
+  pub head_is : opening_head opening ≡ head
+
+-- the next bytes of a file were read, and no other call was made
+pub record HasRead (old new : KeptOpening) (piece : List ℕ) : Type 0 where
+  pub bytes : original_of (opening_disk new) ≡ original_of (opening_disk old) ++ piece
+  pub head : opening_head new ≡ opening_head old
+  pub no_step : moment_of (opening_disk new) ≡ moment_of (opening_disk old)
+  pub untaken : take_count_of (opening_disk new) ≡ take_count_of (opening_disk old)
+
+-- the file that these bytes were read of was opened
+pub record IsOpened (opening : KeptOpening) (kept : Kept) (calls : List HostCall) : Type 0 where
+  pub state : state_in kept ≡ state_of_file (original_of (opening_disk opening))
   pub stays : StaysInFile kept
-  pub handed : HandsOver opened (disk_of kept) calls (Finds after_requests blank head (state_of_file file))
+  pub handed : HandsOver (opening_disk opening) (disk_of kept) calls (Finds after_requests blank (opening_head opening) (state_of_file (original_of (opening_disk opening))))
 
 -- requests were carried out, with these replies
 pub record HasRun (old new : Kept) (requests replies : List ℕ) (calls : List HostCall) : Type 0 where
@@ -121,13 +134,13 @@ head_with salt = record { format = 1; engine = 1; salt = salt }
 abbrev pub IsClosed : Session → Type 0
 IsClosed session = (session.kept ≡ None) × (session.calls.items ≡ [])
 
--- it has none, and no group either
+-- it has none, and no group, and opens none either
 abbrev pub HasNoFile : Session → Type 0
-HasNoFile session = IsClosed session × (session.group ≡ None)
+HasNoFile session = IsClosed session × (session.group ≡ None) × (session.opening ≡ None)
 
 -- a call leaves the table in the file alone
 abbrev pub SameFile : Session → Session → Type 0
-SameFile old new = (new.kept ≡ old.kept) × (new.group ≡ old.group) × (new.calls ≡ old.calls)
+SameFile old new = (new.kept ≡ old.kept) × (new.group ≡ old.group) × (new.opening ≡ old.opening) × (new.calls ≡ old.calls)
 
 -- the table that is asked: that of the group, that in the file, or that of the session
 abbrev pub asked_of : State → Option Kept → Option KeptGroup → State

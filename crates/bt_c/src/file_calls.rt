@@ -1,7 +1,7 @@
 //! The calls on a table in a file, whose calls the host makes.
 ghost use Rattle.std.specs.Prelude.{◌≡◌, ◌≢◌, ◌-◌, [], IfSome, None, Some, drop, is_some, length, min, option_map, slice_get, take, true, false};
 ghost use Rattle.std.specs.Option.{MatchOption};
-ghost use Rattle.bt_c.specs.Kept.{HasBegun, HasCheckpoint, HasCommitted, HasJoined, HasRun, InFile, IsClosed, IsOpened, IsRefused, bytes_at, call_in_c, head_with};
+ghost use Rattle.bt_c.specs.Kept.{HasBegun, HasCheckpoint, HasCommitted, HasJoined, HasRead, HasRun, InFile, IsClosed, IsOpened, IsRefused, IsUnread, bytes_at, call_in_c, head_with};
 ghost use Rattle.bt_c.specs.Sessions.{StaysOpen, code_of, session_of};
 ghost use Rattle.bt_c.specs.declared.status.Status.TheVariants as status;
 
@@ -13,27 +13,22 @@ use crate::session::{Session, copy_from};
 use crate::status::Status;
 use std::alloc::Global;
 
-/// Opens a session with the table in a file, which the host has opened, locked, synced and read: runs the requests in its bytes. If there are none, the file
-/// gets a head with a salt, which is a random number. The session has no other table.
+/// Opens a session for the table in a file, which the host has opened, locked and synced, and of which it has read nothing. The session has no other table. An empty
+/// file gets a head with a salt, which is a random number.
 ///
-/// `Done`: the host is to make the calls of [`betable_file_call_at`], in order. A crash at any moment leaves a file of the same state. After any other result the
+/// The host then passes all bytes of the file to [`betable_keep_read`], in order, and calls [`betable_keep_end_of_file`]. After any other result than `Done` the
 /// handle is as it was.
 #[unsafe(no_mangle)]
-pub extern "C" fn betable_keep_open(
-    alloc: Global,
-    handle: &mut Handle,
-    file: &[u8],
-    salt: u64,
-) -> u32
-    ensures opened { result ≡ code_of status.Done → MatchOption (session_of handle.new) ⊥ (λ session. MatchOption session.kept ⊥ (λ kept. IsOpened (head_with salt) file.now kept session.calls.items)) }
-    ensures empty { result ≡ code_of status.Done → IfSome (session_of handle.new) (λ session. (session.table ≡ None) × (session.group ≡ None) × (session.text.items ≡ [])) }
+pub extern "C" fn betable_keep_open(alloc: Global, handle: &mut Handle, salt: u64) -> u32
+    ensures opened { result ≡ code_of status.Done → MatchOption (session_of handle.new) ⊥ (λ session. MatchOption session.opening ⊥ (IsUnread (head_with salt))) }
+    ensures empty { result ≡ code_of status.Done → IfSome (session_of handle.new) (λ session. (session.table ≡ None) × (session.text.items ≡ []) × IsClosed session × (session.group ≡ None)) }
     ensures unchanged { result ≢ code_of status.Done → session_of handle.new ≡ session_of handle.old }
     ensures refused { is_some (session_of handle.old) ≡ true → result ≡ code_of status.AlreadyOpen }
 {
     if handle.is_open() {
         return Status::AlreadyOpen.code();
     }
-    match Session::of_file(alloc, file, salt) {
+    match Session::of_file(alloc, salt) {
         Ok(opened) => {
             let Ok(session) = Box::new(alloc, opened) else {
                 return Status::OutOfMemory.code();
@@ -41,6 +36,55 @@ pub extern "C" fn betable_keep_open(
             *handle = sent(Handle::of(session));
             Status::Done.code()
         }
+        Err(fault) => status_of(fault).code(),
+    }
+}
+
+/// Adds the next bytes of the file, and carries out the requests in them.
+///
+/// After any other result than `Done` the session has no file: it is not opened, and no call of it is to be made. `NotKept`: the session opens no file.
+#[unsafe(no_mangle)]
+pub extern "C" fn betable_keep_read(alloc: Global, handle: &mut Handle, piece: &[u8]) -> u32
+    ensures closed { session_of handle.old ≡ None → (result ≡ code_of status.NotOpen) × (session_of handle.new ≡ None) }
+    ensures open { is_some (session_of handle.new) ≡ is_some (session_of handle.old) }
+    ensures not_opening { IfSome (session_of handle.old) (λ session. session.opening ≡ None → result ≡ code_of status.NotKept) }
+    ensures done { result ≡ code_of status.Done → StaysOpen handle.old handle.new (λ old new. MatchOption old.opening ⊥ (λ before. MatchOption new.opening ⊥ (λ after. HasRead before after piece.now))) }
+    ensures failed { result ≢ code_of status.Done → IfSome (session_of handle.new) (λ session. session.opening ≡ None) }
+    ensures file { is_some (session_of handle.old) ≡ true → StaysOpen handle.old handle.new (λ old new. (new.kept ≡ old.kept) × (new.group ≡ old.group) × (new.calls ≡ old.calls)) }
+    ensures table { is_some (session_of handle.old) ≡ true → StaysOpen handle.old handle.new (λ old new. new.table ≡ old.table) }
+{
+    let Some(mut session) = handle.take(alloc) else {
+        return Status::NotOpen.code();
+    };
+    let ended = session.read_file(alloc, piece);
+    *handle = Handle::of(session);
+    match ended {
+        Ok(()) => Status::Done.code(),
+        Err(fault) => status_of(fault).code(),
+    }
+}
+
+/// Opens the table in the file, all bytes of which were passed to [`betable_keep_read`]. The replies are emptied.
+///
+/// `Done`: the host is to make the calls of [`betable_file_call_at`], in order. A crash at any moment leaves a file of the same state. After any other result the
+/// session has no file, and no call of it is to be made. `NotKept`: the session opens no file.
+#[unsafe(no_mangle)]
+pub extern "C" fn betable_keep_end_of_file(alloc: Global, handle: &mut Handle) -> u32
+    ensures closed { session_of handle.old ≡ None → (result ≡ code_of status.NotOpen) × (session_of handle.new ≡ None) }
+    ensures open { is_some (session_of handle.new) ≡ is_some (session_of handle.old) }
+    ensures not_opening { IfSome (session_of handle.old) (λ session. session.opening ≡ None → result ≡ code_of status.NotKept) }
+    ensures done { result ≡ code_of status.Done → StaysOpen handle.old handle.new (λ old new. MatchOption old.opening ⊥ (λ opening. MatchOption new.kept ⊥ (λ kept. IsOpened opening kept new.calls.items))) }
+    ensures failed { result ≢ code_of status.Done → is_some (session_of handle.old) ≡ true → StaysOpen handle.old handle.new (λ old new. (new.kept ≡ old.kept) × (new.calls.items ≡ [])) }
+    ensures read { IfSome (session_of handle.new) (λ session. (session.opening ≡ None) × (session.text.items ≡ [])) }
+    ensures table { is_some (session_of handle.old) ≡ true → StaysOpen handle.old handle.new (λ old new. (new.table ≡ old.table) × (new.group ≡ old.group)) }
+{
+    let Some(mut session) = handle.take(alloc) else {
+        return Status::NotOpen.code();
+    };
+    let ended = session.end_file(alloc);
+    *handle = Handle::of(session);
+    match ended {
+        Ok(()) => Status::Done.code(),
         Err(fault) => status_of(fault).code(),
     }
 }

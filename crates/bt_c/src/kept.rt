@@ -1,13 +1,13 @@
 //! A table in a file, whose calls the host makes.
 ghost use Rattle.std.specs.Prelude.{◌≡◌, IfOk, false, true};
 ghost use Rattle.bt_journal.specs.Stores.{group_state, state_in};
-ghost use Rattle.bt_c.specs.Kept.{HasBegun, HasCheckpoint, HasCommitted, HasJoined, HasRun, IsOpened, IsRefused, status_of};
+ghost use Rattle.bt_c.specs.Kept.{HasBegun, HasCheckpoint, HasCommitted, HasJoined, HasRead, HasRun, IsOpened, IsRefused, IsUnread, head_with, status_of};
 
 use crate::status::Status;
 use bt_durable::{OnceService, ServiceMachine};
 use bt_engine::{ENGINE, FORMAT, LocalService};
 use bt_file::OrderedFile;
-use bt_journal::{Fault, Group, Head, HostCall, Store};
+use bt_journal::{Fault, Group, Head, HostCall, Opening, Store};
 use bt_table::Table;
 use std::alloc::Global;
 
@@ -17,27 +17,49 @@ pub type KeptTable = Store<OrderedFile, ServiceMachine<'static, (), OnceService<
 /// A group of requests to such a table, which are kept together.
 pub type KeptGroup = Group<OrderedFile, ServiceMachine<'static, (), OnceService<LocalService>>>;
 
-/// Opens a file that has these bytes. If it is empty, it gets a head with this salt. Returns the calls that the host is to make too.
-pub(crate) fn open_kept(
-    alloc: Global,
-    file: &[u8],
-    salt: u64,
-) -> Result<(KeptTable, Vec<HostCall>), Fault>
-    ensures { IfOk result (λ opened. IsOpened (record { format = 1; engine = 1; salt = salt }) file.now opened.0 opened.1.items) }
+/// A file of such a table that the host reads in order to open it.
+pub type KeptOpening = Opening<OrderedFile, ServiceMachine<'static, (), OnceService<LocalService>>>;
+
+/// Begins to open a file. If it is empty, it gets a head with this salt.
+pub(crate) fn begin_opening(alloc: Global, salt: u64) -> Result<KeptOpening, Fault>
+    ensures { IfOk result (λ opening. IsUnread (head_with salt) opening) }
 {
-    let mut bytes = Vec::new(alloc);
-    bytes.extend_from_slice(file)?;
     let head = Head {
         format: FORMAT,
         engine: ENGINE,
         salt,
     };
-    let disk = OrderedFile::new(alloc, &bytes);
     let service = OnceService::new(alloc, LocalService::new(alloc))?;
     let machine = ServiceMachine::new(alloc, &(), service);
-    match Store::open(alloc, disk, &bytes, head, machine) {
-        Ok(opened) => {
-            let mut kept = opened;
+    Ok(Opening::new(alloc, OrderedFile::new(alloc), head, machine))
+}
+
+/// Adds the next bytes of the file, and carries out the requests that are whole.
+pub(crate) fn read_piece(
+    alloc: Global,
+    opening: KeptOpening,
+    piece: &[u8],
+) -> Result<KeptOpening, Fault>
+    ensures { IfOk result (λ read. HasRead opening.entry read piece.now) }
+{
+    let mut bytes = Vec::new(alloc);
+    bytes.extend_from_slice(piece)?;
+    match opening.read(alloc, &bytes) {
+        Ok(read) => Ok(read),
+        Err((fault, _disk)) => Err(fault),
+    }
+}
+
+/// Opens the file, of which all bytes were read. Returns the calls that the host is to make too.
+pub(crate) fn end_opening(
+    alloc: Global,
+    opening: KeptOpening,
+) -> Result<(KeptTable, Vec<HostCall>), Fault>
+    ensures { IfOk result (λ opened. IsOpened opening.entry opened.0 opened.1.items) }
+{
+    match opening.end(alloc) {
+        Ok(store) => {
+            let mut kept = store;
             let calls = kept.take_calls();
             Ok((kept, calls))
         }

@@ -11,7 +11,7 @@
 //! betable_close(&session);
 //! ```
 //!
-//! A table can be in a file. The library opens no files: [`betable_keep_open`] takes the bytes of one, and after each call on the table
+//! A table can be in a file. The library opens no files: [`betable_keep_read`] takes the bytes of one, and after each call on the table
 //! [`betable_file_call_at`] says which calls of the file the host is to make before it uses the replies.
 #![tactic(auto)]
 
@@ -53,11 +53,11 @@ pub use fault::FaultInC;
 pub use file_call::CallInC;
 pub use file_calls::{
     betable_copy_file_call, betable_file_call_at, betable_file_call_count, betable_keep_add,
-    betable_keep_begin, betable_keep_checkpoint, betable_keep_commit, betable_keep_is_due,
-    betable_keep_open, betable_keep_run,
+    betable_keep_begin, betable_keep_checkpoint, betable_keep_commit, betable_keep_end_of_file,
+    betable_keep_is_due, betable_keep_open, betable_keep_read, betable_keep_run,
 };
 pub use handle::Handle;
-pub use kept::{KeptGroup, KeptTable};
+pub use kept::{KeptGroup, KeptOpening, KeptTable};
 pub use reason::ReasonInC;
 pub use reply::{ReplyInC, ReplyMark};
 pub use session::Session;

@@ -10,12 +10,12 @@ ghost use Rattle.bt_c.specs.Reasons.{FirstIsRefused};
 ghost use Rattle.bt_fault.specs.Commands.{first_reason};
 ghost use Rattle.bt_c.specs.Replies.{checked_marks, marks_of};
 ghost use Rattle.bt_packed.specs.Questions.{KeepsOrLoses, answer_of, applied_to, no_table, reply_from};
-ghost use Rattle.bt_c.specs.Kept.{HasBegun, HasCheckpoint, HasCommitted, HasJoined, HasNoFile, HasRun, IsClosed, IsOpened, IsRefused, SameFile, head_with, table_asked};
+ghost use Rattle.bt_c.specs.Kept.{HasBegun, HasCheckpoint, HasCommitted, HasJoined, HasNoFile, HasRead, HasRun, IsClosed, IsOpened, IsRefused, IsUnread, SameFile, head_with, table_asked};
 ghost use Rattle.bt_c.specs.Sessions.{is_lost};
 
 use crate::kept::{
-    KeptGroup, KeptTable, add_to_group, begin_group, commit_group, compact_kept, open_kept,
-    run_kept, table_in, table_in_group,
+    KeptGroup, KeptOpening, KeptTable, add_to_group, begin_group, begin_opening, commit_group,
+    compact_kept, end_opening, read_piece, run_kept, table_in, table_in_group,
 };
 use crate::reply::{ReplyMark, ReplyMarks};
 use bt_engine::alone;
@@ -30,7 +30,8 @@ use std::alloc::{AllocError, Global};
 use std::mem;
 
 /// The table, if there is one; the replies to the last script, the number of its commands that were refused, and where the reply to each of them ends; the table
-/// in a file, if the session was opened with one, or a group of requests to it; and the calls of the file that the host is to make.
+/// in a file, if the session was opened with one, or a group of requests to it, or the file while the host reads it; and the calls of the file that the host is to
+/// make.
 #[derive(Drop)]
 pub struct Session {
     pub table: Option<Table>,
@@ -39,6 +40,7 @@ pub struct Session {
     pub marks: Vec<ReplyMark>,
     pub kept: Option<KeptTable>,
     pub group: Option<KeptGroup>,
+    pub opening: Option<KeptOpening>,
     pub calls: Vec<HostCall>,
 }
 
@@ -82,22 +84,64 @@ impl Session {
             marks: Vec::new(alloc),
             kept: None,
             group: None,
+            opening: None,
             calls: Vec::new(alloc),
         }
     }
 
-    /// A session with the table in a file that has these bytes.
-    pub fn of_file(alloc: Global, file: &[u8], salt: u64) -> Result<Session, FileFault>
-        ensures kept { IfOk result (λ session. MatchOption session.kept ⊥ (λ kept. IsOpened (head_with salt) file.now kept session.calls.items)) }
-        ensures group { IfOk result (λ session. session.group ≡ None) }
+    /// A session that opens the table in a file, of which nothing was read. If the file is empty, it gets a head with this salt.
+    pub fn of_file(alloc: Global, salt: u64) -> Result<Session, FileFault>
+        ensures opening { IfOk result (λ session. MatchOption session.opening ⊥ (IsUnread (head_with salt))) }
+        ensures file { IfOk result (λ session. IsClosed session × (session.group ≡ None)) }
         ensures table { IfOk result (λ session. session.table ≡ None) }
         ensures text { IfOk result (λ session. session.text.items ≡ []) }
     {
-        let (kept, calls) = open_kept(alloc, file, salt)?;
+        let opening = begin_opening(alloc, salt)?;
         let mut session = Session::new(alloc);
-        session.kept = Some(kept);
-        session.calls = calls;
+        session.opening = Some(opening);
         Ok(session)
+    }
+
+    /// Adds the next bytes of the file.
+    pub fn read_file(&mut self, alloc: Global, piece: &[u8]) -> Result<(), FileFault>
+        ensures read { OnOk result (MatchOption self.old.opening ⊥ (λ old. MatchOption self.new.opening ⊥ (λ new. HasRead old new piece.now))) }
+        ensures not_opening { self.old.opening ≡ None → IsErrOf result FileFault.Closed }
+        ensures failed { OnErr result (self.new.opening ≡ None) }
+        ensures file { (self.new.kept ≡ self.old.kept) × (self.new.group ≡ self.old.group) × (self.new.calls ≡ self.old.calls) }
+        ensures table { self.new.table ≡ self.old.table }
+        ensures text { self.new.text ≡ self.old.text }
+        ensures refused { self.new.refused ≡ self.old.refused }
+        ensures marks { self.new.marks ≡ self.old.marks }
+    {
+        let Some(opening) = mem::replace(&mut self.opening, None) else {
+            return Err(FileFault::Closed);
+        };
+        let read = read_piece(alloc, opening, piece)?;
+        self.opening = Some(read);
+        Ok(())
+    }
+
+    /// Opens the table in the file, of which all bytes were read. The replies are emptied.
+    pub fn end_file(&mut self, alloc: Global) -> Result<(), FileFault>
+        ensures opened { OnOk result (MatchOption self.old.opening ⊥ (λ opening. MatchOption self.new.kept ⊥ (λ kept. IsOpened opening kept self.new.calls.items))) }
+        ensures not_opening { self.old.opening ≡ None → IsErrOf result FileFault.Closed }
+        ensures failed { OnErr result ((self.new.kept ≡ self.old.kept) × (self.new.calls.items ≡ [])) }
+        ensures opening { self.new.opening ≡ None }
+        ensures group { self.new.group ≡ self.old.group }
+        ensures text { self.new.text.items ≡ [] }
+        ensures table { self.new.table ≡ self.old.table }
+        ensures refused { self.new.refused ≡ 0 }
+        ensures marks { self.new.marks.items ≡ [] }
+    {
+        self.clear();
+        self.calls.clear();
+        let Some(opening) = mem::replace(&mut self.opening, None) else {
+            return Err(FileFault::Closed);
+        };
+        let (kept, calls) = end_opening(alloc, opening)?;
+        self.kept = Some(kept);
+        self.calls = calls;
+        Ok(())
     }
 
     // Empties the replies and their marks, and sets the number of refused commands to 0.

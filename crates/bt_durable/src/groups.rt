@@ -90,7 +90,7 @@ fn receive_next<I: Read + Drop>(
 }
 
 // The number of bytes that one read asks for.
-const PIECE_SIZE: usize = 65_536;
+const PIECE_SIZE: usize = 4_096;
 
 impl Room {
     pub(crate) fn new(alloc: Global) -> Result<Self, AllocError>

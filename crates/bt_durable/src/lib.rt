@@ -10,7 +10,7 @@
 //!
 //! ```text
 //! let machine = ServiceMachine::new(alloc, &context, OnceService::new(alloc, service)?);
-//! let mut store = Store::open(alloc, disk, &bytes, head, machine)?;
+//! let mut store = Store::open(alloc, disk, head, machine)?;
 //! serve_and_keep(alloc, &mut store, 67_108_864, input, &mut output)?;
 //! ```
 #![tactic(auto)]

@@ -4,28 +4,28 @@ use Rattle.std.proofs.Common.{◌∙◌, ap, subst}
 use Rattle.bt_journal.specs.declared.disk.HostCall.{HostCall}
 use Rattle.bt_journal.specs.declared.disk.HostCall.TheVariants as host
 use Rattle.bt_file.specs.Calls.{Event}
-use Rattle.bt_file.specs.Events.{contents_of, outcome_of, is_healthy_after, contents_after, outcome_after, still_healthy}
+use Rattle.bt_file.specs.Events.{contents_of, original_of, outcome_of, is_healthy_after, contents_after, outcome_after, is_step, still_healthy}
 use Rattle.bt_file.specs.declared.calls.Call.{Call}
-use Rattle.bt_file.specs.declared.calls.Call.TheVariants.{Opened, Written, Cut, Replaced, Synced, Taken}
+use Rattle.bt_file.specs.declared.calls.Call.TheVariants.{Read, Written, Cut, Replaced, Synced, Taken}
 
--- whether a host has no calls to make after this one: it opened the file, or took its calls, or the call failed, and then it opens the file again
+-- whether a host has no calls to make after this one: it took its calls, or the call failed, and then it opens the file again
 abbrev pub is_none_due : Call → Bool
-is_none_due Opened = true
+is_none_due (Read is_ok) = not is_ok
 is_none_due Taken = true
 is_none_due (Written at is_ok) = not is_ok
 is_none_due (Cut len is_ok) = not is_ok
 is_none_due (Replaced is_ok) = not is_ok
 is_none_due (Synced is_ok) = not is_ok
 
--- the calls of a list, the latest one first, that a host is to make, the first one first
+-- The calls of a list, the latest one first, that a host is to make, the first one first. It has read what it says that it has.
 abbrev pub due_in : List Event → List Event
 due_in [] = []
-due_in (e ∷ earlier) = if is_none_due e.0 then [] else due_in earlier ++ e ∷ []
+due_in (e ∷ earlier) = if is_none_due e.0 then [] else if is_step e.0 then due_in earlier ++ e ∷ [] else due_in earlier
 
 -- how many times a host took its calls, after one more call of the list
 abbrev pub takes_after : Call → ℕ → ℕ
 takes_after Taken count = suc count
-takes_after Opened count = count
+takes_after (Read is_ok) count = count
 takes_after (Written at is_ok) count = count
 takes_after (Cut len is_ok) count = count
 takes_after (Replaced is_ok) count = count
@@ -60,11 +60,11 @@ IsTaken old new = (e : Event) × (e.0 ≡ Taken) × (new ≡ e ∷ old)
 
 -- a host that takes its calls changes nothing of the file
 pub same_contents : (old new : List Event) → IsTaken old new → contents_of new ≡ contents_of old
-same_contents old new (e, is, more) = ap contents_of more ∙ ap (λ (call : Call). contents_after call e.1.items (contents_of old)) is
+same_contents old new (e, is, more) = ap contents_of more ∙ ap (λ (call : Call). contents_after call e.1.items (original_of old) (contents_of old)) is
 
 pub same_outcome : (old new : List Event) → IsTaken old new → (c : List ℕ) → outcome_of new c → outcome_of old c
 same_outcome old new (e, is, more) c left =
-    subst (λ (call : Call). outcome_after call e.1.items (contents_of old) (is_healthy_after old) (outcome_of old) c) is
+    subst (λ (call : Call). outcome_after call e.1.items (original_of old) (contents_of old) (is_healthy_after old) (outcome_of old) c) is
     (subst (λ (events : List Event). outcome_of events c) more left)
 
 pub same_health : (old new : List Event) → IsTaken old new → is_healthy_after new ≡ is_healthy_after old

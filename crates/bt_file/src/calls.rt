@@ -7,8 +7,8 @@ use http_server::Log;
 /// A call of a file, and whether it succeeded.
 #[derive(Clone, Copy, Drop)]
 pub(crate) enum Call {
-    /// The file was opened, and has these bytes.
-    Opened,
+    /// The next bytes of the file were read: none at its end.
+    Read(bool),
     /// Bytes were written from an offset on.
     Written(usize, bool),
     /// The file was cut to a length.

@@ -1,12 +1,11 @@
 //! A file of the system. Each method makes its calls, and then notes them.
-ghost use Rattle.std.specs.Prelude.{◌≡◌, IsTrue, length, IfOk};
-ghost use Rattle.bt_journal.specs.Disks.{Only};
+ghost use Rattle.std.specs.Prelude.{◌≡◌, [], IfOk};
 ghost use Rattle.bt_file.specs.Calls.{events_of};
 ghost use Rattle.bt_file.specs.Due.{take_count_of};
-ghost use Rattle.bt_file.specs.Events.{contents_of, outcome_of, is_healthy_after, fault_count_of, outcome_since_of, counts_now_of, only_now_of};
+ghost use Rattle.bt_file.specs.Events.{contents_of, original_of, outcome_of, is_healthy_after, fault_count_of, moment_of, outcome_since_of, counts_now_of, only_now_of};
 
 use crate::calls::{Call, Calls};
-use bt_journal::{Disk, DiskFailed};
+use bt_journal::{Disk, DiskFailed, ReadDisk};
 use std::alloc::AllocError;
 use std::fs;
 use std::fs::{File, OpenOptions, TryLockError};
@@ -104,9 +103,11 @@ impl HostFile {
 impl Disk for HostFile {
     ghost contents = { λ f. contents_of (events_of f.calls) };
 
+    ghost original = { λ f. original_of (events_of f.calls) };
+
     ghost outcome = { λ f. outcome_of (events_of f.calls) };
 
-    ghost moment = { λ f. length (events_of f.calls) };
+    ghost moment = { λ f. moment_of (events_of f.calls) };
 
     ghost outcome_since = { λ f. outcome_since_of (events_of f.calls) };
 
@@ -163,14 +164,25 @@ impl Disk for HostFile {
     }
 }
 
-/// Opens the file at a path, which is made if there is none, and returns it with its bytes. They are on the disk then, and no other process has the file open by
-/// this function.
-pub fn open(rt: HostRuntime, path: &str) -> Result<(HostFile, Vec<u8>), OpenError>
-    ensures bytes { IfOk result (λ opened. opened.1.items ≡ contents_of (events_of opened.0.calls)) }
-    ensures durable { IfOk result (λ opened. Only (contents_of (events_of opened.0.calls)) (outcome_of (events_of opened.0.calls))) }
-    ensures healthy { IfOk result (λ opened. IsTrue (is_healthy_after (events_of opened.0.calls))) }
+impl ReadDisk for HostFile {
+    fn read_next(&mut self, mut room: Vec<u8>) -> Result<Vec<u8>, DiskFailed> {
+        if let Ok(count) = self.file.read(&mut room) {
+            room.truncate(count);
+            self.calls.note(Call::Read(true), &room);
+            Ok(room)
+        } else {
+            self.calls.note(Call::Read(false), &room);
+            Err(DiskFailed)
+        }
+    }
+}
+
+/// Opens the file at a path, which is made if there is none. All that is in it is on the disk then, and no other process has the file open by this function. Read it
+/// before any other call.
+pub fn open(rt: HostRuntime, path: &str) -> Result<HostFile, OpenError>
+    ensures { IfOk result (λ file. events_of file.calls ≡ []) }
 {
-    let mut file = OpenOptions::new()
+    let file = OpenOptions::new()
         .read(true)
         .write(true)
         .create(true)
@@ -183,20 +195,13 @@ pub fn open(rt: HostRuntime, path: &str) -> Result<(HostFile, Vec<u8>), OpenErro
     let folder = open_folder(&rt, name.as_str())?;
     file.sync_all()?;
     folder.sync_all()?;
-    let mut bytes = Vec::new(rt.alloc());
-    file.read_to_end(&mut bytes)?;
     let new_name = format!(in rt.alloc(); "{}.new", name.as_str())?;
-    let mut calls = Calls::new();
-    calls.note(Call::Opened, &bytes);
-    Ok((
-        HostFile {
-            rt,
-            file,
-            folder,
-            name,
-            new_name,
-            calls,
-        },
-        bytes,
-    ))
+    Ok(HostFile {
+        rt,
+        file,
+        folder,
+        name,
+        new_name,
+        calls: Calls::new(),
+    })
 }

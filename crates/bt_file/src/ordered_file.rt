@@ -1,9 +1,8 @@
 //! A file whose calls a host makes.
-ghost use Rattle.std.specs.Prelude.{◌≡◌, IsTrue, length, IfOk};
-ghost use Rattle.bt_journal.specs.Disks.{Only};
+ghost use Rattle.std.specs.Prelude.{◌≡◌, []};
 ghost use Rattle.bt_file.specs.Calls.{events_of};
 ghost use Rattle.bt_file.specs.Due.{AreDue, IsTaken, same_contents, same_outcome, same_health, take_count_of};
-ghost use Rattle.bt_file.specs.Events.{contents_of, outcome_of, is_healthy_after, fault_count_of, outcome_since_of, counts_now_of, only_now_of};
+ghost use Rattle.bt_file.specs.Events.{contents_of, original_of, outcome_of, is_healthy_after, fault_count_of, moment_of, outcome_since_of, counts_now_of, only_now_of};
 
 use crate::calls::{Call, Calls};
 use bt_journal::{Disk, DiskFailed, HostCall, HostDisk};
@@ -33,19 +32,14 @@ impl Model for OrderedFile {
 }
 
 impl OrderedFile {
-    /// A file that the host has opened, locked and synced, and that has these bytes.
-    #[tactic(auto, using(crate::proofs::DueCalls::none_due))]
-    pub fn new(alloc: Global, bytes: &Vec<u8>) -> OrderedFile
-        ensures bytes { contents_of result ≡ bytes.now.items }
-        ensures durable { Only (contents_of result) (outcome_of result) }
-        ensures healthy { IsTrue (is_healthy_after result) }
+    /// A file that the host has opened, locked and synced, and of which it has read nothing.
+    pub fn new(alloc: Global) -> OrderedFile
+        ensures { result ≡ [] }
     {
-        let mut calls = Calls::new();
-        calls.note(Call::Opened, bytes);
         OrderedFile {
             alloc,
             pending: Vec::new(alloc),
-            calls,
+            calls: Calls::new(),
         }
     }
 }
@@ -53,9 +47,11 @@ impl OrderedFile {
 impl Disk for OrderedFile {
     ghost contents = { contents_of };
 
+    ghost original = { original_of };
+
     ghost outcome = { outcome_of };
 
-    ghost moment = { length };
+    ghost moment = { moment_of };
 
     ghost outcome_since = { outcome_since_of };
 
@@ -130,6 +126,10 @@ impl HostDisk for OrderedFile {
     ghost same_outcome = { same_outcome };
 
     ghost same_health = { same_health };
+
+    fn note_read(&mut self, piece: &Vec<u8>) {
+        self.calls.note(Call::Read(true), piece);
+    }
 
     fn take_calls(&mut self) -> Vec<HostCall> {
         let none = Vec::new(self.alloc);

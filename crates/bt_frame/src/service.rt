@@ -13,7 +13,7 @@ use std::io::{Read, Write};
 use std::mem;
 
 // The number of bytes that one read asks for.
-const PIECE_SIZE: usize = 65_536;
+const PIECE_SIZE: usize = 4_096;
 
 /// A reply.
 #[derive(Drop)]

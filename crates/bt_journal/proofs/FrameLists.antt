@@ -11,7 +11,7 @@ payload_at-append seed payload xs ys e = payload_at-front seed payload (xs ++ ys
 pub payload_at-long : (seed : ℕ) (payload bytes : List ℕ) → payload_at seed bytes ≡ Some payload → frame_size payload ≤ length bytes
 payload_at-long seed payload bytes e = (front-payload_at seed payload bytes e).long
 
-some_or_none : {A : Type 0} (o : Option A) → (o ≡ None) ⊎ ((a : A) × (o ≡ Some a))
+pub some_or_none : {A : Type 0} (o : Option A) → (o ≡ None) ⊎ ((a : A) × (o ≡ Some a))
 some_or_none None = inl refl
 some_or_none (Some a) = inr (a, refl)
 
@@ -84,13 +84,29 @@ begins-append seed (p ∷ ps) bytes rest more b = (
       (begins-append (next_seed seed p) ps (drop (frame_size p) bytes) rest more b.1),
 )
 
+-- frames that follow frames
+pub begins-join : (seed : ℕ) (payloads more : List (List ℕ)) (bytes middle rest : List ℕ) → Begins seed payloads bytes middle → Begins (seed_after seed payloads) more middle rest
+    → Begins seed (payloads ++ more) bytes rest
+unfolding Begins seed_after
+begins-join seed [] more bytes middle rest b e = subst (λ (l : List ℕ). Begins seed more l rest) (sym b) e
+begins-join seed (p ∷ ps) more bytes middle rest b e = (b.0, begins-join (next_seed seed p) ps more (drop (frame_size p) bytes) middle rest b.1 e)
+
 pub begins-push : (seed : ℕ) (payloads : List (List ℕ)) (payload bytes rest : List ℕ) → Begins seed payloads bytes rest → payload_at (seed_after seed payloads) rest ≡ Some payload
     → Begins seed (payloads ++ payload ∷ []) bytes (drop (frame_size payload) rest)
-unfolding Begins seed_after
-begins-push seed [] payload bytes rest b e = (subst (λ (l : List ℕ). payload_at seed l ≡ Some payload) (sym b) e, ap (λ (l : List ℕ). drop (frame_size payload) l) b)
-begins-push seed (p ∷ ps) payload bytes rest b e = (b.0, begins-push (next_seed seed p) ps payload (drop (frame_size p) bytes) rest b.1 e)
+unfolding Begins
+begins-push seed payloads payload bytes rest b e = begins-join seed payloads (payload ∷ []) bytes rest (drop (frame_size payload) rest) b (e, refl)
 
-all_at-begins : (seed : ℕ) (payloads : List (List ℕ)) (bytes rest : List ℕ) → Begins seed payloads bytes rest → all_at seed bytes ≡ payloads ++ all_at (seed_after seed payloads) rest
+pub seed_after-append : (seed : ℕ) (payloads more : List (List ℕ)) → seed_after seed (payloads ++ more) ≡ seed_after (seed_after seed payloads) more
+unfolding seed_after
+seed_after-append seed [] more = refl
+seed_after-append seed (p ∷ ps) more = seed_after-append (next_seed seed p) ps more
+
+pub extent-append : (payloads more : List (List ℕ)) → extent (payloads ++ more) ≡ extent payloads + extent more
+unfolding extent
+extent-append [] more = omega arith
+extent-append (p ∷ ps) more = omega (arith, extent-append ps more)
+
+pub all_at-begins : (seed : ℕ) (payloads : List (List ℕ)) (bytes rest : List ℕ) → Begins seed payloads bytes rest → all_at seed bytes ≡ payloads ++ all_at (seed_after seed payloads) rest
 unfolding Begins seed_after
 all_at-begins seed [] bytes rest b = ap (all_at seed) b
 all_at-begins seed (p ∷ ps) bytes rest b =

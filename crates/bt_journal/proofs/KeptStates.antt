@@ -1,5 +1,5 @@
 -- The states that files stand for.
-use Rattle.std.proofs.Common.{◌≡◌, ◌+◌, IsTrue, inl, inr, Bool, List, ℕ, [], ◌∷◌, ◌++◌, refl, sym, ◌∙◌, ap, subst}
+use Rattle.std.proofs.Common.{◌≡◌, ◌+◌, Result, Ok, Err, IfOk, IfErr, IsTrue, inl, inr, Bool, List, ℕ, [], ◌∷◌, ◌++◌, refl, sym, ◌∙◌, ap, subst}
 use Rattle.bt_journal.specs.Frames.{IsFramed, extent, seed_after}
 use Rattle.bt_journal.specs.Heads.{body_of, head_at, head_size}
 use Rattle.bt_journal.specs.Files.{recovered, Opens, IsBeforeOrAfter}
@@ -9,9 +9,12 @@ use Rattle.bt_journal.specs.declared.journal.Journal.{Journal}
 use Rattle.bt_journal.proofs.SettledJournals.{settled_opens}
 
 module _ {M : Type 0} (after : M → List ℕ → M) where
+  pub after_all-append : (state : M) (payloads more : List (List ℕ)) → after_all after state (payloads ++ more) ≡ after_all after (after_all after state payloads) more
+  after_all-append state [] more = refl
+  after_all-append state (p ∷ ps) more = after_all-append (after state p) ps more
+
   pub after_all-push : (state : M) (payloads : List (List ℕ)) (payload : List ℕ) → after_all after state (payloads ++ payload ∷ []) ≡ after (after_all after state payloads) payload
-  after_all-push state [] payload = refl
-  after_all-push state (p ∷ ps) payload = after_all-push (after state p) ps payload
+  after_all-push state payloads payload = after_all-append state payloads (payload ∷ [])
 
   pub finds : (blank : M) (head : Head) (state : M) (payloads : List (List ℕ)) (file : List ℕ) → after_all after blank payloads ≡ state → Opens head payloads file → Finds after blank head state file
   finds blank head state payloads file is opened = record { accepted = opened.accepted; state = ap (after_all after blank) opened.frames ∙ is; sound = opened.sound }
@@ -48,3 +51,13 @@ same_file contents outcome is_healthy after blank journal machine disk same no_m
       };
       same = s.same ∙ ap (state_of after blank) (sym same);
     }
+
+-- what follows from two facts of what a call returns
+pub if_ok_both : {T E : Type 0} (r : Result T E) (P Q R : T → Type 0) → IfOk r P → IfOk r Q → ((x : T) → P x → Q x → R x) → IfOk r R
+if_ok_both (Ok x) P Q R p q so = so x p q
+if_ok_both (Err e) P Q R p q so = tt
+
+-- what follows from a fact of an error
+pub if_err_also : {T E : Type 0} (r : Result T E) (P Q : E → Type 0) → IfErr r P → ((e : E) → P e → Q e) → IfErr r Q
+if_err_also (Ok x) P Q p so = tt
+if_err_also (Err e) P Q p so = so e p

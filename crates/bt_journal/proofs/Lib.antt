@@ -1,12 +1,12 @@
 mod ChangedBytes
 mod CutFiles
-mod FileEnds
 mod FrameLists
 mod FrameSearch
 mod FrontFrames
 mod HeadFrames
 mod KeptStates
 mod OpenFiles
+mod ReadFiles
 mod SettledJournals
 mod Sums
 mod TornFiles

@@ -10,7 +10,7 @@ use Rattle.bt_journal.specs.Journals.{IsSettled}
 use Rattle.bt_journal.specs.declared.head.Head.{Head}
 use Rattle.bt_journal.specs.declared.journal.Journal.{Journal}
 use Rattle.bt_journal.proofs.FrontFrames.{payload_at-front, front-frame_of, length-frame_of}
-use Rattle.bt_journal.proofs.FrameLists.{begins-push}
+use Rattle.bt_journal.proofs.FrameLists.{begins-push, extent-append}
 use Rattle.bt_journal.proofs.HeadFrames.{Fits, head_at-frame}
 use Rattle.bt_journal.proofs.offered.Moments.{leaves, started}
 use Rattle.bt_journal.proofs.OpenFiles.{frames, opens, opens_empty}
@@ -19,8 +19,7 @@ use Rattle.bt_journal.proofs.Zeros.{none_of_zeros, none_after_zeros}
 
 extent-push : (payloads : List (List ℕ)) (payload : List ℕ) → extent (payloads ++ payload ∷ []) ≡ extent payloads + frame_size payload
 unfolding extent
-extent-push [] payload = omega arith
-extent-push (p ∷ ps) payload = omega (arith, extent-push ps payload)
+extent-push payloads payload = omega (arith, extent-append payloads (payload ∷ []))
 
 -- a file of a head, frames and zeros can be opened
 pub opens_framed : (head : Head) (salt : ℕ) (file : List ℕ) (payloads : List (List ℕ)) → head_at file ≡ Some (record { format = head.format; engine = head.engine; salt = salt })

@@ -1,6 +1,6 @@
 -- What a crash leaves of a file to which a frame is written.
 use Rattle.std.proofs.Common.{◌≡◌, ◌≢◌, ◌⊎◌, inl, inr, ℕ, ◌+◌, ◌-◌, ◌%◌, ◌^◌, ◌<◌, ◌≤◌, false, List, []}
-use Rattle.std.proofs.Common.{◌∷◌, ◌++◌, length, take, drop, Some, None, refl, sym, ◌∙◌, ap, subst, arith, append_assoc, length-drop, take-append-drop}
+use Rattle.std.proofs.Common.{◌∷◌, ◌++◌, length, take, drop, Some, None, sym, ◌∙◌, ap, subst, arith, append_assoc, length-drop, take-append-drop}
 use Rattle.std.specs.Prelude.{replicate}
 use Rattle.std.specs.Str.{bytes_eq}
 use Rattle.std.proofs.lemmas.Bool.{cases_Bool, true≢false}
@@ -12,7 +12,7 @@ use Rattle.bt_journal.specs.Heads.{head_at, head_size, body_of}
 use Rattle.bt_journal.specs.Files.{has_frame_after, IsBeforeOrAfter}
 use Rattle.bt_journal.specs.declared.head.Head.{Head}
 use Rattle.bt_journal.proofs.FrontFrames.{payload_at-front, front-frame_of, length-frame_of}
-use Rattle.bt_journal.proofs.FrameLists.{payload_at-append, payload_at-long, payload_at_cases, begins-push, begins-length, begins-drop, begins_in}
+use Rattle.bt_journal.proofs.FrameLists.{payload_at-append, payload_at-long, payload_at_cases, begins-push, begins-length, begins-drop, begins_in, seed_after-append}
 use Rattle.bt_journal.proofs.FrameSearch.{found_there, found_later}
 use Rattle.bt_journal.proofs.HeadFrames.{head_long, head_in}
 use Rattle.bt_journal.proofs.OpenFiles.{opens}
@@ -24,8 +24,7 @@ cases_bytes xs ys =
 
 pub seed_after-push : (seed : ℕ) (payloads : List (List ℕ)) (payload : List ℕ) → seed_after seed (payloads ++ payload ∷ []) ≡ next_seed (seed_after seed payloads) payload
 unfolding seed_after
-seed_after-push seed [] payload = refl
-seed_after-push seed (p ∷ ps) payload = seed_after-push (next_seed seed p) ps payload
+seed_after-push seed payloads payload = seed_after-append seed payloads (payload ∷ [])
 
 -- bytes that begin with a frame, and in which no later frame is found
 module _ (seed : ℕ) (payload tail : List ℕ) (passes : payload_at seed tail ≡ Some payload) (none_after : has_frame_after seed tail ≡ false) where

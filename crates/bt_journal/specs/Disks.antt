@@ -1,5 +1,5 @@
 -- What the calls of a disk do to a file, and what a crash may leave of it.
-use Rattle.std.specs.Prelude.{◌<◌, ◌≡◌, ◌⊎◌, ℕ, ◌+◌, ◌≤◌, max, List, ◌++◌, length, take, drop, OnErr, Result}
+use Rattle.std.specs.Prelude.{◌<◌, ◌≡◌, ◌⊎◌, ℕ, ◌+◌, ◌≤◌, max, Bool, List, [], ◌++◌, length, take, drop, OnErr, Result}
 
 -- the new bytes are the old ones with these bytes from an offset on
 abbrev pub Holds : List ℕ → ℕ → List ℕ → List ℕ → Type 0
@@ -46,3 +46,16 @@ pub record LeavesOnly {D : Type 0} (moment : D → ℕ) (outcome_since : D → �
 pub record HasCause {T E : Type 0} (before now : ℕ) (result : Result T E) : Type 0 where
   pub later : before ≤ now
   pub failed : OnErr result (before < now)
+
+-- The next bytes of a file were read. None are left after no bytes, and then all that were read are on the disk. Reading is no step of the clock.
+pub record HasRead
+    {D : Type 0} (contents original : D → List ℕ) (outcome : D → List ℕ → Type 0) (is_healthy : D → Bool) (moment : D → ℕ) (outcome_since : D → ℕ → List ℕ → Type 0)
+    (old new : D) (piece : List ℕ) : Type 0 where
+  pub more : original new ≡ original old ++ piece
+  pub front : (c : List ℕ) → outcome new c → (rest : List ℕ) × (c ≡ original new ++ rest)
+  pub whole : piece ≡ [] → contents new ≡ original new
+  pub durable : piece ≡ [] → Only (original new) (outcome new)
+  pub health : is_healthy new ≡ is_healthy old
+  pub no_step : moment new ≡ moment old
+  pub since : (t : ℕ) (c : List ℕ) → outcome_since new t c → outcome new c
+  pub fewer : (c : List ℕ) → outcome new c → outcome old c

@@ -1,5 +1,5 @@
 -- The payloads that a file stands for, whatever a crash has left of it.
-use Rattle.std.specs.Prelude.{◌≡◌, ◌≢◌, ◌⊎◌, ℕ, ◌+◌, ◌^◌, ◌%◌, Bool, true, false, ◌||◌, is_some, List, [], ◌∷◌, ◌++◌, drop, Some, None}
+use Rattle.std.specs.Prelude.{◌≡◌, ◌≢◌, ◌⊎◌, ℕ, ◌+◌, ◌≤◌, ◌^◌, ◌%◌, Bool, true, false, ◌||◌, is_some, List, [], ◌∷◌, ◌++◌, length, drop, Some, None}
 use Rattle.bt_journal.specs.Frames.{payload_at, all_at, seed_after, extent}
 use Rattle.bt_journal.specs.Heads.{head_at, body_of, IsAccepted}
 use Rattle.bt_journal.specs.declared.fault.Fault.{Fault}
@@ -55,7 +55,7 @@ HasOther number head file = (found : Head) × (head_at file ≡ Some found) × (
 abbrev pub IsCause : Head → List ℕ → Fault → Type 0
 IsCause head file OutOfMemory = Unit {0}
 IsCause head file Failed = Unit {0}
-IsCause head file TooLong = ⊥
+IsCause head file TooLong = 2 ^ 62 ≤ length file
 IsCause head file Closed = ⊥
 IsCause head file NotAJournal = head_at file ≡ None
 IsCause head file OtherFormat = HasOther (λ h. h.format) head file

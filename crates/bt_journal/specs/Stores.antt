@@ -1,11 +1,14 @@
 -- The state that a file stands for, and what a store is.
-use Rattle.std.specs.Prelude.{◌≡◌, ◌⊎◌, ℕ, Bool, List, [], ◌∷◌, false}
+use Rattle.std.specs.Prelude.{◌≡◌, ◌⊎◌, ℕ, ◌+◌, Bool, List, [], ◌∷◌, ◌++◌, false, Option, Some, None}
 use Rattle.bt_journal.specs.Disks.{Only}
-use Rattle.bt_journal.specs.Heads.{IsAccepted}
-use Rattle.bt_journal.specs.Files.{recovered, is_damaged, IsForged}
+use Rattle.bt_journal.specs.Frames.{Begins, extent, seed_after}
+use Rattle.bt_journal.specs.Heads.{IsAccepted, IsAlike, body_of, head_at, head_size}
+use Rattle.bt_journal.specs.Files.{recovered, is_damaged, IsCause, IsForged}
 use Rattle.bt_journal.specs.Journals.{IsSettled}
+use Rattle.bt_journal.specs.declared.fault.Fault.{Fault}
 use Rattle.bt_journal.specs.declared.head.Head.{Head}
 use Rattle.bt_journal.specs.declared.journal.Journal.{Journal}
+use Rattle.bt_journal.specs.declared.replay.Replay.{Replay}
 
 -- what a contract sees of a store: its file, the state of its machine, the head of its file, and whether it is open
 abbrev pub StoreValue : Type 0 → Type 0 → Type 0
@@ -59,6 +62,46 @@ pub record IsConsistent
     (journal : Journal D) (machine : M) : Type 0 where
   pub settled : IsSettled contents outcome is_healthy journal
   pub same : machine ≡ state_of after blank (contents journal.disk)
+
+-- ---- opening
+
+module _ {M : Type 0} (after : M → List ℕ → M) (blank : M) where
+  -- The bytes of a file with a head were read. The frames of these payloads, the first ones, have run, and the rest follows them.
+  pub record HasFrames (payloads : List (List ℕ)) (file : List ℕ) (found : Head) (replay : Replay M) : Type 0 where
+    pub head : head_at file ≡ Some found
+    pub alike : IsAlike replay.head found
+    pub begins : Begins found.salt payloads (body_of file) replay.rest.items
+    pub state : replay.machine ≡ after_all after blank payloads
+    pub end : replay.end ≡ head_size + extent payloads
+    pub seed : replay.seed ≡ seed_after found.salt payloads
+
+  -- the bytes of a file were read, and no head was among them
+  pub record HasNoHead (file : List ℕ) (replay : Replay M) : Type 0 where
+    pub none : head_at file ≡ None
+    pub rest : replay.rest.items ≡ file
+    pub state : replay.machine ≡ blank
+
+  -- these bytes of a file were read, and all frames among them have run
+  abbrev pub IsReplayedTo : Option Head → List ℕ → Replay M → Type 0
+  IsReplayedTo None file replay = HasNoHead file replay
+  IsReplayedTo (Some found) file replay = HasFrames (recovered file) file found replay
+
+  abbrev pub IsReplayed : List ℕ → Replay M → Type 0
+  IsReplayed file replay = IsReplayedTo replay.found file replay
+
+-- a file that begins with these bytes is not opened
+abbrev pub IsCauseFrom : Head → List ℕ → Fault → Type 0
+IsCauseFrom head front fault = (more : List ℕ) → IsCause head (front ++ more) fault
+
+-- what a contract sees of a file that is being opened: the file, and the head that it is opened with
+abbrev pub OpeningValue : Type 0 → Type 0
+OpeningValue D = D × Head
+
+abbrev pub opening_disk : {D : Type 0} → OpeningValue D → D
+opening_disk opening = opening.0
+
+abbrev pub opening_head : {D : Type 0} → OpeningValue D → Head
+opening_head opening = opening.1
 
 -- ---- groups
 

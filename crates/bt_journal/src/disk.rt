@@ -1,6 +1,6 @@
 //! A file on a disk: what a read returns, and what a crash may leave.
-ghost use Rattle.std.specs.Prelude.{◌≡◌, ◌≤◌, Bool, IsTrue, List, ℕ, length, take, OnOk};
-ghost use Rattle.bt_journal.specs.Disks.{Only, Follows, Torn, Cut, Swapped, Holds, Elapses, HasCause};
+ghost use Rattle.std.specs.Prelude.{◌≡◌, ◌<◌, ◌≤◌, Bool, IsTrue, List, ℕ, length, take, IfOk, OnErr, OnOk};
+ghost use Rattle.bt_journal.specs.Disks.{Only, Follows, Torn, Cut, Swapped, Holds, Elapses, HasCause, HasRead};
 ghost use Rattle.bt_journal.specs.declared.disk.HostCall.{HostCall as host_call};
 
 /// A call of the disk failed. It may have done its work, a part of it, or nothing.
@@ -15,6 +15,9 @@ pub struct DiskFailed;
 pub trait Disk {
     /// The bytes that a read returns, while the disk is healthy.
     ghost contents: { Self → List ℕ };
+
+    /// The bytes that were read when the file was opened.
+    ghost original: { Self → List ℕ };
 
     /// The files that a crash at this moment may leave.
     ghost outcome: { Self → List ℕ → Type 0 };
@@ -44,6 +47,7 @@ pub trait Disk {
         ensures healthy { OnOk result (is_healthy self.new ≡ is_healthy self.old) }
         ensures time { Elapses (moment self.old) (moment self.new) (outcome_since self.old) (outcome_since self.new) (outcome self.new) }
         ensures untaken { take_count self.new ≡ take_count self.old }
+        ensures original { original self.new ≡ original self.old }
         ensures cause { HasCause (fault_count self.old) (fault_count self.new) result };
 
     /// Cuts the file to a length.
@@ -55,6 +59,7 @@ pub trait Disk {
         ensures healthy { OnOk result (is_healthy self.new ≡ is_healthy self.old) }
         ensures time { Elapses (moment self.old) (moment self.new) (outcome_since self.old) (outcome_since self.new) (outcome self.new) }
         ensures untaken { take_count self.new ≡ take_count self.old }
+        ensures original { original self.new ≡ original self.old }
         ensures cause { HasCause (fault_count self.old) (fault_count self.new) result };
 
     /// Replaces all bytes at once: a new file with these bytes is synced, and takes the name and the place of this one.
@@ -66,6 +71,7 @@ pub trait Disk {
         ensures healthy { OnOk result (IsTrue (is_healthy self.new)) }
         ensures time { Elapses (moment self.old) (moment self.new) (outcome_since self.old) (outcome_since self.new) (outcome self.new) }
         ensures untaken { take_count self.new ≡ take_count self.old }
+        ensures original { original self.new ≡ original self.old }
         ensures cause { HasCause (fault_count self.old) (fault_count self.new) result };
 
     /// Waits until the disk has all that was written: from then on a crash leaves what a read returns.
@@ -78,6 +84,7 @@ pub trait Disk {
         ensures crash { (c : List ℕ) → outcome self.new c → outcome self.old c }
         ensures time { Elapses (moment self.old) (moment self.new) (outcome_since self.old) (outcome_since self.new) (outcome self.new) }
         ensures untaken { take_count self.new ≡ take_count self.old }
+        ensures original { original self.new ≡ original self.old }
         ensures cause { HasCause (fault_count self.old) (fault_count self.new) result };
 
     /// This moment is one of those since an earlier one.
@@ -85,6 +92,18 @@ pub trait Disk {
 
     /// Since this moment there is no other.
     ghost only_now: { (file : Self) (c : List ℕ) → outcome_since file (moment file) c → outcome file c };
+}
+
+/// A disk that reads the bytes of its file when that is opened, from the first to the last, before any other call.
+pub trait ReadDisk: Disk {
+    /// Reads the next bytes into this room, and returns them: as many as fit, or fewer. There are none at the end of the file.
+    fn read_next(&mut self, room: Vec<u8>) -> Result<Vec<u8>, DiskFailed>
+        requires { 0 < length room.items }
+        ensures read { IfOk result (λ piece. HasRead Self.Disk.contents Self.Disk.original Self.Disk.outcome Self.Disk.is_healthy Self.Disk.moment Self.Disk.outcome_since
+            self.old self.new piece.items) }
+        ensures no_step { OnErr result (Self.Disk.moment self.new ≡ Self.Disk.moment self.old) }
+        ensures untaken { Self.Disk.take_count self.new ≡ Self.Disk.take_count self.old }
+        ensures cause { HasCause (Self.Disk.fault_count self.old) (Self.Disk.fault_count self.new) result };
 }
 
 /// A call of a file that a host is to make.
@@ -108,6 +127,13 @@ pub trait HostDisk: Disk {
 
     /// The host took its calls.
     ghost is_taken: { Self → Self → Type 0 };
+
+    /// Adds bytes that the host has read, the next ones of the file: none at its end.
+    fn note_read(&mut self, piece: &Vec<u8>)
+        ensures read { HasRead Self.Disk.contents Self.Disk.original Self.Disk.outcome Self.Disk.is_healthy Self.Disk.moment Self.Disk.outcome_since
+            self.old self.new piece.now.items }
+        ensures untaken { Self.Disk.take_count self.new ≡ Self.Disk.take_count self.old }
+        ensures no_fault { Self.Disk.fault_count self.new ≡ Self.Disk.fault_count self.old };
 
     /// Returns the calls that the host is to make, in order.
     fn take_calls(&mut self) -> Vec<HostCall>

@@ -12,8 +12,8 @@ use crate::frame::{FRAME_START, frame_of, next_seed};
 use crate::head::{HEAD_SIZE, Head};
 use std::alloc::{AllocError, Global};
 
-// Far more bytes than a disk has.
-const MOST_BYTES: usize = 1 << 62;
+/// Far more bytes than a disk has.
+pub(crate) const MOST_BYTES: usize = 1 << 62;
 
 // How many zeros are written ahead of the next frames. A frame that is written over them does not change the length of the file, so a sync writes less.
 const ZEROS_AHEAD: usize = 1 << 18;

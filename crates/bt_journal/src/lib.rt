@@ -1,7 +1,7 @@
 //! A state that a crash does not lose: each payload that changes it is in a file before it is acknowledged.
 //!
 //! ```text
-//! let mut store = Store::open(alloc, disk, &bytes, head, machine)?;   // runs the payloads that the file has
+//! let mut store = Store::open(alloc, disk, head, machine)?;   // runs the payloads that the file has
 //! store.run(alloc, payload, &mut answer)?;                            // from here on, each crash leaves a file that has the payload
 //! ```
 //!
@@ -40,15 +40,17 @@ mod journal;
 mod laws;
 mod machine;
 mod opening;
+mod reading;
 mod replay;
 mod steps;
 mod store;
 
-pub use disk::{Disk, DiskFailed, HostCall, HostDisk};
+pub use disk::{Disk, DiskFailed, HostCall, HostDisk, ReadDisk};
 pub use fault::Fault;
 pub use frame::sum_after;
 pub use group::Group;
 pub use head::Head;
 pub use laws::{damage, salts};
 pub use machine::{Compact, Join, Machine};
+pub use reading::Opening;
 pub use store::Store;

@@ -3,50 +3,44 @@ ghost use Rattle.std.specs.Prelude.{◌≡◌, ◌++◌, if◌then◌else◌, Is
 ghost use Rattle.bt_journal.specs.Disks.{Only, LeavesOnly};
 ghost use Rattle.bt_journal.specs.Heads.{IsAlike};
 ghost use Rattle.bt_journal.specs.Files.{recovered, is_refusal, IsCause};
-ghost use Rattle.bt_journal.specs.Stores.{state_of, Finds, IsKept, IsConsistent, IsBeforeOrAfterCheckpoint, IsBeforeOrAfterRun};
+ghost use Rattle.bt_journal.specs.Stores.{state_of, Finds, IsKept, IsConsistent, IsReplayed, IsBeforeOrAfterCheckpoint, IsBeforeOrAfterRun};
 
 use crate::disk::Disk;
 use crate::fault::Fault;
-use crate::head::Head;
 use crate::journal::Journal;
 use crate::machine::{Compact, Machine};
 use crate::opening::open;
-use crate::replay::replay;
+use crate::replay::Replay;
 use std::alloc::Global;
 
-/// Opens a file, and runs its payloads.
+/// Opens a file that was read to its end, and whose payloads have run.
 pub(crate) fn open_state<D: Disk, M: Machine>(
     alloc: Global,
     disk: D,
-    bytes: &[u8],
-    head: Head,
-    mut machine: M,
+    replay: Replay<M>,
 ) -> Result<(Journal<D>, M), (Fault, D)>
-    requires read { bytes.now ≡ D.contents disk }
+    requires read { IsReplayed M.after M.blank (D.contents disk) replay }
     requires durable { Only (D.contents disk) (D.outcome disk) }
     requires healthy { IsTrue (D.is_healthy disk) }
-    requires blank { machine ≡ M.blank }
     ensures consistent { IfOk result (λ opened. IsConsistent D.contents D.outcome D.is_healthy M.after M.blank opened.0 opened.1) }
-    ensures alike { IfOk result (λ opened. IsAlike head opened.0.head) }
+    ensures alike { IfOk result (λ opened. IsAlike replay.head opened.0.head) }
     ensures untaken { IfOk result (λ opened. D.take_count opened.0.disk ≡ D.take_count disk) }
+    ensures original { IfOk result (λ opened. D.original opened.0.disk ≡ D.original disk) }
+    ensures original_err { IfErr result (λ e. D.original e.1 ≡ D.original disk) }
     ensures state { IfOk result (λ opened. opened.1 ≡ state_of M.after M.blank (D.contents disk)) }
     ensures kept { IfOk result (λ opened. IsKept D.contents D.outcome M.after M.blank opened.0.head opened.0.disk opened.1) }
-    ensures sound { IfOk result (λ _. Finds M.after M.blank head (state_of M.after M.blank (D.contents disk)) (D.contents disk)) }
+    ensures sound { IfOk result (λ _. Finds M.after M.blank replay.head (state_of M.after M.blank (D.contents disk)) (D.contents disk)) }
     ensures any_moment { IfOk result (λ opened. LeavesOnly D.moment D.outcome_since disk opened.0.disk
-        (Finds M.after M.blank head (state_of M.after M.blank (D.contents disk)))) }
+        (Finds M.after M.blank replay.head (state_of M.after M.blank (D.contents disk)))) }
     ensures any_moment_err { IfErr result (λ e. is_refusal e.0 ≡ false → LeavesOnly D.moment D.outcome_since disk e.1
-        (Finds M.after M.blank head (state_of M.after M.blank (D.contents disk)))) }
-    ensures cause { IfErr result (λ e. IsCause head (D.contents disk) e.0) }
+        (Finds M.after M.blank replay.head (state_of M.after M.blank (D.contents disk)))) }
+    ensures cause { IfErr result (λ e. IsCause replay.head (D.contents disk) e.0) }
     ensures failed { IfErr result (λ e. e.0 ≡ Fault.Failed → D.fault_count disk < D.fault_count e.1) }
     ensures unchanged { IfErr result (λ e. is_refusal e.0 ≡ true → e.1 ≡ disk) }
 {
-    let journal = match open(alloc, disk, bytes, head) {
-        Ok(journal) => journal,
-        Err(refused) => return Err(refused),
-    };
-    match replay(alloc, bytes, &mut machine) {
-        Ok(()) => Ok((journal, machine)),
-        Err(_) => Err((Fault::OutOfMemory, journal.disk)),
+    match open(alloc, disk, &replay) {
+        Ok(journal) => Ok((journal, replay.machine)),
+        Err(refused) => Err(refused),
     }
 }
 

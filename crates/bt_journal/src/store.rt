@@ -1,18 +1,19 @@
 //! A machine whose state a crash does not lose: each payload that changes it is in a file before it is acknowledged.
-ghost use Rattle.std.specs.Prelude.{◌≡◌, ◌++◌, if◌then◌else◌, IsTrue, Bool, false, true, ◌<◌, ◌≤◌, ◌^◌, List, ℕ, [], ◌∷◌, length, IfErr, IfOk, IsErrOf, OnOk};
+ghost use Rattle.std.specs.Prelude.{◌≡◌, ◌⊎◌, ◌++◌, if◌then◌else◌, IsTrue, Bool, false, true, ◌<◌, ◌≤◌, ◌^◌, List, ℕ, [], ◌∷◌, length, IfErr, IfOk, IsErrOf, OnOk};
 ghost use Rattle.bt_journal.specs.Disks.{Only, LeavesOnly};
 ghost use Rattle.bt_journal.specs.Heads.{IsAlike};
 ghost use Rattle.bt_journal.specs.Files.{recovered, is_refusal, IsCause};
 ghost use Rattle.bt_journal.specs.Stores.{ahead, group_disk, group_head, group_state, is_group_open};
-ghost use Rattle.bt_journal.specs.Stores.{StoreValue, disk_of, state_in, head_in, is_open, state_of, Finds, IsKept, IsConsistent, IsBeforeOrAfterCheckpoint, IsBeforeOrAfterRun};
+ghost use Rattle.bt_journal.specs.Stores.{StoreValue, disk_of, state_in, head_in, is_open, state_of, Finds, IsKept, IsConsistent, IsReplayed, IsBeforeOrAfterCheckpoint, IsBeforeOrAfterRun};
 
-use crate::disk::{Disk, HostCall, HostDisk};
+use crate::disk::{Disk, HostCall, HostDisk, ReadDisk};
 use crate::fault::Fault;
-use crate::file_end::first_end;
 use crate::group::Group;
 use crate::head::Head;
 use crate::journal::Journal;
 use crate::machine::{Compact, Join, Machine};
+use crate::reading::read_all;
+use crate::replay::Replay;
 use crate::steps::{compact, open_state, run_payload};
 use std::alloc::Global;
 use std::marker::Model;
@@ -46,50 +47,76 @@ impl<D: Disk, M: Machine> Model for Store<D, M> {
     ghost invariant = { λ s. IsTrue s.is_open → IsConsistent D.contents D.outcome D.is_healthy M.after M.blank s.journal s.machine };
 }
 
-impl<D: Disk, M: Machine> Store<D, M> {
-    /// Opens a file that a crash may have left and that has these bytes, and runs its payloads. It may crash too, at any moment; then the file stands for the
-    /// same state. An empty file gets the head. An `Err` returns the file.
-    pub fn open(
-        alloc: Global,
-        disk: D,
-        bytes: &[u8],
-        head: Head,
-        machine: M,
-    ) -> Result<Store<D, M>, (Fault, D)>
-        // After a restart, what is read is what is on the disk.
-        requires read { bytes.now ≡ D.contents disk }
-        requires durable { Only (D.contents disk) (D.outcome disk) }
+// The store of a file that was read to its end.
+pub(crate) fn store_of<D: Disk, M: Machine>(
+    alloc: Global,
+    disk: D,
+    replay: Replay<M>,
+) -> Result<Store<D, M>, (Fault, D)>
+    requires read { IsReplayed M.after M.blank (D.contents disk) replay }
+    requires durable { Only (D.contents disk) (D.outcome disk) }
+    requires healthy { IsTrue (D.is_healthy disk) }
+    ensures open { IfOk result (λ store. IsTrue (is_open store)) }
+    ensures head { IfOk result (λ store. IsAlike replay.head (head_in store)) }
+    ensures untaken { IfOk result (λ store. D.take_count (disk_of store) ≡ D.take_count disk) }
+    ensures original { IfOk result (λ store. D.original (disk_of store) ≡ D.original disk) }
+    ensures original_err { IfErr result (λ e. D.original e.1 ≡ D.original disk) }
+    ensures state { IfOk result (λ store. state_in store ≡ state_of M.after M.blank (D.contents disk)) }
+    ensures kept { IfOk result (λ store. IsKept D.contents D.outcome M.after M.blank (head_in store) (disk_of store) (state_in store)) }
+    ensures sound { IfOk result (λ _. Finds M.after M.blank replay.head (state_of M.after M.blank (D.contents disk)) (D.contents disk)) }
+    ensures any_moment { IfOk result (λ store. LeavesOnly D.moment D.outcome_since disk (disk_of store)
+        (Finds M.after M.blank replay.head (state_of M.after M.blank (D.contents disk)))) }
+    ensures any_moment_err { IfErr result (λ e. is_refusal e.0 ≡ false → LeavesOnly D.moment D.outcome_since disk e.1
+        (Finds M.after M.blank replay.head (state_of M.after M.blank (D.contents disk)))) }
+    ensures cause { IfErr result (λ e. IsCause replay.head (D.contents disk) e.0) }
+    ensures failed { IfErr result (λ e. e.0 ≡ Fault.Failed → D.fault_count disk < D.fault_count e.1) }
+    ensures unchanged { IfErr result (λ e. is_refusal e.0 ≡ true → e.1 ≡ disk) }
+{
+    let due_size = size_when_due(replay.first_end);
+    let (journal, machine) = open_state(alloc, disk, replay)?;
+    Ok(Store {
+        journal,
+        machine,
+        is_open: true,
+        due_size,
+    })
+}
+
+impl<D: ReadDisk, M: Machine> Store<D, M> {
+    /// Opens a file that a crash may have left: reads it, and runs its payloads. It may crash too, at any moment; then the file stands for the same state. An empty
+    /// file gets the head. An `Err` returns the file.
+    pub fn open(alloc: Global, disk: D, head: Head, machine: M) -> Result<Store<D, M>, (Fault, D)>
+        requires unread { D.original disk ≡ [] }
         requires healthy { IsTrue (D.is_healthy disk) }
         requires blank { machine ≡ M.blank }
 
         ensures open { IfOk result (λ store. IsTrue (is_open store)) }
         ensures head { IfOk result (λ store. IsAlike head (head_in store)) }
         ensures untaken { IfOk result (λ store. D.take_count (disk_of store) ≡ D.take_count disk) }
-        ensures state { IfOk result (λ store. state_in store ≡ state_of M.after M.blank (D.contents disk)) }
+        ensures state { IfOk result (λ store. state_in store ≡ state_of M.after M.blank (D.original (disk_of store))) }
         ensures kept { IfOk result (λ store. IsKept D.contents D.outcome M.after M.blank (head_in store) (disk_of store) (state_in store)) }
-        ensures sound { IfOk result (λ _. Finds M.after M.blank head (state_of M.after M.blank (D.contents disk)) (D.contents disk)) }
+        ensures sound { IfOk result (λ store. Finds M.after M.blank head (state_in store) (D.original (disk_of store))) }
 
-        // A crash at any moment of the call leaves a file in which the next one finds the same state.
-        ensures any_moment { IfOk result (λ store. LeavesOnly D.moment D.outcome_since disk (disk_of store)
-            (Finds M.after M.blank head (state_of M.after M.blank (D.contents disk)))) }
-        ensures any_moment_err { IfErr result (λ e. is_refusal e.0 ≡ false → LeavesOnly D.moment D.outcome_since disk e.1
-            (Finds M.after M.blank head (state_of M.after M.blank (D.contents disk)))) }
+        // A crash at any moment of the call leaves a file in which the next one finds the same state. At an error it was perhaps only read.
+        ensures any_moment { IfOk result (λ store. LeavesOnly D.moment D.outcome_since disk (disk_of store) (Finds M.after M.blank head (state_in store))) }
+        ensures any_moment_err { IfErr result (λ e. (D.moment e.1 ≡ D.moment disk) ⊎ LeavesOnly D.moment D.outcome_since disk e.1
+            (Finds M.after M.blank head (state_of M.after M.blank (D.original e.1)))) }
 
-        // An error has a cause, and a file that is refused is as it was.
-        ensures cause { IfErr result (λ e. IsCause head (D.contents disk) e.0) }
+        // An error has a cause. A file that is refused was only read, and has the cause whatever its other bytes are.
+        ensures cause { IfErr result (λ e. IsCause head (D.original e.1) e.0) }
+        ensures refused { IfErr result (λ e. is_refusal e.0 ≡ true → (D.moment e.1 ≡ D.moment disk) × ((c : List ℕ) → D.outcome e.1 c → IsCause head c e.0)) }
         ensures failed { IfErr result (λ e. e.0 ≡ Fault.Failed → D.fault_count disk < D.fault_count e.1) }
-        ensures unchanged { IfErr result (λ e. is_refusal e.0 ≡ true → e.1 ≡ disk) }
     {
-        let due_size = size_when_due(first_end(bytes));
-        let (journal, machine) = open_state(alloc, disk, bytes, head, machine)?;
-        Ok(Store {
-            journal,
-            machine,
-            is_open: true,
-            due_size,
-        })
+        let mut file = disk;
+        let mut replay = Replay::new(alloc, head, machine);
+        match read_all(alloc, &mut file, &mut replay) {
+            Ok(()) => store_of(alloc, file, replay),
+            Err(fault) => Err((fault, file)),
+        }
     }
+}
 
+impl<D: Disk, M: Machine> Store<D, M> {
     /// The machine. While the store is open, its state is that of the file.
     pub fn machine(&self) -> &M
         ensures { result.now ≡ state_in self.now }

@@ -1,5 +1,5 @@
 -- What a crash leaves in a run of calls of a disk.
-use Rattle.std.proofs.Common.{inl, inr, ⊎_elim, ℕ, List, subst, arith}
+use Rattle.std.proofs.Common.{◌≡◌, ◌≤◌, inl, inr, ⊎_elim, ℕ, List, sym, subst, arith}
 use Rattle.bt_journal.specs.Disks.{Elapses, LeavesOnly, Only, Follows}
 
 module _ {D : Type 0} (moment : D → ℕ) (outcome_since : D → ℕ → List ℕ → Type 0) where
@@ -22,6 +22,16 @@ module _ {D : Type 0} (moment : D → ℕ) (outcome_since : D → ℕ → List �
     later = omega (arith, first.later, second.later);
     each = λ c left. ⊎_elim (first.each c) (λ here. here) (second.before (moment old) c first.later left);
     before = λ t c le left. ⊎_elim (first.before t c le) (λ here. inr here) (second.before t c (omega (arith, le, first.later)) left);
+  }
+
+  -- a run of calls on a file that was only read before
+  pub read_before : (outcome : D → List ℕ → Type 0) (old read new : D) (P : List ℕ → Type 0) → ((t : ℕ) (c : List ℕ) → t ≤ moment old → outcome old c → outcome_since old t c)
+      → moment read ≡ moment old → ((t : ℕ) (c : List ℕ) → outcome_since read t c → outcome read c) → ((c : List ℕ) → outcome read c → outcome old c)
+      → LeavesOnly moment outcome_since read new P → LeavesOnly moment outcome_since old new P
+  read_before outcome old read new P counts same since fewer run = record {
+    later = omega (arith, same, run.later);
+    each = λ c left. run.each c (subst (λ (t : ℕ). outcome_since new t c) (sym same) left);
+    before = λ t c le left. ⊎_elim (λ was. inl (counts t c le (fewer c (since t c was)))) (λ here. inr here) (run.before t c (omega (arith, le, same)) left);
   }
 
 -- what a step leaves of a file of which a crash leaves only this

@@ -1,34 +1,56 @@
-use Rattle.std.proofs.Common.{◌+◌, ℕ, List, sym, ◌∙◌, ap}
-use Rattle.bt_journal.specs.Frames.{extent, seed_after}
-use Rattle.bt_journal.specs.Heads.{head_at, head_size}
-use Rattle.bt_journal.specs.Files.{recovered, is_damaged}
+use Rattle.std.proofs.Common.{◌≡◌, ◌-◌, ℕ, false, length, sym, ◌∙◌, ap, arith}
+use Rattle.std.specs.Prelude.{replicate}
+use Rattle.bt_journal.specs.Files.{has_frame_after, is_damaged, recovered}
 use Rattle.bt_journal.proofs.CutFiles.{whole_opens}
+use Rattle.bt_journal.proofs.ReadFiles.{damage_found, long_file, rest_found}
 use Rattle.bt_journal.proofs.SettledJournals.{settled, opens_too}
 use Rattle.bt_journal.proofs.opening.open_old.Goals as goal
 
-pub returns-after-found-clause-settled : goal.returns-after-found-clause-settled
-returns-after-found-clause-settled g c =
-    let disk = g.D.Disk in
-    let e = c.in-Ok-settle.ensures in
-    let found = c.in-Ok.found in
-    let end = c.in-Ok.ensures.end ∙ ap (λ (f : List ℕ). head_size + extent (recovered f)) c.requires.read in
-    let seed = c.in-Ok.ensures.seed ∙ ap (λ (f : List ℕ). seed_after found.head.salt (recovered f)) c.requires.read in
-    (settled disk.contents disk.outcome disk.is_healthy _ (recovered (disk.contents c.args.disk)) e.head e.framed end seed e.durable e.healthy).0
+pub returns-then-has_frame_after-clause-cause : goal.returns-then-has_frame_after-clause-cause
+returns-then-has_frame_after-clause-cause g c =
+    damage_found g.M.Machine.after g.M.Machine.blank (g.D.Disk.contents c.args.disk) c.args.found c.args.replay.now c.requires.read
+    ∙ ap (has_frame_after c.args.replay.now.seed) (sym c.deref.ensures.value) ∙ sym c.has_frame_after.ensures ∙ c.if-has_frame_after.true
 
-pub returns-after-found-clause-payloads : goal.returns-after-found-clause-payloads
-returns-after-found-clause-payloads g c =
-    let disk = g.D.Disk in
-    let e = c.in-Ok-settle.ensures in
-    let found = c.in-Ok.found in
-    let end = c.in-Ok.ensures.end ∙ ap (λ (f : List ℕ). head_size + extent (recovered f)) c.requires.read in
-    let seed = c.in-Ok.ensures.seed ∙ ap (λ (f : List ℕ). seed_after found.head.salt (recovered f)) c.requires.read in
-    (settled disk.contents disk.outcome disk.is_healthy (record { disk = c.settle.new.disk; head = found.head; end = found.end; seed = found.seed; zeros = 0 })
-    (recovered (disk.contents c.args.disk)) e.head e.framed end seed e.durable e.healthy).1
+pub settle-requires-clause-sound : goal.settle-requires-clause-sound
+settle-requires-clause-sound g c =
+    damage_found g.M.Machine.after g.M.Machine.blank (g.D.Disk.contents c.args.disk) c.args.found c.args.replay.now c.requires.read
+    ∙ ap (has_frame_after c.args.replay.now.seed) (sym c.deref.ensures.value) ∙ sym c.has_frame_after.ensures ∙ c.if-has_frame_after.false
 
-pub returns-after-found-clause-sound : goal.returns-after-found-clause-sound
-returns-after-found-clause-sound g c =
+pub settle-requires-clause-within : goal.settle-requires-clause-within
+settle-requires-clause-within g c =
     let file = g.D.Disk.contents c.args.disk in
-    let found = c.in-Ok.found.head in
-    let is = sym (ap head_at c.requires.read) ∙ c.in-Ok.ensures.head in
-    let sound = sym (ap is_damaged c.requires.read) ∙ c.in-Ok.ensures.sound in
-    opens_too c.args.head found c.in-Ok.ensures.alike (recovered file) file (whole_opens found file is sound)
+    omega (arith, long_file g.M.Machine.after g.M.Machine.blank (recovered file) file c.args.found c.args.replay.now c.requires.read)
+
+pub settle-requires-clause-clean : goal.settle-requires-clause-clean
+settle-requires-clause-clean g c zeros =
+    let file = g.D.Disk.contents c.args.disk in
+    let replay = c.args.replay.now in
+    let long = long_file g.M.Machine.after g.M.Machine.blank (recovered file) file c.args.found replay c.requires.read in
+    let size : length c.deref-2.result.now ≡ length file - replay.end = omega (arith, ap length c.deref-2.ensures.value, long) in
+    rest_found g.M.Machine.after g.M.Machine.blank file c.args.found replay c.requires.read ∙ sym c.deref-2.ensures.value ∙ c.are_zeros-is_clean.ensures zeros
+    ∙ ap (λ (n : ℕ). replicate n 0) size
+
+pub returns-after-is_clean-clause-settled : goal.returns-after-is_clean-clause-settled
+returns-after-is_clean-clause-settled g c =
+    let disk = g.D.Disk in
+    let e = c.in-Ok.ensures in
+    let read = c.requires.read in
+    (settled disk.contents disk.outcome disk.is_healthy _ (recovered (disk.contents c.args.disk)) e.head e.framed read.end read.seed e.durable e.healthy).0
+
+pub returns-after-is_clean-clause-payloads : goal.returns-after-is_clean-clause-payloads
+returns-after-is_clean-clause-payloads g c =
+    let disk = g.D.Disk in
+    let e = c.in-Ok.ensures in
+    let read = c.requires.read in
+    let replay = c.args.replay.now in
+    (settled disk.contents disk.outcome disk.is_healthy (record { disk = c.settle.new.disk; head = c.args.found; end = replay.end; seed = replay.seed; zeros = 0 })
+    (recovered (disk.contents c.args.disk)) e.head e.framed read.end read.seed e.durable e.healthy).1
+
+pub returns-after-is_clean-clause-sound : goal.returns-after-is_clean-clause-sound
+returns-after-is_clean-clause-sound g c =
+    let file = g.D.Disk.contents c.args.disk in
+    let replay = c.args.replay.now in
+    let read = c.requires.read in
+    let sound : is_damaged file ≡ false = damage_found g.M.Machine.after g.M.Machine.blank file c.args.found replay read
+    ∙ ap (has_frame_after replay.seed) (sym c.deref.ensures.value) ∙ sym c.has_frame_after.ensures ∙ c.if-has_frame_after.false in
+    opens_too replay.head c.args.found read.alike (recovered file) file (whole_opens c.args.found file read.head sound)

@@ -8,4 +8,4 @@ use Rattle.bt_file.proofs.ordered_file.OrderedFileDisk.cut.Goals as goal
 pub invariant_of-self-2 : goal.invariant_of-self-2
 invariant_of-self-2 c =
     one_more c.self.inside.pending.items c.push_reserved.new.self.items (events_of c.self.inside.calls) (events_of c.note-2.new.self) (host.Cut c.args.len)
-    (Cut c.args.len true, c.new-none.result) c.self.invariant refl refl (search rules) c.note-2.ensures
+    (Cut c.args.len true, c.new-none.result) c.self.invariant refl refl refl (search rules) c.note-2.ensures
