@@ -81,7 +81,7 @@ def copied_replies(copy: Callable[..., int], length: Callable[..., int], handle:
         size = length(handle)
         room = ctypes.create_string_buffer(size)
         count = copy(handle, 0, room, size)
-    return ctypes.string_at(room, count)
+    return room.raw[:count]
 
 
 _library: ctypes.CDLL | None = None

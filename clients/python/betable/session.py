@@ -45,6 +45,15 @@ DEFINING_LINE = re.compile(rb"^ *(?:%b) " % b"|".join(DEFINING), re.MULTILINE)
 DROPPED = re.compile(rb"^ *drop +([a-z0-9_]+)", re.MULTILINE)
 
 
+def defines_trees(script: bytes) -> bool:
+    """Whether a script may have a command after which the library describes other trees."""
+    for word in DEFINING:
+        # In less time than `in`, which first takes the word as a number.
+        if script.find(word) >= 0:
+            return DEFINING_LINE.search(script) is not None
+    return False
+
+
 class ScriptSession(Calls):
     """A table, or none so far, that lives between scripts. Any thread may use it, one call at a time: a call during another one raises RuntimeError. A closed
     session raises ValueError."""
@@ -153,7 +162,7 @@ class ScriptSession(Calls):
 
     def _ran(self, script: bytes, with_places: bool, run: Callable[[bytes], bytes] | None = None) -> tuple[bytes, list[Place] | None]:
         """The bytes of the replies to a script, which `run` runs if it is given, and their places if they are wanted."""
-        defines = any(word in script for word in DEFINING) and DEFINING_LINE.search(script) is not None
+        defines = defines_trees(script)
         with self._calls():
             calls = self._opened()
             if defines:

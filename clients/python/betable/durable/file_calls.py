@@ -49,9 +49,8 @@ class Group(Enum):
     """The state of a group."""
 
     NONE = auto()
-    OPEN = auto()
+    OPEN = auto()  # if the file is not, an interrupt has left the group, which is to be rolled back
     FAILED = auto()  # a call of it failed, and it was rolled back
-    LEFT = auto()  # it was left by an interrupt, and is to be rolled back
 
 
 class FileCalls(FramedCalls):
@@ -90,6 +89,8 @@ class FileCalls(FramedCalls):
 
     def make_ready(self) -> bool:
         """Makes it ready for a call, which the caller makes next. Whether it was rolled back since the last call."""
+        if self.file.is_open:
+            return False
         self.expect_owner()
         if self._is_failed:
             raise InDoubt(f"{self.path}: the table was closed, since an earlier call failed: {AGAIN}")
@@ -97,11 +98,11 @@ class FileCalls(FramedCalls):
             fault = RolledBack(f"{self.path}: a call of the group failed before, and nothing of the group is kept")
             fault.of_group = True
             raise fault
-        if self.group is Group.LEFT:
+        if self.group is Group.OPEN:
             self._roll_back()
             return self.make_ready()
-        was_rolled_back, self.file.is_open = not self.file.is_open, True
-        return was_rolled_back
+        self.file.is_open = True
+        return True
 
     # ---- requests ----
 
@@ -176,17 +177,17 @@ class FileCalls(FramedCalls):
             self._roll_back()
 
     def leave_group(self) -> None:
-        """Called at the end of each group."""
-        self.group = Group.LEFT if self.group is Group.OPEN and self._release.alive else Group.NONE
-        if self.group is Group.LEFT:
+        """Called at the end of each group. One that is still open is rolled back by the next call."""
+        if self.group is Group.OPEN:
             self.file.is_open = False
+        else:
+            self.group = Group.NONE
 
     # ---- failures ----
 
     def _expect_done(self, status: int) -> None:
-        number = ctypes.get_errno()
         if status != library.DONE:
-            self._fail(status, number)
+            self._fail(status, ctypes.get_errno())
 
     def _fail(self, status: int, number: int) -> NoReturn:
         """Raises why a call was not done. The table is as before that call, or before its group, or is closed."""
@@ -196,7 +197,7 @@ class FileCalls(FramedCalls):
         elif status in (library.FILE_FAILED, library.FILE_TOO_LONG):
             number = number if status == library.FILE_FAILED else errno.EFBIG
             cause = OSError(number, os.strerror(number), self.path)
-        reason, is_in_group = cause or "an earlier call failed", self.group is Group.OPEN
+        reason, is_in_group = cause or "an earlier call failed", self.group is not Group.NONE
         what = "the group" if is_in_group else "the call"
         if is_in_group:
             self.group = Group.FAILED
