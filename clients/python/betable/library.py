@@ -3,14 +3,23 @@
 from __future__ import annotations
 
 import ctypes
-from collections.abc import Callable
-from typing import Any
+from collections.abc import Callable, Iterable
+from typing import TYPE_CHECKING, Any
 
 from .byte_calls import Outcome, PackedFault, Request
 from .errors import OutOfMemory
 from .installed import path_of
 from .reasons import Problem, Reason
 from .replies import Place
+
+# The extension, or None if it is not built.
+if TYPE_CHECKING:
+    from . import _packed as _packed
+else:
+    try:
+        from . import _packed
+    except ImportError:
+        _packed = None
 
 DONE, OUT_OF_MEMORY, REPLY_CUT, NOT_OPEN, ALREADY_OPEN, REFUSED = range(6)
 NOT_KEPT, FILE_TOO_LONG, NOT_A_TABLE, OTHER_FORMAT, OTHER_ENGINE, DAMAGED, FILE_FAILED, FILE_IN_USE = range(6, 14)
@@ -72,6 +81,12 @@ def declare(library: ctypes.CDLL, calls: list[tuple[str, list[Any], Any]]) -> No
     for name, arguments, result in calls:
         function = getattr(library, name)
         function.argtypes, function.restype = arguments, result
+
+
+def addresses(library: Any, names: Iterable[str]) -> tuple[int, ...]:
+    """Those of calls of the library, by their names, for the extension: 0 for a call that it does not have."""
+    calls = (getattr(library, name, None) for name in names)
+    return tuple(0 if call is None else ctypes.cast(call, ctypes.c_void_p).value or 0 for call in calls)
 
 
 def copied_replies(copy: Callable[..., int], length: Callable[..., int], handle: ctypes.Structure, room: ctypes.Array[ctypes.c_char]) -> bytes:
