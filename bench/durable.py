@@ -7,7 +7,7 @@ Rows are an int, which is the key and comes in random order, a text of five citi
 other and begins with another one:
 
     put          betable, `put` of tuples
-    script       betable, scripts that are written before the clock runs
+    script       betable, scripts that are written before the clock runs, each in a call of its own
     group        the same scripts, 16 of them kept by one sync
     kept_put     an engine that keeps its table (`betable_engine --keep`), `put` of tuples
     kept_script  the same with the scripts
@@ -31,7 +31,7 @@ import sys
 import tempfile
 import time
 from collections.abc import Callable, Iterator
-from contextlib import closing, contextmanager
+from contextlib import closing, contextmanager, nullcontext
 from pathlib import Path
 from statistics import median
 
@@ -82,7 +82,7 @@ def seconds_of_scripts(folder: str, rows: list[Row], size: int, group: int = 1) 
         table.run(HEAD)
         begin = time.perf_counter()
         for at in range(0, len(scripts), group):
-            with table.group():
+            with table.group() if group > 1 else nullcontext():
                 for script in scripts[at : at + group]:
                     table.replies(script)
         return time.perf_counter() - begin

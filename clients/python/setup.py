@@ -14,13 +14,13 @@ from setuptools import Distribution, Extension, setup  # type: ignore
 
 HERE = Path(__file__).resolve().parent
 os.chdir(HERE)
-# bin/package has the header beside this file, and a checkout has it at its top.
-INCLUDE = HERE if (HERE / "betable.h").exists() else HERE.parents[1] / "include"
+# bin/package has the headers in a folder beside this file, and a checkout has them at its top.
+INCLUDE = (HERE if (HERE / "include").exists() else HERE.parents[1]) / "include"
 EXTENSION = Extension(
     "betable._packed",
     ["betable/_packed.c"],
     include_dirs=[str(INCLUDE)],
-    depends=[str(INCLUDE / "betable.h")],
+    depends=[str(INCLUDE / "betable.h"), str(INCLUDE / "betable_file.h")],
     # Most of its time goes into calls of Python, which -fno-plt makes direct. Without what a debugger reads, which would have the paths of this folder.
     extra_compile_args=["-std=c11", "-O3", "-fno-plt", "-g0"],
     py_limited_api=True,

@@ -1,9 +1,12 @@
 """Tests of the durable table of the Python package: what is kept, what is refused and what is rolled back, and the crash tests of tools/crash on a short
 history. The library is that of BETABLE_LIBRARY, or bin/build_c builds it. kept_tables.py and file_tables.py test the file itself."""
 
+import contextlib
 import copy
 import ctypes
 import errno
+import inspect
+import itertools
 import os
 import pickle
 import re
@@ -72,8 +75,8 @@ def files_of(folder):
 
 
 class Failing:
-    """The library of a table, as long as the context lasts: calls on its file fail that are given FAILS, that of changes after a number of others, and commits
-    if they are to. If it is not certain that nothing was kept, the file cannot be read again."""
+    """The library of a table, as long as the context lasts: requests fail that have FAILS in them, that of changes after a number of others, and commits if they
+    are to. If it is not certain that nothing was kept, the file cannot be read again."""
 
     def __init__(self, table, status="OUT_OF_MEMORY", is_certain=True, commits=False, after=None):
         self.calls, self.status, self.is_certain, self.commits, self.after = table._bytes, getattr(betable().library, status), is_certain, commits, after
@@ -84,16 +87,23 @@ class Failing:
     def __exit__(self, *_):
         self.calls._library = self.library
 
+    def is_next(self, request):
+        """Whether a request is that of changes which is to fail."""
+        if self.after is None or request != calls_on_files().Request.APPLY:
+            return False
+        self.after -= 1
+        if self.after >= 0:
+            return False
+        self.after = None
+        return True
+
     def __getattr__(self, name):
         call = getattr(self.library, name)
 
         def failing(*given):
-            if self.after is not None and name == "betable_file_apply":
-                self.after -= 1
-                if self.after < 0:
-                    self.after = None
-                    return self.status
-            if (name in ("betable_file_run", "betable_file_apply") and FAILS in given[1]) or (name == "betable_file_commit" and self.commits):
+            if name == "exchange" and (FAILS in given[2] or self.is_next(given[1])):
+                return self.status, errno.EIO, 0, 0, 0, b""
+            if name == "betable_file_commit" and self.commits:
                 ctypes.set_errno(errno.EIO)
                 return self.status
             if name == "betable_file_roll_back" and not self.is_certain:
@@ -101,6 +111,29 @@ class Failing:
             return call(*given)
 
         return failing
+
+
+def interrupted(call, moment):
+    """Whether a call was interrupted at this one of the moments in the code of the package and of contexts, counted from 0."""
+    left, places = moment, (os.path.dirname(betable().__file__), contextlib.__file__)
+
+    def profile(frame, event, _):
+        nonlocal left
+        # A generator that is interrupted here as it goes on ends without its `finally`, which no signal does.
+        is_moment = event == "c_return" or (event == "call" and not frame.f_code.co_flags & inspect.CO_GENERATOR)
+        if is_moment and frame.f_code.co_filename.startswith(places):
+            left -= 1
+            if left == -1:
+                raise KeyboardInterrupt
+
+    sys.setprofile(profile)
+    try:
+        call()
+    except (KeyboardInterrupt, KeyError):
+        pass
+    finally:
+        sys.setprofile(None)
+    return left < 0
 
 
 @contextmanager
@@ -395,6 +428,37 @@ class AllOrNothing(TestCase):
             with durable().open(path / "t") as table:
                 self.assertEqual(probe(table), wanted)
 
+    def test_an_interrupt_at_any_moment_leaves_a_group_whole_or_not_at_all(self):
+        """It comes as a function of Python begins or one of C has returned, which is when handlers of signals run. Calls after it are kept."""
+
+        def ended(table):
+            with table.group():
+                table.replies(ADD)
+                table.replies(ADD)
+
+        def left(table):
+            with table.group():
+                table.replies(ADD)
+                raise KeyError
+
+        with folder() as path:
+            for call, kept in ((ended, (1, 3)), (left, (1,)), (lambda table: table.replies(ADD), (1, 2))):
+                for moment in itertools.count():
+                    table = durable().open(path / f"{kept}{moment}")
+                    table.replies(TABLE + ADD)
+                    is_over = not interrupted(lambda: call(table), moment)
+                    found = table.get(1)[2]
+                    self.assertIn(found, kept, moment)
+                    table.replies(ADD)
+                    with table.group():
+                        table.replies(ADD)
+                    table.close()
+                    with durable().open(table.path) as table:
+                        self.assertEqual(table.get(1)[2], found + 2, moment)
+                    if is_over:
+                        break
+                self.assertGreater(moment, 20)
+
     def test_a_group_that_an_interrupt_has_left_is_rolled_back_by_the_next_call(self):
         """It comes while the group is rolled back after an exception."""
         with folder() as path, durable().open(path / "t") as table:
@@ -457,6 +521,22 @@ class AllOrNothing(TestCase):
             with durable().open(path / "t") as table:
                 self.assertEqual(table.count(), 5_040)
 
+    def test_without_the_extension_a_full_disk_rolls_back_too(self):
+        text = """import resource, sys, warnings
+warnings.simplefilter("ignore"); sys.modules["betable._packed"] = None
+from betable import durable
+with durable.open(sys.argv[1]) as table:
+    table.table("id:int city:text")
+    table.put([(1, "")])
+    limits = resource.getrlimit(resource.RLIMIT_FSIZE)
+    resource.setrlimit(resource.RLIMIT_FSIZE, (10_000, limits[1]))
+    try: table.put((number, "x" * 250) for number in range(5_000))
+    except durable.RolledBack as fault: print(fault.__cause__.errno, fault.__cause__.filename == sys.argv[1])
+    resource.setrlimit(resource.RLIMIT_FSIZE, limits)
+    print(table.scan(), table.put([(2, "")]), table.number)"""
+        with folder() as path:
+            self.assertEqual(run_python(text, path / "t"), (0, f"{errno.EFBIG} True\n[(1, '')] 1 3\n"))
+
     def test_a_call_of_which_nobody_knows_closes_the_table(self):
         with folder() as path:
             table = durable().open(path / "t")
@@ -499,6 +579,34 @@ class Requests(TestCase):
                 for wrong in (1, None, b"a"):
                     expect_fault(self, TypeError, lambda: table.once(wrong, ADD))
                 expect_fault(self, TypeError, lambda: table.once("c", None))
+
+
+    def test_a_reply_that_is_no_frame_is_refused(self):
+        """With the extension and without it."""
+        calls, module = calls_on_files(), betable().library
+        handle = ctypes.POINTER(module.Handle)
+        given = b""
+
+        def copied(_, start, room, size):
+            found = given[start : start + size]
+            ctypes.memmove(room, found, len(found))
+            return len(found)
+
+        class Library:
+            betable_file_replies_length = ctypes.CFUNCTYPE(ctypes.c_size_t, handle)(lambda _: len(given))
+            betable_file_copy_replies = ctypes.CFUNCTYPE(ctypes.c_size_t, handle, ctypes.c_size_t, ctypes.c_void_p, ctypes.c_size_t)(copied)
+
+            def __getattr__(self, name):
+                return getattr(calls.loaded_library(), name)
+
+        exchanges = [calls.exchange_of(Library(), has_extension) for has_extension in {False, module._packed is not None}]
+        with folder() as path, durable().open(path / "t") as table:
+            for number, exchange in enumerate(exchanges):
+                for given in (b"", b"BTF\x01", b"BTF\x01" + bytes(8), b"BTF\x02" + bytes(9), b"BTF\x01\x01" + bytes(8), b"BTF\x01" + bytes(10)):
+                    with self.subTest(number=number, given=given):
+                        expect_fault(self, RuntimeError, lambda: exchange(table._bytes.file, 1, b""), "of another version")
+                given = b"BTF\x01\x05" + bytes(7) + b"\x09reply"
+                self.assertEqual(exchange(table._bytes.file, 1, b"")[2:], (0, 0, 9, b"reply"))
 
 
 # ---- files ----

@@ -89,6 +89,20 @@ class ByThemselves(TestCase):
                 table.get(1), table.scan(limit=1)
                 self.assertEqual(table.checkpoint_count, 2)
 
+    def test_a_request_begins_with_one_that_is_due(self):
+        """Outside of a group: a script, packed changes, and a script that runs once."""
+        with folder() as path, durable().open(path / "t") as table:
+            table.run(TABLE)
+            calls = (lambda: table.replies(ADD), lambda: table.put([(1, "", 1)]), lambda: table.once("a", ADD))
+            for count, call in enumerate(calls):
+                with table.group():
+                    for _ in range(20):
+                        table.put((number, ROW, number) for number in range(4_000))
+                self.assertEqual(table.checkpoint_count, count)
+                before = table.checkpoint_time
+                call()
+                self.assertEqual((table.checkpoint_count, table.checkpoint_seconds > 0, table.checkpoint_time != before), (count + 1, True, True))
+
     def test_an_index_is_completed_first(self):
         """What is due then is told without a warning."""
         with folder() as path, durable().open(path / "t") as table, notices() as told:

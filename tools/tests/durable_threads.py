@@ -134,9 +134,9 @@ class Threads(TestCase):
                 def __getattr__(self, name):
                     return getattr(real, name)
 
-                def betable_file_apply(self, *given):
+                def exchange(self, *given):
                     start_and_wait(other, done)
-                    return real.betable_file_apply(*given)
+                    return real.exchange(*given)
 
             table._bytes._library = Library()
             table.put([(1, "put", 5)])

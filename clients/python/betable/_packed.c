@@ -7,7 +7,7 @@
  *
  * The module is not linked with the library. ctypes has loaded it, and `_connect` gets the addresses of its calls, so the process has one copy of the library:
  * the one that opened the session. Without addresses, as for an engine, packed bytes go to the method `_ask`, which returns the reply, or None if they are
- * refused. Changes of a table in a file go there too.
+ * refused. Changes of a table in a file go there too, and from there, as scripts do, to `exchange`, which makes one call of what would be several of ctypes.
  *
  * Code of Python may run during a call: the collector of garbage runs `__del__` when an object is made, and that may call the session again. So the bytes of a
  * call are its own (from `taken` to `kept`), `is_ready` is asked directly before the library is called, and a reply is read directly after. Values are borrowed
@@ -24,10 +24,11 @@
 #define PY_SSIZE_T_CLEAN
 #include <Python.h>
 
+#include <errno.h>
 #include <stdint.h>
 #include <string.h>
 
-#include "betable.h"
+#include "betable_file.h"
 
 enum { INT, TEXT, FLAG, BYTES = 4 };
 enum { PUT, DEL, UPS };
@@ -35,7 +36,8 @@ enum { SET };
 enum { NO_BOUND, PREFIX, AFTER };
 /* The most columns that the rows of a tree have, operations of an upsert, and messages of a batch. */
 enum { MOST_COLUMNS = 32, MOST_OPERATIONS = 16, MOST_MESSAGES = 65536 };
-enum { MAGIC_LENGTH = 4, HEADER_LENGTH = 8, MOST_VALUE_LENGTH = 256 };
+enum { MAGIC_LENGTH = 4, HEADER_LENGTH = 8, FRAME_HEAD = 13, MOST_VALUE_LENGTH = 256 };
+#define FRAME_MAGIC "BTF\1"
 #define MOST_ROWS 0xFFFFFFFFu
 /* Shapes of upserts that are kept at a time. */
 #define MOST_SHAPES 1000
@@ -44,6 +46,8 @@ enum { MAGIC_LENGTH = 4, HEADER_LENGTH = 8, MOST_VALUE_LENGTH = 256 };
 #define MUCH_READ 512
 /* The calls of the library that `_connect` takes. */
 #define CALL_COUNT 9
+/* Those that `exchange_by` takes. */
+#define FILE_CALL_COUNT 5
 /* Room that is kept from call to call. */
 #define FIRST_ROOM 4096
 #define MOST_ROOM (1u << 20)
@@ -56,6 +60,11 @@ typedef bool reply_call(betable_session *, size_t, betable_reply_place *);
 typedef betable_status packed_call(betable_session *, const unsigned char *, size_t, betable_fault *);
 typedef size_t length_call(betable_session *);
 typedef size_t copy_call(betable_session *, size_t, unsigned char *, size_t);
+typedef betable_status run_call(betable_file *, const unsigned char *, size_t);
+typedef size_t file_length_call(betable_file *);
+typedef size_t file_copy_call(betable_file *, size_t, unsigned char *, size_t);
+typedef size_t checkpoint_count_call(const betable_file *);
+typedef int checkpoint_fault_call(const betable_file *);
 
 /* The outcome of a step: an exception is set, the values are for the plain class, or it is done. */
 typedef enum { RAISED = -1, OTHER, DONE } outcome;
@@ -72,6 +81,15 @@ typedef struct {
     unsigned long holder;     /* the thread that has the mutex, if the depth is not 0 */
     Py_ssize_t depth;         /* how often it has taken it */
 } call_lock;
+
+/* The calls on a table in a file, in the order of FILE_CALLS. */
+typedef struct {
+    run_call *run;
+    file_length_call *length;
+    file_copy_call *copy;
+    checkpoint_count_call *checkpoint_count;
+    checkpoint_fault_call *checkpoint_fault;
+} calls_on_file;
 
 /* A context in which a thread has the mutex of a lock. */
 typedef struct {
@@ -104,6 +122,8 @@ typedef struct {
 static PyObject *plain, *message_type, *lock_type, *hold_type;
 static PyObject *word_name, *shape_name, *values_name, *put_word, *del_word, *ups_word, *plan_name, *out_of_memory_name, *ask_name;
 static PyObject *names_of_scan[6], *names_of_sums[5];
+
+#define FAST(call) (PyCFunction)(void (*)(void))(call)
 
 /* ---- room ---- */
 
@@ -1409,6 +1429,86 @@ static PyObject *places_of_replies(PyObject *object, PyObject *none)
     return places;
 }
 
+/* ---- requests on a table in a file ---- */
+
+/* The payload of a reply, and its kind. */
+static PyObject *payload_of_reply(const calls_on_file *calls, betable_file *file, unsigned *kind)
+{
+    unsigned char head[FRAME_HEAD];
+    const size_t length = calls->length(file);
+    if (calls->copy(file, 0, head, FRAME_HEAD) < FRAME_HEAD || memcmp(head, FRAME_MAGIC, MAGIC_LENGTH) != 0 ||
+        number_at(head + MAGIC_LENGTH) != length - FRAME_HEAD) {
+        PyErr_SetString(PyExc_RuntimeError, "libbt_c.so is of another version than this package");
+        return NULL;
+    }
+    PyObject *payload = PyBytes_FromStringAndSize(NULL, (Py_ssize_t)(length - FRAME_HEAD));
+    if (payload != NULL)
+        calls->copy(file, FRAME_HEAD, (unsigned char *)PyBytes_AsString(payload), length - FRAME_HEAD);
+    *kind = head[FRAME_HEAD - 1];
+    return payload;
+}
+
+/* exchange(file, kind, payload): makes a request, while other threads run. The status, errno after it, the number of checkpoints that were made, why the last one
+ * that was due was not, and the kind and the payload of the reply, which has none after a call that failed. The calls of the library are the bytes `of`. */
+static PyObject *exchange(PyObject *of, PyObject *const *args, Py_ssize_t count)
+{
+    calls_on_file calls;
+    Py_buffer handle;
+    char *given;
+    Py_ssize_t length;
+    if (!have_count(count, 3) || PyBytes_AsStringAndSize(args[2], &given, &length) < 0)
+        return NULL;
+    const unsigned long kind = PyLong_AsUnsignedLong(args[1]);
+    if (PyErr_Occurred() || PyObject_GetBuffer(args[0], &handle, PyBUF_WRITABLE) < 0)
+        return NULL;
+    bytes_in_room frame = {PyMem_Malloc(FRAME_HEAD + (size_t)length), 0, FRAME_HEAD + (size_t)length};
+    if (frame.at == NULL) {
+        PyBuffer_Release(&handle);
+        return PyErr_NoMemory();
+    }
+    add_bytes(&frame, FRAME_MAGIC, MAGIC_LENGTH);
+    add_number(&frame, (uint64_t)length, 8);
+    add_byte(&frame, (unsigned)kind);
+    add_bytes(&frame, given, (size_t)length);
+    memcpy(&calls, PyBytes_AsString(of), sizeof calls);
+    betable_file *file = handle.buf;
+    betable_status status;
+    int fault;
+    Py_BEGIN_ALLOW_THREADS
+    status = calls.run(file, frame.at, frame.length);
+    fault = errno;
+    Py_END_ALLOW_THREADS
+    PyMem_Free(frame.at);
+    const Py_ssize_t checkpoints = (Py_ssize_t)calls.checkpoint_count(file);
+    const int checkpoint_fault = calls.checkpoint_fault(file);
+    unsigned kind_of_reply = 0;
+    PyObject *payload = status == BETABLE_DONE ? payload_of_reply(&calls, file, &kind_of_reply) : PyBytes_FromStringAndSize(NULL, 0);
+    PyBuffer_Release(&handle);
+    return payload == NULL ? NULL : Py_BuildValue("IiniIN", (unsigned)status, fault, checkpoints, checkpoint_fault, kind_of_reply, payload);
+}
+
+/* exchange_by(addresses): the function `exchange` of these calls of the library, in the order of FILE_CALLS. */
+static PyObject *exchange_by(PyObject *module, PyObject *addresses)
+{
+    (void)module;
+    static PyMethodDef function = {"exchange", FAST(exchange), METH_FASTCALL, "Makes a request on the table in a file."};
+    uintptr_t found[FILE_CALL_COUNT];
+    if (!PyTuple_Check(addresses) || PyTuple_Size(addresses) != FILE_CALL_COUNT) {
+        PyErr_SetString(PyExc_TypeError, "exchange_by takes the addresses of FILE_CALLS");
+        return NULL;
+    }
+    for (int place = 0; place < FILE_CALL_COUNT; place++)
+        found[place] = (uintptr_t)PyLong_AsVoidPtr(PyTuple_GetItem(addresses, place));
+    if (PyErr_Occurred())
+        return NULL;
+    const calls_on_file calls = {(run_call *)found[0], (file_length_call *)found[1], (file_copy_call *)found[2], (checkpoint_count_call *)found[3],
+                                 (checkpoint_fault_call *)found[4]};
+    PyObject *of = PyBytes_FromStringAndSize((const char *)&calls, sizeof calls);
+    PyObject *made = of == NULL ? NULL : PyCFunction_NewEx(&function, of, NULL);
+    Py_XDECREF(of);
+    return made;
+}
+
 /* ---- the types ---- */
 
 static PyObject *enter(PyObject *object, PyObject *none)
@@ -1570,8 +1670,6 @@ static void dealloc(PyObject *object)
     Py_DECREF(type);
 }
 
-#define FAST(call) (PyCFunction)(void (*)(void))(call)
-
 static PyMethodDef methods[] = {
     {"put", FAST(call_put), METH_FASTCALL | METH_KEYWORDS, "put($self, rows, most=65536)\n--\n\nPuts rows, and returns their number."},
     {"batch", FAST(call_batch), METH_FASTCALL | METH_KEYWORDS,
@@ -1660,6 +1758,7 @@ static PyObject *prepare(PyObject *module, PyObject *const *args, Py_ssize_t cou
 
 static PyMethodDef functions[] = {
     {"prepare", FAST(prepare), METH_FASTCALL, "Takes the class whose methods take what is not taken here, and that of messages."},
+    {"exchange_by", exchange_by, METH_O, "The function that makes requests on the table in a file by the calls with these addresses."},
     {NULL, NULL, 0, NULL},
 };
 
@@ -1700,11 +1799,14 @@ PyMODINIT_FUNC PyInit__packed(void)
     PyObject *calls =
         Py_BuildValue("(sssssssss)", "betable_apply", "betable_get", "betable_page", "betable_last_page", "betable_sums", "betable_replies_length",
                       "betable_copy_replies", "betable_reply_count", "betable_reply");
+    PyObject *file_calls = Py_BuildValue("(sssss)", "betable_file_run", "betable_file_replies_length", "betable_file_copy_replies",
+                                         "betable_file_checkpoint_count", "betable_file_checkpoint_fault");
     /* With no object to add, an exception is set, as is wanted. */
     if (module != NULL && (hold_type == NULL || PyModule_AddObjectRef(module, "Caller", type) < 0 || PyModule_AddObjectRef(module, "Lock", lock_type) < 0 ||
-                           PyModule_AddObjectRef(module, "CALLS", calls) < 0))
+                           PyModule_AddObjectRef(module, "CALLS", calls) < 0 || PyModule_AddObjectRef(module, "FILE_CALLS", file_calls) < 0))
         Py_CLEAR(module);
     Py_XDECREF(type);
     Py_XDECREF(calls);
+    Py_XDECREF(file_calls);
     return module;
 }

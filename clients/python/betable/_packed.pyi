@@ -1,18 +1,22 @@
 """The extension as `session.py` uses it. `put`, `batch`, `get`, `scan` and `sums` take plain arguments, and call that of `CheckedCalls` for all others. The other
-methods return None for what they do not take, or the library refuses. Without addresses packed bytes go to the method `_ask`,
-and so do changes if the lock waits."""
+methods return None for what they do not take, or the library refuses. Without addresses packed bytes go to the method `_ask`, and so do changes if the lock
+waits. What `exchange_by` returns makes the requests of `durable/file_calls.py`."""
 
-from collections.abc import Iterable, Mapping
+from collections.abc import Callable, Iterable, Mapping
 from typing import Any
 
 from .calls import Bound, Row
+from .durable.file_calls import Exchanged
+from .library import Handle
 from .messages import Message
 from .replies import Place
 
-# The calls of the library, in the order in which `_connect` takes their addresses.
+# The calls of the library, in the order in which `_connect` and `exchange_by` take their addresses.
 CALLS: tuple[str, ...]
+FILE_CALLS: tuple[str, ...]
 
 def prepare(plain: type, message: type[Message], /) -> None: ...
+def exchange_by(addresses: tuple[int, ...], /) -> Callable[[Handle, int, bytes], Exchanged]: ...
 
 class Hold:
     def __enter__(self) -> Hold: ...
@@ -42,5 +46,5 @@ class Caller:
     def _groups_between(self, tree: str, columns: int, column: str, start: Bound, stop: Bound, /) -> list[Row] | None: ...
     def _puts_after(self, key: Bound, limit: int, /) -> tuple[bytes, Row] | None: ...
     def _places(self) -> list[Place]: ...
-    def _connect(self, owner: object, address: int, addresses: tuple[int | None, ...] | None, lock: object, /) -> None: ...
+    def _connect(self, owner: object, address: int, addresses: tuple[int, ...] | None, lock: object, /) -> None: ...
     def _know(self, trees: dict[str, bytes], /) -> None: ...

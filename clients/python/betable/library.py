@@ -3,14 +3,23 @@
 from __future__ import annotations
 
 import ctypes
-from collections.abc import Callable
-from typing import Any
+from collections.abc import Callable, Iterable
+from typing import TYPE_CHECKING, Any
 
 from .byte_calls import Outcome, PackedFault, Request
 from .errors import OutOfMemory
 from .installed import path_of
 from .reasons import Problem, Reason
 from .replies import Place
+
+# The extension, or None if it is not built.
+if TYPE_CHECKING:
+    from . import _packed as _packed
+else:
+    try:
+        from . import _packed
+    except ImportError:
+        _packed = None
 
 DONE, OUT_OF_MEMORY, REPLY_CUT, NOT_OPEN, ALREADY_OPEN, REFUSED = range(6)
 NOT_KEPT, FILE_TOO_LONG, NOT_A_TABLE, OTHER_FORMAT, OTHER_ENGINE, DAMAGED, FILE_FAILED, FILE_IN_USE = range(6, 14)
@@ -74,6 +83,12 @@ def declare(library: ctypes.CDLL, calls: list[tuple[str, list[Any], Any]]) -> No
         function.argtypes, function.restype = arguments, result
 
 
+def addresses(library: Any, names: Iterable[str]) -> tuple[int, ...]:
+    """Those of calls of the library, by their names, for the extension: 0 for a call that it does not have."""
+    calls = (getattr(library, name, None) for name in names)
+    return tuple(0 if call is None else ctypes.cast(call, ctypes.c_void_p).value or 0 for call in calls)
+
+
 def copied_replies(copy: Callable[..., int], length: Callable[..., int], handle: ctypes.Structure, room: ctypes.Array[ctypes.c_char]) -> bytes:
     """The replies of the last call, by these two calls of the library. The room has SHORT_REPLIES bytes."""
     count = copy(handle, 0, room, SHORT_REPLIES)
@@ -81,7 +96,7 @@ def copied_replies(copy: Callable[..., int], length: Callable[..., int], handle:
         size = length(handle)
         room = ctypes.create_string_buffer(size)
         count = copy(handle, 0, room, size)
-    return ctypes.string_at(room, count)
+    return room.raw[:count]
 
 
 _library: ctypes.CDLL | None = None

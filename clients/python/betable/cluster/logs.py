@@ -236,9 +236,10 @@ class RedisLog:
         scripts = (self.OPEN, self.APPEND, self.END, self.KEEP)
         self._open, self._append, self._end, self._keep = [self._client.register_script(self.HEAD + script) for script in scripts]
 
-    def _reached(self, call: Callable[[], T]) -> T:
+    def _reached(self, call: Callable[..., T], *given: Any, **named: Any) -> T:
+        """The reply to a call of the client."""
         try:
-            return call()
+            return call(*given, **named)
         except (self._redis.ConnectionError, self._redis.TimeoutError, self._redis.exceptions.ReadOnlyError) as fault:
             raise Unreachable(f"the server of the log: {fault}") from fault
         except self._redis.exceptions.NoPermissionError as fault:
@@ -248,7 +249,7 @@ class RedisLog:
 
     def open(self, engine: int) -> int:
         self._check_eviction()
-        number, found = self._reached(lambda: self._open(self._keys, [FORMAT, engine]))
+        number, found = self._reached(self._open, self._keys, [FORMAT, engine])
         if number != FORMAT:
             raise other_format(self._name, number)
         return int(found)
@@ -256,7 +257,7 @@ class RedisLog:
     def _check_eviction(self) -> None:
         """Raises UnusableLog if the server may remove keys of the log. A server that does not show its settings is taken as right."""
         try:
-            memory = self._reached(lambda: self._client.info("memory"))
+            memory = self._reached(self._client.info, "memory")
         except UnusableLog:
             return
         policy = memory.get("maxmemory_policy", "noeviction")
@@ -269,25 +270,25 @@ class RedisLog:
 
     def append(self, request_id: str, script: bytes, position: int, chain: bytes, engine: int) -> int | None:
         keys = [*self._keys, f"{self._prefix}request:{request_id}"]
-        found: int | None = self._reached(lambda: self._append(keys, [request_id, script, position, chain, engine, REQUEST_SECONDS]))
+        found: int | None = self._reached(self._append, keys, [request_id, script, position, chain, engine, REQUEST_SECONDS])
         return found
 
     def end(self, position: int) -> End:
-        return End(*self._reached(lambda: self._end(self._keys, [position])))
+        return End(*self._reached(self._end, self._keys, [position]))
 
     def entries(self, first: int, last: int) -> list[Entry]:
-        found = self._reached(lambda: self._client.xrange(self._log, f"{first}-0", f"{last}-0", MOST_ENTRIES))
+        found = self._reached(self._client.xrange, self._log, f"{first}-0", f"{last}-0", MOST_ENTRIES)
         # One that an older version of this package has appended meanwhile has no chain.
         return [Entry(int(name.split(b"-")[0]), of[b"request"].decode(), of[b"script"], of.get(b"chain", b"")) for name, of in found]
 
     def wait(self, position: int, seconds: float) -> None:
         most = max(1, round(1_000 * min(seconds, self._longest_wait)))
-        self._reached(lambda: self._client.xread({self._log: f"{position - 1}-0"}, 1, most))
+        self._reached(self._client.xread, {self._log: f"{position - 1}-0"}, 1, most)
 
     def checkpoint(self) -> Checkpoint | None:
         before = None
-        while about := self._reached(lambda: self._client.hgetall(self._last)):
-            text = b"".join(self._reached(lambda: self._client.lrange(about[b"parts"], 0, -1)))
+        while about := self._reached(self._client.hgetall, self._last):
+            text = b"".join(self._reached(self._client.lrange, about[b"parts"], 0, -1))
             if len(text) == int(about[b"bytes"]):
                 return Checkpoint(int(about[b"position"]), about[b"chain"], text)
             # Another one may have taken its place meanwhile.
@@ -297,23 +298,23 @@ class RedisLog:
         return None
 
     def checkpoint_bytes(self) -> int:
-        return int(self._reached(lambda: self._client.hget(self._last, "bytes")) or 0)
+        return int(self._reached(self._client.hget, self._last, "bytes") or 0)
 
     def keep(self, checkpoint: Checkpoint) -> bool:
         list_of_parts, parts = f"{self._prefix}checkpoint:{uuid.uuid4().hex}", parts_of(checkpoint.text)
         for part in parts:
-            self._reached(lambda: self._client.rpush(list_of_parts, part))
+            self._reached(self._client.rpush, list_of_parts, part)
             # What is not kept in the end expires.
-            self._reached(lambda: self._client.expire(list_of_parts, 3_600))
+            self._reached(self._client.expire, list_of_parts, 3_600)
         values = [checkpoint.position, checkpoint.chain, len(checkpoint.text), len(parts)]
-        found = self._reached(lambda: self._keep([*self._keys, list_of_parts], values))
+        found = self._reached(self._keep, [*self._keys, list_of_parts], values)
         if found == b"cut":
             raise Unreachable("the server of the log has lost parts of a checkpoint while they were sent")
         return bool(found == b"kept")
 
     def trim(self) -> None:
-        if position := self._reached(lambda: self._client.hget(self._last, "position")):
-            self._reached(lambda: self._client.xtrim(self._log, minid=int(position), approximate=False))
+        if position := self._reached(self._client.hget, self._last, "position"):
+            self._reached(self._client.xtrim, self._log, minid=int(position), approximate=False)
 
     def close(self) -> None:
         self._client.close()
@@ -387,7 +388,8 @@ class PostgresLog:
                 self._rows('SET synchronous_commit = on; LISTEN "NAME"')
             with self._connection.cursor() as cursor:
                 cursor.execute(query.replace("NAME", self._name).replace("SECONDS", str(REQUEST_SECONDS)), values)
-                return cursor.fetchall() if cursor.description else []
+                found: list[tuple[Any, ...]] = cursor.fetchall() if cursor.description else []
+                return found
         except (errors.UniqueViolation, errors.UndefinedColumn):
             raise
         except self._psycopg2.Error as fault:

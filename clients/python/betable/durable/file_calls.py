@@ -10,7 +10,7 @@ import time
 import weakref
 from collections.abc import Callable
 from enum import Enum, auto
-from functools import cache
+from functools import cache, partial
 from typing import Any, NoReturn
 
 from .. import library
@@ -20,38 +20,63 @@ from ..frames import HEAD, MAGIC, MARK, FramedCalls, outcome_of
 
 FORKED = "is used by the process that opened it alone"
 AGAIN = "open the table again"
-PACKED_CALLS = {request: name.replace("betable_", "betable_file_") for request, name in library.PACKED_CALLS.items()}
+# The calls that only read packed bytes, by what they ask. A change is a request.
+QUESTIONS = {request: name.replace("betable_", "betable_file_") for request, name in library.PACKED_CALLS.items() if request != Request.APPLY}
 SQLITE = b"SQLite format 3\0"  # begins the file of a durable table of an earlier version
+# What became of a request: the status, the number of the fault of the system, how many checkpoints were made, the number of the fault of the last one that was
+# due, and the kind and the payload of the reply, which there is if the status is DONE.
+Exchanged = tuple[int, int, int, int, int, bytes]
 
 notices = logging.getLogger("betable.durable")
 
 
 @cache
 def loaded_library() -> Any:
-    """The library again, with the number of the fault of the system."""
-    loaded = ctypes.CDLL(library.library_path(), use_errno=True)
+    """The library again, with the number of the fault of the system, and with `exchange`, which makes a request."""
+    loaded: Any = ctypes.CDLL(library.library_path(), use_errno=True)
     file, size = ctypes.POINTER(library.Handle), ctypes.c_size_t
     calls: list[tuple[str, list[Any], Any]] = [
         ("betable_file_open", [file, ctypes.c_char_p], ctypes.c_uint),
         ("betable_file_run", [file, ctypes.c_char_p, size], ctypes.c_uint),
         ("betable_file_replies_length", [file], size),
         ("betable_file_copy_replies", [file, size, ctypes.c_char_p, size], size),
-        *((name, [file, ctypes.c_char_p, size, ctypes.POINTER(library.Fault)], ctypes.c_uint) for name in PACKED_CALLS.values()),
+        *((name, [file, ctypes.c_char_p, size, ctypes.POINTER(library.Fault)], ctypes.c_uint) for name in QUESTIONS.values()),
         *((f"betable_file_{name}", [file], ctypes.c_uint) for name in ("begin", "commit", "roll_back", "checkpoint", "close")),
         ("betable_file_checkpoint_count", [file], size),
         ("betable_file_checkpoint_fault", [file], ctypes.c_int),
     ]
     library.declare(loaded, calls)
+    loaded.exchange = exchange_of(loaded, library._packed is not None)
     return loaded
+
+
+def exchange_of(loaded: Any, has_extension: bool) -> Callable[[library.Handle, int, bytes], Exchanged]:
+    """What makes a request of a number and a payload by the calls of a library. With the extension it takes less time."""
+    if has_extension:
+        return library._packed.exchange_by(library.addresses(loaded, library._packed.FILE_CALLS))
+    return partial(_exchanged, loaded)
+
+
+def _exchanged(loaded: Any, file: library.Handle, request: int, payload: bytes) -> Exchanged:
+    frame = HEAD.pack(MAGIC, len(payload), request) + payload
+    status, number = loaded.betable_file_run(file, frame, len(frame)), ctypes.get_errno()
+    about = status, number, loaded.betable_file_checkpoint_count(file), loaded.betable_file_checkpoint_fault(file)
+    if status != library.DONE:
+        return *about, 0, b""
+    room = ctypes.create_string_buffer(library.SHORT_REPLIES)
+    reply = library.copied_replies(loaded.betable_file_copy_replies, loaded.betable_file_replies_length, file, room)
+    magic, length, kind = HEAD.unpack_from(reply) if len(reply) >= HEAD.size else (b"", 0, 0)
+    if magic != MAGIC or HEAD.size + length != len(reply):
+        raise RuntimeError(f"{library.LIBRARY} is of another version than this package")
+    return *about, kind, reply[HEAD.size :]
 
 
 class Group(Enum):
     """The state of a group."""
 
     NONE = auto()
-    OPEN = auto()
+    OPEN = auto()  # if the file is not, an interrupt has left the group, which is to be rolled back
     FAILED = auto()  # a call of it failed, and it was rolled back
-    LEFT = auto()  # it was left by an interrupt, and is to be rolled back
 
 
 class FileCalls(FramedCalls):
@@ -90,6 +115,8 @@ class FileCalls(FramedCalls):
 
     def make_ready(self) -> bool:
         """Makes it ready for a call, which the caller makes next. Whether it was rolled back since the last call."""
+        if self.file.is_open:
+            return False
         self.expect_owner()
         if self._is_failed:
             raise InDoubt(f"{self.path}: the table was closed, since an earlier call failed: {AGAIN}")
@@ -97,27 +124,22 @@ class FileCalls(FramedCalls):
             fault = RolledBack(f"{self.path}: a call of the group failed before, and nothing of the group is kept")
             fault.of_group = True
             raise fault
-        if self.group is Group.LEFT:
+        if self.group is Group.OPEN:
             self._roll_back()
             return self.make_ready()
-        was_rolled_back, self.file.is_open = not self.file.is_open, True
-        return was_rolled_back
+        self.file.is_open = True
+        return True
 
     # ---- requests ----
 
     def _exchange(self, request: int, payload: bytes) -> tuple[int, bytes]:
-        requests, begin = HEAD.pack(MAGIC, len(payload), request) + payload, time.monotonic()
-        self._expect_done(self._library.betable_file_run(self.file, requests, len(requests)))
-        reply = self._copied()
-        self._note_checkpoint(begin)
-        magic, length, kind = HEAD.unpack_from(reply)
-        if magic != MAGIC or HEAD.size + length != len(reply):
-            raise RuntimeError(f"{library.LIBRARY} is of another version than this package")
-        return kind, reply[HEAD.size :]
-
-    def _copied(self) -> bytes:
-        """The replies of the last call."""
-        return library.copied_replies(self._library.betable_file_copy_replies, self._library.betable_file_replies_length, self.file, self._room)
+        begin = time.monotonic()
+        status, number, count, fault, kind, reply = self._library.exchange(self.file, request, payload)
+        if status != library.DONE:
+            self._fail(status, number)
+        if count != self.checkpoint_count or fault != self._checkpoint_errno:
+            self._note_checkpoint(begin, count, fault)
+        return kind, reply
 
     def run(self, script: bytes) -> bytes:
         return self._counted(super().run(script))
@@ -131,19 +153,16 @@ class FileCalls(FramedCalls):
         return replies
 
     def ask(self, request: Request, packed: bytes) -> Outcome:
-        begin = time.monotonic()
-        status = getattr(self._library, PACKED_CALLS[request])(self.file, packed, len(packed), self._fault)
+        question = QUESTIONS.get(request)
+        if question is None:
+            return self._counted_changes(outcome_of(self._answered(request, packed)))
+        status = getattr(self._library, question)(self.file, packed, len(packed), self._fault)
         if status == library.REFUSED:
             return PackedFault(self._fault.refusal, self._fault.item, self._fault.column)
-        if request != Request.APPLY:
-            if status == library.OUT_OF_MEMORY:
-                raise OutOfMemory
-            self._expect_done(status)
-            return self._copied()
+        if status == library.OUT_OF_MEMORY:
+            raise OutOfMemory
         self._expect_done(status)
-        self._note_checkpoint(begin)
-        self.number += 1
-        return b""
+        return library.copied_replies(self._library.betable_file_copy_replies, self._library.betable_file_replies_length, self.file, self._room)
 
     def send(self, changes: bytes) -> Callable[[], Outcome]:
         outcome = self.ask(Request.APPLY, changes)
@@ -151,7 +170,10 @@ class FileCalls(FramedCalls):
 
     def apply_once(self, request_id: str, changes: bytes) -> Outcome:
         """Applies packed changes, unless a request with this id was made before. The outcome is that of the first time."""
-        outcome = outcome_of(self._answered_once(request_id, Request.APPLY, changes))
+        return self._counted_changes(outcome_of(self._answered_once(request_id, Request.APPLY, changes)))
+
+    def _counted_changes(self, outcome: Outcome) -> Outcome:
+        """The outcome of packed changes, which are counted if they were applied."""
         self.number += outcome == b""
         return outcome
 
@@ -164,7 +186,7 @@ class FileCalls(FramedCalls):
     def begin_group(self) -> None:
         self.group, self._number_before, begin = Group.OPEN, self.number, time.monotonic()
         self._expect_done(self._library.betable_file_begin(self.file))
-        self._note_checkpoint(begin)
+        self._look_for_checkpoint(begin)
 
     def commit_group(self) -> None:
         self._expect_done(self._library.betable_file_commit(self.file))
@@ -176,17 +198,17 @@ class FileCalls(FramedCalls):
             self._roll_back()
 
     def leave_group(self) -> None:
-        """Called at the end of each group."""
-        self.group = Group.LEFT if self.group is Group.OPEN and self._release.alive else Group.NONE
-        if self.group is Group.LEFT:
+        """Called at the end of each group. One that is still open is rolled back by the next call."""
+        if self.group is Group.OPEN:
             self.file.is_open = False
+        else:
+            self.group = Group.NONE
 
     # ---- failures ----
 
     def _expect_done(self, status: int) -> None:
-        number = ctypes.get_errno()
         if status != library.DONE:
-            self._fail(status, number)
+            self._fail(status, ctypes.get_errno())
 
     def _fail(self, status: int, number: int) -> NoReturn:
         """Raises why a call was not done. The table is as before that call, or before its group, or is closed."""
@@ -196,7 +218,7 @@ class FileCalls(FramedCalls):
         elif status in (library.FILE_FAILED, library.FILE_TOO_LONG):
             number = number if status == library.FILE_FAILED else errno.EFBIG
             cause = OSError(number, os.strerror(number), self.path)
-        reason, is_in_group = cause or "an earlier call failed", self.group is Group.OPEN
+        reason, is_in_group = cause or "an earlier call failed", self.group is not Group.NONE
         what = "the group" if is_in_group else "the call"
         if is_in_group:
             self.group = Group.FAILED
@@ -225,11 +247,13 @@ class FileCalls(FramedCalls):
     def checkpoint(self) -> None:
         begin = time.monotonic()
         self._expect_done(self._library.betable_file_checkpoint(self.file))
-        self._note_checkpoint(begin)
+        self._look_for_checkpoint(begin)
 
-    def _note_checkpoint(self, begin: float) -> None:
-        """Notes whether a call that began then has made a checkpoint, or could not make one that was due."""
-        count, number = self._library.betable_file_checkpoint_count(self.file), self._library.betable_file_checkpoint_fault(self.file)
+    def _look_for_checkpoint(self, begin: float) -> None:
+        self._note_checkpoint(begin, self._library.betable_file_checkpoint_count(self.file), self._library.betable_file_checkpoint_fault(self.file))
+
+    def _note_checkpoint(self, begin: float, count: int, number: int) -> None:
+        """Notes whether a call that began then has made a checkpoint, or could not make one that was due, by how many there are and the number of the fault."""
         if count != self.checkpoint_count:
             self.checkpoint_count, self.checkpoint_time, self.checkpoint_seconds = count, time.time(), time.monotonic() - begin
         if number != self._checkpoint_errno:

@@ -8,7 +8,7 @@ from itertools import islice
 from ..byte_calls import Request
 from ..frames import HEAD, ID_BYTES, LENGTH_BYTES, MAGIC
 from ..language import Definitions, commands
-from ..session import DEFINING_LINE, Session
+from ..session import Session, defines_trees
 
 # Bytes of the head of a file, and of a frame of the file before its payload.
 FILE_HEAD, FRAME_HEAD = 40, 16
@@ -20,7 +20,7 @@ def definitions_of(path: str) -> Definitions:
     found = Definitions()
     with Session() as trial:
         for script in (script for group in _groups_of(path) for kind, payload in group if (script := _script_of(kind, payload))):
-            for command in commands(script) if DEFINING_LINE.search(script) else ():
+            for command in commands(script) if defines_trees(script) else ():
                 if command.head.word in (b"table", b"index", b"drop") and not trial.replies(command.head.text + b"\n").startswith(b"refused "):
                     found.take(command)
     return found
