@@ -1,5 +1,5 @@
 -- The table of a session in a file: its state, and which calls of the file a host is to make.
-use Rattle.std.specs.Prelude.{ℕ, ◌≡◌, ◌⊎◌, List, [], false, Option, Some, None, length, option_map, slice_get}
+use Rattle.std.specs.Prelude.{ℕ, ◌≡◌, ◌⊎◌, List, [], ◌++◌, false, Option, Some, None, length, option_map, slice_get}
 use Rattle.std.specs.Option.{MatchOption}
 use Rattle.bt_shell.specs.Steps.{State}
 use Rattle.bt_engine.specs.Exchanges as exchanges
